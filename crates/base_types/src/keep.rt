@@ -1,0 +1,17 @@
+ghost use Rattle.std.specs.Prelude.{◌≡◌, IfOk};
+
+use crate::memory::NoMemory;
+use std::alloc::Global;
+
+/// A value that can be copied into memory of its own, so that contracts see the same value twice.
+pub trait Keep: Drop {
+    /// The same value, in memory of its own.
+    fn copy(&self, alloc: Global) -> Result<Self, NoMemory>
+        ensures { IfOk result (λ copy. copy ≡ self.now) };
+}
+
+impl Keep for i64 {
+    fn copy(&self, _alloc: Global) -> Result<i64, NoMemory> {
+        Ok(*self)
+    }
+}
