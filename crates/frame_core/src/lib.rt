@@ -1,0 +1,28 @@
+//! Frames: a schema and rows with rising stamps, kept in memory column by column.
+#![tactic(auto)]
+
+mod cell;
+mod column;
+mod frame;
+mod name;
+mod part;
+mod range;
+mod raw;
+mod refusal;
+mod schema;
+mod texts;
+
+pub use base_types::{Items, Keep, NoMemory, Text};
+pub use cell::{Cell, CellRef, ColType};
+pub use column::Column;
+pub use frame::Frame;
+pub use name::{ColName, NameFault};
+pub use part::Part;
+pub use range::Range;
+pub use raw::RawFrame;
+pub use refusal::{Asked, Extent, Refusal, Refused};
+pub use schema::Schema;
+pub use texts::TextList;
+
+/// The places of events, seen as a list.
+pub type Places = Items<u64>;
