@@ -124,6 +124,7 @@ unsigned_below : (z : ℤ) → FitsSigned w64 z → cast_unsigned w64 z < 2 ^ 64
 unsigned_below z fits = omega (arith, ints)
 
 pub signed_takes : (bytes : List ℕ) (z : ℤ) (rest : List ℕ) → IsBytes bytes → signed_at bytes ≡ Ok (z, rest) → SignedRead bytes z rest
+unfolding signed_text
 signed_takes bytes z rest fits e =
     let a = bind_ok (number_at w64 bytes) (λ m. Ok (cast_signed w64 m.0, m.1)) (z, rest) e in
     let t = number_takes w64 (2 ^ 64) wide64 bytes a.0.0 a.0.1 fits a.1 in
@@ -132,9 +133,11 @@ signed_takes bytes z rest fits e =
     subst (λ (p : ℤ × List ℕ). SignedRead bytes p.0 p.1) (ok_is made (z, rest) a.2) (record { takes = rw same t.takes; fits = signed_fits a.0.0 t.below })
 
 pub signed_again : (z : ℤ) (rest : List ℕ) → FitsSigned w64 z → signed_at (signed_text z ++ rest) ≡ Ok (z, rest)
+unfolding signed_text
 signed_again z rest fits = rw (number_again w64 (2 ^ 64) wide64 (cast_unsigned w64 z) rest (unsigned_below z fits), to_z-of_z w64 z fits) refl
 
 pub length-signed_text : (z : ℤ) → length (signed_text z) ≡ 8
+unfolding signed_text
 length-signed_text z = refl
 
 -- ---- a magic

@@ -40,6 +40,7 @@ pub fn put_u64(out: &mut Vec<u8>, number: u64) -> Result<(), NoMemory>
 }
 
 /// Adds a number with a sign at the end, as eight bytes in two's complement.
+#[tactic(auto, unfolding(crate::specs::Reading::signed_text))]
 pub fn put_i64(out: &mut Vec<u8>, number: i64) -> Result<(), NoMemory>
     ensures { OnOk result (out.new.items ≡ out.old.items ++ signed_text number) }
 {
