@@ -3,13 +3,17 @@
 
 mod answer;
 mod body;
+mod bucket;
 mod event;
+mod law;
 
 pub use answer::{Dropped, Found, Listed, StoreErr};
 pub use base_types::{Items, Keep, NoMemory};
 pub use body::{Body, SharedBody};
+pub use bucket::Bucket;
 pub use event::{Change, Event, PieceName};
 use key_kind::Key;
+pub use law::Law;
 
 /// Numbers of versions, seen as a list.
 pub type Numbers = Items<u64>;
