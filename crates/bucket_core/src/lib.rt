@@ -4,8 +4,11 @@
 mod answer;
 mod body;
 mod bucket;
+mod entry;
 mod event;
+mod event_log;
 mod law;
+mod plain;
 
 pub use answer::{Dropped, Found, Listed, StoreErr};
 pub use base_types::{Items, Keep, NoMemory};
@@ -14,6 +17,7 @@ pub use bucket::Bucket;
 pub use event::{Change, Event, PieceName};
 use key_kind::Key;
 pub use law::Law;
+pub use plain::PlainBucket;
 
 /// Numbers of versions, seen as a list.
 pub type Numbers = Items<u64>;
