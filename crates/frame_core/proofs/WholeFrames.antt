@@ -1,17 +1,19 @@
 -- What a frame in memory keeps, and what its contract sees.
-use Rattle.std.proofs.Common.{◌≡◌, ℕ, zero, suc, ◌+◌, ◌<◌, ◌≤◌, ℤ, pos, false, List, [], ◌∷◌, length, map, drop, Option, Some, None, refl, sym, ap, ◌∙◌, subst, arith}
+use Rattle.std.proofs.Common.{◌≡◌, ℕ, zero, suc, ◌+◌, ◌<◌, ◌≤◌, ℤ, pos, false, List, [], ◌∷◌, length, map, get_or, drop, Option, Some, None, refl, sym, ap, ◌∙◌, subst, arith}
 use Rattle.std.specs.Prelude.{slice_get, filter_map, option_map, FitsSigned, IsUtf8}
 use Rattle.std.specs.Int.{w64}
 use Rattle.std.specs.List.{AllByRecursion, AllZip}
 use Rattle.std.proofs.lemmas.List.{length-map}
+use Rattle.frame_core.specs.declared.cell.ColType.{ColType}
 use Rattle.frame_core.specs.declared.cell.Cell.{Cell}
 use Rattle.frame_core.specs.declared.cell.Cell.TheVariants as cells
 use Rattle.frame_core.specs.declared.column.Column.{Column}
 use Rattle.frame_core.specs.declared.column.Column.TheVariants as columns
 use Rattle.frame_core.specs.Schemas.{Head, Schema}
-use Rattle.frame_core.specs.Frames.{Row, Frame, type_of, IsCell, FitsColumns, IsFrame, NeverFall, stamps_of}
+use Rattle.frame_core.specs.Frames.{Row, Frame, type_of, IsCell, FitsColumns, IsFrame, NeverFall, stamps_of, stamp_at, cell_at, type_at}
 use Rattle.frame_core.specs.Columns.{column_type, column_cells, rows_from, cells_of, IsWhole}
-use Rattle.frame_core.proofs.Rows.{stamps-rows_from}
+use Rattle.std.proofs.lemmas.Option.{slice_get-map, slice_get-get_or}
+use Rattle.frame_core.proofs.Rows.{stamps-rows_from, length-rows_from, row-rows_from, cells_of-rows_from, length_at, picked_at}
 
 -- each column's cells are of its type
 abbrev Typed : List Head → List (List Cell) → Type 0
@@ -98,3 +100,36 @@ IsFrame-whole schema stamps cols f is w = rw (← is) (record {
   fitting = fitting_rows schema.columns stamps (map column_cells cols) w.stamps_fit (all_mapped (λ (c : List Cell). length c ≡ length stamps) column_cells cols w.lengths) (typed_columns schema.columns cols w.types) (all_mapped (λ (c : List Cell). AllByRecursion IsCell c) column_cells cols w.cells_fit);
   untimed = λ e. stamps_zero stamps (map column_cells cols) (w.untimed e);
 })
+
+-- ---- what the getters give
+
+pub count_rows : (schema : Schema) (stamps : List ℤ) (cols : List Column) (f : Frame) → frame_of schema stamps cols ≡ f → length f.rows ≡ length stamps
+count_rows schema stamps cols f is = ap (λ (g : Frame). length g.rows) (sym is) ∙ length-rows_from stamps (map column_cells cols)
+
+pub stamp_is : (schema : Schema) (stamps lent : List ℤ) (cols : List Column) (f : Frame) (i : ℕ) (d : ℤ) → frame_of schema stamps cols ≡ f → lent ≡ stamps → i < length f.rows → stamp_at f i ≡ Some (get_or lent i d)
+stamp_is schema stamps lent cols f i d is same lt =
+    let there : slice_get lent i ≡ Some (get_or lent i d) = slice_get-get_or lent i d (omega (arith, count_rows schema stamps cols f is, ap length same)) in
+    let row : slice_get f.rows i ≡ option_map (λ t. record { stamp = t; cells = filter_map (λ (c : List Cell). slice_get c i) (map column_cells cols) }) (slice_get stamps i) = ap (λ (g : Frame). slice_get g.rows i) (sym is) ∙ row-rows_from stamps (map column_cells cols) i in
+    rw (row, ← same, there) refl
+
+same_lengths : (schema : Schema) (stamps : List ℤ) (cols : List Column) → IsWhole schema stamps cols → HaveLength (length stamps) (map column_cells cols)
+same_lengths schema stamps cols w = all_mapped (λ (c : List Cell). length c ≡ length stamps) column_cells cols w.lengths
+
+column_at : (cols : List Column) (k : ℕ) (c : Column) → slice_get cols k ≡ Some c → slice_get (map column_cells cols) k ≡ Some (column_cells c)
+column_at cols k c at = slice_get-map column_cells cols k ∙ rw at refl
+
+pub column_is : (schema : Schema) (stamps : List ℤ) (cols : List Column) (f : Frame) (k : ℕ) (c : Column) → frame_of schema stamps cols ≡ f → IsWhole schema stamps cols → slice_get cols k ≡ Some c → column_cells c ≡ cells_of k f.rows
+column_is schema stamps cols f k c is w at = rw (← is) (sym (cells_of-rows_from stamps (map column_cells cols) k (column_cells c) (same_lengths schema stamps cols w) (column_at cols k c at)))
+
+pub kind_is : (schema : Schema) (stamps : List ℤ) (cols : List Column) (f : Frame) (k : ℕ) (c : Column) → frame_of schema stamps cols ≡ f → IsWhole schema stamps cols → slice_get cols k ≡ Some c → type_at f k ≡ Some (column_type c)
+kind_is schema stamps cols f k c is w at = rw (← is) (sym (slice_get-map (λ (h : Head). h.1) schema.columns k) ∙ ap (λ (ts : List ColType). slice_get ts k) (sym w.types) ∙ slice_get-map column_type cols k ∙ rw at refl)
+
+pub length_is : (schema : Schema) (stamps : List ℤ) (cols : List Column) (f : Frame) (k : ℕ) (c : Column) → frame_of schema stamps cols ≡ f → IsWhole schema stamps cols → slice_get cols k ≡ Some c → length (column_cells c) ≡ length f.rows
+length_is schema stamps cols f k c is w at = length_at (length stamps) k (map column_cells cols) (column_cells c) (same_lengths schema stamps cols w) (column_at cols k c at) ∙ sym (count_rows schema stamps cols f is)
+
+pub cell_is : (schema : Schema) (stamps : List ℤ) (cols : List Column) (f : Frame) (i k : ℕ) (c : Column) (x : Cell) → frame_of schema stamps cols ≡ f → IsWhole schema stamps cols → i < length f.rows → slice_get cols k ≡ Some c → slice_get (column_cells c) i ≡ Some x → cell_at f i k ≡ Some x
+cell_is schema stamps cols f i k c x is w lt at cell =
+    let within : i < length stamps = omega (arith, count_rows schema stamps cols f is) in
+    let picked : slice_get (filter_map (λ (c : List Cell). slice_get c i) (map column_cells cols)) k ≡ Some x = picked_at (length stamps) i k (map column_cells cols) (column_cells c) within (same_lengths schema stamps cols w) (column_at cols k c at) ∙ cell in
+    let there : slice_get stamps i ≡ Some (get_or stamps i (pos 0)) = slice_get-get_or stamps i (pos 0) within in
+    rw (← is, row-rows_from stamps (map column_cells cols) i, there) picked

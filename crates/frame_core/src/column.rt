@@ -1,10 +1,10 @@
-ghost use Rattle.std.specs.Prelude.{◌≡◌, length, FitsSigned};
+ghost use Rattle.std.specs.Prelude.{◌≡◌, ◌<◌, length, slice_get, Some, FitsSigned};
 ghost use Rattle.std.specs.Int.{w64};
 ghost use Rattle.std.specs.List.{AllByRecursion};
 ghost use Rattle.frame_core.specs.Columns.{column_type, column_cells};
-ghost use Rattle.frame_core.specs.Frames.{IsCell};
+ghost use Rattle.frame_core.specs.Frames.{cell_of};
 
-use crate::cell::ColType;
+use crate::cell::{CellRef, ColType};
 use crate::texts::TextList;
 use base_types::{Items, Keep, NoMemory};
 use std::alloc::Global;
@@ -40,6 +40,19 @@ impl Column {
             Column::Flags(flags) => flags.len(),
             Column::Texts(texts) => texts.len(),
             Column::Stamps(stamps) => stamps.len(),
+        }
+    }
+
+    /// The cell at a place, counted from 0, lent.
+    pub fn cell(&self, place: usize) -> CellRef<'_>
+        requires { place < length (column_cells self.now) }
+        ensures { slice_get (column_cells self.now) place ≡ Some (cell_of result) }
+    {
+        match self {
+            Column::Ints(values) => CellRef::Int(values.items()[place]),
+            Column::Flags(flags) => CellRef::Flag(flags.items()[place]),
+            Column::Texts(texts) => CellRef::Text(texts.at(place)),
+            Column::Stamps(stamps) => CellRef::Stamp(stamps.items()[place]),
         }
     }
 }
