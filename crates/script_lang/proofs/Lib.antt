@@ -1,0 +1,5 @@
+pub mod Digits
+pub mod RowSteps
+pub mod Words
+pub mod LineSteps
+pub mod Gathered

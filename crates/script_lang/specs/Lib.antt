@@ -1,0 +1,4 @@
+pub mod Fronts
+pub mod PlainFiles
+pub mod Rows
+pub mod Answers
