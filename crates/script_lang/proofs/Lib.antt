@@ -3,3 +3,4 @@ pub mod RowSteps
 pub mod Words
 pub mod LineSteps
 pub mod Gathered
+pub mod Parts
