@@ -60,10 +60,10 @@ all_of-wide form w width zero text rows h = wide_none w (nat_eq (length text) 0)
 all_of-wide form w width (suc most) text rows h =
     wide_if w (nat_eq (length text) 0) (form text >>= λ x. all_of form most x.1 >>= λ more. Some (x.0 ∷ more)) rows h
     (λ read.
-      let first = bind-some (form text) (λ x. all_of form most x.1 >>= λ more. Some (x.0 ∷ more)) rows read in
-      let others = bind-some (all_of form most first.0.1) (λ more. Some (first.0.0 ∷ more)) rows first.2 in
-      let same : first.0.0 ∷ others.0 ≡ rows = ap rows_in others.2 in
-      subst (AreWide w) same (width text first.0.1 first.0.0 first.1, all_of-wide form w width most first.0.1 others.0 others.1))
+    let first = bind-some (form text) (λ x. all_of form most x.1 >>= λ more. Some (x.0 ∷ more)) rows read in
+    let others = bind-some (all_of form most first.0.1) (λ more. Some (first.0.0 ∷ more)) rows first.2 in
+    let same : first.0.0 ∷ others.0 ≡ rows = ap rows_in others.2 in
+    subst (AreWide w) same (width text first.0.1 first.0.0 first.1, all_of-wide form w width most first.0.1 others.0 others.1))
 
 -- ---- columns
 

@@ -44,7 +44,7 @@ row_on form n i columns d text after x total lt len h so_far =
     let here = rw stop at h in
     let within : i < length columns = omega arith in
     let one : option_map (from_place i columns) (line_at form (n - i) text) ≡ option_map (from_place (suc i) (set columns i (get_or columns i d ++ x ∷ []))) (line_at form (n - suc i) after) =
-        rw (k, here) (regroup i columns d x (line_at form (n - suc i) after) within) in
+    rw (k, here) (regroup i columns d x (line_at form (n - suc i) after) within) in
     rw add-one (sym one ∙ so_far)
 
 -- no number could be read
@@ -66,7 +66,7 @@ row_end form n i columns text total le len so_far =
     let k : n - i ≡ 0 = omega arith in
     let past : length columns ≤ i = omega arith in
     let one : option_map (from_place i columns) (line_at form (n - i) text) ≡ Some (columns, text) =
-        rw (k, take_all i columns past, drop_all i columns past) (ap (λ cs. some_columns cs text) (append-nil columns)) in
+    rw (k, take_all i columns past, drop_all i columns past) (ap (λ cs. some_columns cs text) (append-nil columns)) in
     sym so_far ∙ one
 
 -- ---- rows
@@ -90,7 +90,7 @@ rows_on-read form (Some (row, rest)) m i columns next text after total is lt som
     let next_is : add_row columns row ≡ next = ap (λ x. x.0) both in
     let after_is : rest ≡ after = ap (λ x. x.1) both in
     let one : option_map (add_rows columns) (all_of form (m - i) text) ≡ option_map (add_rows (add_row columns row)) (all_of form (m - (i + 1)) rest) =
-        rw (k, some, is) (add_rows-cons columns row (all_of form (m - (i + 1)) rest)) in
+    rw (k, some, is) (add_rows-cons columns row (all_of form (m - (i + 1)) rest)) in
     rw (← next_is, ← after_is) (sym one ∙ so_far)
 
 -- a row was read

@@ -57,7 +57,12 @@ fn read_of(alloc: Global, loads: &[Load], words: &[&[u8]]) -> Result<Command, Sc
 }
 
 /// The command of a line's words, of which the first is its verb.
-pub fn command_of(alloc: Global, loads: &[Load], verb: &[u8], words: &[&[u8]]) -> Result<Command, ScriptFault>
+pub fn command_of(
+    alloc: Global,
+    loads: &[Load],
+    verb: &[u8],
+    words: &[&[u8]],
+) -> Result<Command, ScriptFault>
     ensures { GivesScript (λ command. command) result (command_of (frame_names loads.now) verb.now (map (λ word. word.now) words.now)) }
 {
     if verb == b"write".as_slice() {

@@ -66,7 +66,12 @@ fn with_command(draft: Draft, command: Command) -> Result<Draft, ScriptFault>
 }
 
 /// What a line of this verb and these words makes of the draft.
-fn after_verb(alloc: Global, draft: Draft, verb: &[u8], words: &[&[u8]]) -> Result<Draft, ScriptFault>
+fn after_verb(
+    alloc: Global,
+    draft: Draft,
+    verb: &[u8],
+    words: &[&[u8]],
+) -> Result<Draft, ScriptFault>
     ensures { GivesScript (λ next. next) result (after_verb draft verb.now (map (λ word. word.now) words.now)) }
 {
     if verb == b"load".as_slice() {

@@ -44,7 +44,11 @@ fn name_of(alloc: Global, bytes: &[u8]) -> Result<ColName, CsvFault>
 }
 
 /// So many names at the front, and what stands behind their line.
-pub fn read_names(alloc: Global, count: usize, bytes: &[u8]) -> Result<(Items<ColName>, &[u8]), CsvFault>
+pub fn read_names(
+    alloc: Global,
+    count: usize,
+    bytes: &[u8],
+) -> Result<(Items<ColName>, &[u8]), CsvFault>
     ensures { GivesCsv (λ x. (x.0, x.1.now)) result (line_at column_name_at count bytes.now) }
 {
     let mut names = Items::new(alloc);

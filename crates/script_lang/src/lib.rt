@@ -13,12 +13,14 @@ mod plain_file;
 mod plain_word;
 mod rows;
 mod script;
+#[cfg(test)]
+mod tests;
 
 pub use base_types::{Items, NoMemory, Text};
 pub use command::Command;
 pub use fault::{CsvFault, ScriptFault};
 pub use frame_core::{ColType, RawFrame};
 pub use key_kind::Symbol;
-pub use plain_file::read_frame;
 pub use load::{ColTypes, Load, Loads};
+pub use plain_file::read_frame;
 pub use script::{Commands, Script, read_script};

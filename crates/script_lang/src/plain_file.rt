@@ -28,7 +28,11 @@ fn empty_column(alloc: Global, capacity: usize) -> Result<Items<i64>, NoMemory>
 }
 
 /// A column for the stamps and one for each type.
-fn empty_columns(alloc: Global, types: &[ColType], capacity: usize) -> Result<Vec<Items<i64>>, NoMemory>
+fn empty_columns(
+    alloc: Global,
+    types: &[ColType],
+    capacity: usize,
+) -> Result<Vec<Items<i64>>, NoMemory>
     ensures { IfOk result (λ columns. columns.items ≡ no_rows types.now) }
 {
     let mut columns = Vec::with_capacity(alloc, types.len() + 1)?;
@@ -47,7 +51,11 @@ fn int_columns(alloc: Global, columns: Vec<Items<i64>>) -> Result<Items<Column>,
 }
 
 /// The frame of these columns, of which the first has the stamps.
-fn frame_of(alloc: Global, names: Items<ColName>, mut columns: Vec<Items<i64>>) -> Result<RawFrame, NoMemory>
+fn frame_of(
+    alloc: Global,
+    names: Items<ColName>,
+    mut columns: Vec<Items<i64>>,
+) -> Result<RawFrame, NoMemory>
     requires { 0 < length columns.items }
     ensures { IfOk result (λ raw. table_of raw ≡ columns_table names columns.items) }
 {
@@ -62,7 +70,12 @@ fn frame_of(alloc: Global, names: Items<ColName>, mut columns: Vec<Items<i64>>) 
 
 /// The frame of these names and of all rows.
 #[tactic(auto, unfolding(crate::specs::PlainFiles::rows_table))]
-fn read_table(alloc: Global, types: &[ColType], names: Items<ColName>, bytes: &[u8]) -> Result<RawFrame, CsvFault>
+fn read_table(
+    alloc: Global,
+    types: &[ColType],
+    names: Items<ColName>,
+    bytes: &[u8],
+) -> Result<RawFrame, CsvFault>
     requires { list_all is_int types.now ≡ true }
     ensures { GivesCsv table_of result (rows_table types.now names bytes.now) }
 {
