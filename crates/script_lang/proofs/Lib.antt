@@ -4,3 +4,4 @@ pub mod Words
 pub mod LineSteps
 pub mod Gathered
 pub mod Parts
+pub mod Loaded

@@ -2,11 +2,14 @@
 --     Draft                   the loads and the commands of a script, up to some line
 --     after_line              what one more line makes of it, if some rule allows this line
 --     plain_script_of         the script of a text
-use Rattle.std.specs.Prelude.{ℕ, List, [], ◌∷◌, ◌++◌, length, map, Option, Some, None, is_none, nat_eq, nat_le, codes}
+--     AreLoaded               what each script keeps: a frame that is written is loaded
+use Rattle.std.specs.Prelude.{ℕ, ◌<◌, ⊤, List, [], ◌∷◌, ◌++◌, length, map, Option, Some, None, is_none, nat_eq, nat_le, codes}
+use Rattle.std.specs.List.{AllByRecursion}
 use Rattle.frame_core.specs.declared.cell.ColType.{ColType}
 use Rattle.frame_core.specs.declared.cell.ColType.TheVariants as types
 use Rattle.frame_core.specs.Texts.{Text}
 use Rattle.script_lang.specs.declared.command.Command.{Command}
+use Rattle.script_lang.specs.declared.command.Command.TheVariants as commands
 use Rattle.script_lang.specs.declared.load.Load.{Load}
 use Rattle.script_lang.specs.declared.script.Script.{Script}
 use Rattle.script_lang.specs.Fronts.{Front, ◌>>=◌, where_true, identifier_at}
@@ -97,13 +100,14 @@ with_command d c = d.first >>= λ commands. Some (record d { first = Some (comma
 abbrev pub line_forms : List (Text × LineForm)
 line_forms = (codes "load", after_load) ∷ (codes "first", after_first) ∷ []
 
+-- what a line makes of the draft by the form of its first word, or else as a command
+abbrev pub after_form : Option LineForm → Draft → Text → List Text → Option Draft
+after_form (Some form) d verb words = form d words
+after_form None d verb words = command_of (frame_names d.loads) verb words >>= with_command d
+
 -- what a line of this first word and these behind it makes of the draft, if a rule allows it
 abbrev pub after_verb : Draft → Text → List Text → Option Draft
-after_verb d verb words =
-    elim (under verb line_forms) [
-      | Some form ↦ form d words
-      | None ↦ command_of (frame_names d.loads) verb words >>= with_command d
-    ]
+after_verb d verb words = after_form (under verb line_forms) d verb words
 
 -- what these words make of the draft, if a rule allows them
 abbrev pub after_words : LineForm
@@ -132,3 +136,14 @@ most_lines = 1000
 -- the script of a text
 abbrev pub plain_script_of : Text → Option Script
 plain_script_of text = lines_of text >>= λ lines. where_true (nat_le (length lines) most_lines) lines >>= after_lines no_lines >>= finished
+
+-- ---- what each script keeps
+
+-- the frame of the command is one of so many loads
+abbrev pub IsLoaded : ℕ → Command → Type 0
+IsLoaded loads (commands.Write symbol frame) = frame < loads
+IsLoaded loads (commands.Read symbol) = ⊤
+
+-- each frame that is written is loaded
+abbrev pub AreLoaded : Script → Type 0
+AreLoaded script = AllByRecursion (IsLoaded (length script.loads)) script.first

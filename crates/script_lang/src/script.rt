@@ -1,4 +1,5 @@
-ghost use Rattle.script_lang.specs.Scripts.{finished, plain_script_of};
+ghost use Rattle.std.specs.Prelude.{IfOk};
+ghost use Rattle.script_lang.specs.Scripts.{finished, plain_script_of, AreLoaded};
 ghost use Rattle.script_lang.specs.Answers.{GivesScript};
 
 use crate::command::Command;
@@ -39,7 +40,8 @@ fn finished(draft: Draft) -> Result<Script, ScriptFault>
 /// is written; FILE and SYM are 1 to 32 letters, digits, `_` and `.`; TYPES is 1 to 127 times `int`, joined by commas. Every
 /// other text is BadScript.
 pub fn read_script(alloc: Global, bytes: &[u8]) -> Result<Script, ScriptFault>
-    ensures { GivesScript (λ script. script) result (plain_script_of bytes.now) }
+    ensures script { GivesScript (λ script. script) result (plain_script_of bytes.now) }
+    ensures loaded { IfOk result (λ script. AreLoaded script) }
 {
     let lines = lines_of(alloc, bytes)?;
     if lines.len() > MOST_LINES {
