@@ -1,6 +1,6 @@
 -- Rows that were added to columns are the columns of the rows.
 use Rattle.std.proofs.Common.{◌≡◌, ℕ, zero, suc, Bool, true, false, List, [], ◌∷◌, ◌++◌, length, map, take, drop, ◌+◌, get_or, remove, ◌<◌, ◌≤◌, Option, Some, None, ℤ, refl, subst, cond, sym, ap, ◌∙◌, append_assoc, arith}
-use Rattle.std.specs.Prelude.{⊤, option_map, nat_eq}
+use Rattle.std.specs.Prelude.{option_map, nat_eq}
 use Rattle.std.specs.List.{list_all, AllByRecursion}
 use Rattle.std.proofs.lemmas.List.{append-nil, length-map, take_more, take_all, drop_all, map-append}
 use Rattle.frame_core.specs.declared.cell.ColType.{ColType}

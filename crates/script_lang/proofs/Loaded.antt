@@ -1,6 +1,6 @@
 -- In each script a frame that is written is loaded.
-use Rattle.std.proofs.Common.{◌≡◌, ℕ, ◌+◌, ◌<◌, Bool, true, false, cond, List, [], ◌∷◌, ◌++◌, length, map, Option, Some, None, refl, sym, ap, subst, ◌∙◌, arith}
-use Rattle.std.specs.Prelude.{⊤, option_map, is_none, find, Result, Ok, Err, IfOk}
+use Rattle.std.proofs.Common.{◌≡◌, ℕ, ◌+◌, ◌<◌, Bool, true, false, cond, List, [], ◌∷◌, ◌++◌, length, Option, Some, None, refl, sym, ap, subst, ◌∙◌, arith}
+use Rattle.std.specs.Prelude.{option_map, is_none, find, Result, Ok, Err, IfOk}
 use Rattle.std.specs.List.{AllByRecursion, position_from}
 use Rattle.std.proofs.lemmas.List.{length-map}
 use Rattle.frame_core.specs.Texts.{Text, same_text}
@@ -11,9 +11,9 @@ use Rattle.script_lang.specs.declared.script.Script.{Script}
 use Rattle.script_lang.specs.declared.fault.ScriptFault.{ScriptFault}
 use Rattle.script_lang.specs.Answers.{GivesScript}
 use Rattle.script_lang.specs.Fronts.{◌>>=◌, where_true}
-use Rattle.script_lang.specs.Lines.{lines_of, words_of}
+use Rattle.script_lang.specs.Lines.{words_of}
 use Rattle.script_lang.specs.Commands.{Form, under, symbol_of, frame_of, write_form, read_form, forms, command_of}
-use Rattle.script_lang.specs.Scripts.{Draft, LineForm, no_lines, frame_names, load_of, after_load, after_first, with_command, after_form, after_verb, after_words, after_line, line_forms, after_lines, finished, most_lines, plain_script_of, IsLoaded, AreLoaded}
+use Rattle.script_lang.specs.Scripts.{Draft, LineForm, no_lines, frame_names, load_of, after_load, after_first, with_command, after_form, after_words, after_line, line_forms, after_lines, finished, IsLoaded, AreLoaded}
 use Rattle.script_lang.proofs.Gathered.{bind-some}
 
 abbrev some_in : {A : Type 0} → A → Option A → A

@@ -4,7 +4,7 @@
 --     plain_rows_of           the rows of a text
 --     table_from, rows_table  the table of names and rows
 --     plain_table_of          the table of a file
-use Rattle.std.specs.Prelude.{ℕ, suc, ℤ, Bool, true, false, List, [], ◌∷◌, map, length, drop, filter_map, slice_get, Option, Some, None, option_map, nat_le}
+use Rattle.std.specs.Prelude.{ℕ, suc, ℤ, Bool, true, false, List, [], ◌∷◌, map, length, drop, filter_map, slice_get, Option, option_map, nat_le}
 use Rattle.std.specs.List.{list_all}
 use Rattle.frame_core.specs.Texts.{Text}
 use Rattle.frame_core.specs.declared.cell.ColType.{ColType}

@@ -2,7 +2,7 @@
 --     add_row, add_rows       the columns after one more row, and after these rows
 --     no_rows                 columns without a number
 --     columns_table           the table of names and columns, of which the first has the stamps
-use Rattle.std.specs.Prelude.{ℕ, ℤ, List, [], ◌∷◌, ◌++◌, fold, map}
+use Rattle.std.specs.Prelude.{ℤ, List, [], ◌∷◌, ◌++◌, fold, map}
 use Rattle.frame_core.specs.Texts.{Text}
 use Rattle.frame_core.specs.declared.cell.ColType.{ColType}
 use Rattle.frame_core.specs.declared.cell.ColType.TheVariants as types

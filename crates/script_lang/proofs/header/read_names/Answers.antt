@@ -1,4 +1,4 @@
-use Rattle.std.proofs.Common.{◌≡◌, ℕ, sym, ap, ◌∙◌}
+use Rattle.std.proofs.Common.{ℕ, sym, ap, ◌∙◌}
 use Rattle.script_lang.specs.Fronts.{field_at}
 use Rattle.script_lang.specs.PlainFiles.{column_name_at}
 use Rattle.script_lang.proofs.LineSteps.{line_on, line_bad, line_end}

@@ -1,4 +1,4 @@
-use Rattle.std.proofs.Common.{◌≡◌, List, map, sym, ap, ◌∙◌, [], ◌∷◌}
+use Rattle.std.proofs.Common.{map, ap, ◌∙◌, [], ◌∷◌}
 use Rattle.std.proofs.lemmas.List.{map-append}
 use Rattle.script_lang.proofs.Parts.{lines_of-parts}
 use Rattle.script_lang.proofs.lines.lines_of.Goals as goal

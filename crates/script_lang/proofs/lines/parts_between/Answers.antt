@@ -1,4 +1,4 @@
-use Rattle.std.proofs.Common.{◌≡◌, map, sym, ap, ◌∙◌}
+use Rattle.std.proofs.Common.{map}
 use Rattle.std.proofs.lemmas.List.{map-append}
 use Rattle.script_lang.proofs.Parts.{parts-on, parts-end}
 use Rattle.script_lang.proofs.lines.parts_between.Goals as goal

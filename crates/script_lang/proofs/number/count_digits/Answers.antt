@@ -1,7 +1,7 @@
-use Rattle.std.proofs.Common.{◌≡◌, ◌<◌, ◌≤◌, ◌+◌, ◌-◌, ◌*◌, true, sym, ap, ◌∙◌, get_or, length, arith, ◌∷◌, drop}
+use Rattle.std.proofs.Common.{◌≡◌, ◌<◌, true, sym, ap, ◌∙◌, get_or, length, arith}
 use Rattle.std.specs.Prelude.{fold}
 use Rattle.std.specs.Char.{is_ascii_digit}
-use Rattle.script_lang.specs.Fronts.{with_digit, digits_of}
+use Rattle.script_lang.specs.Fronts.{with_digit}
 use Rattle.script_lang.proofs.Digits.{pow_17, pow_18, one_digit_more, digits_of-drop}
 use Rattle.script_lang.proofs.number.count_digits.Goals as goal
 

@@ -1,4 +1,3 @@
-use Rattle.std.proofs.Common.{◌≡◌}
 use Rattle.script_lang.proofs.Gathered.{no_rows-more}
 use Rattle.script_lang.proofs.plain_file.empty_columns.Goals as goal
 

@@ -1,4 +1,3 @@
-use Rattle.std.proofs.Common.{◌≡◌}
 use Rattle.script_lang.proofs.Gathered.{table_of-columns}
 use Rattle.script_lang.proofs.plain_file.frame_of.Goals as goal
 
