@@ -1,0 +1,4 @@
+pub mod Heads
+pub mod CellTexts
+pub mod Sheets
+pub mod Segments
