@@ -1,2 +1,4 @@
 pub mod HeadLaws
 pub mod CellLaws
+pub mod SheetLaws
+pub mod Turning
