@@ -2,3 +2,4 @@ pub mod HeadLaws
 pub mod CellLaws
 pub mod SheetLaws
 pub mod Turning
+pub mod SegmentLaws

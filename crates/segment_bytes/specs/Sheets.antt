@@ -25,7 +25,7 @@ pub record Sheet : Type 0 where
 -- the columns of these rows, from place k on
 abbrev pub series_from : ℕ → List Head → List Row → List Series
 series_from k [] rows = []
-series_from k (head ∷ heads) rows = (head, cells_of k rows) ∷ series_from (suc k) heads rows
+series_from k (head ∷ heads) rows = (head, cells_of k rows) ∷ series_from (k + 1) heads rows
 
 -- a frame by its columns
 abbrev pub sheet_of : Frame → Sheet
