@@ -21,13 +21,9 @@ use Rattle.frame_core.specs.Frames.{type_of, IsCell}
 use Rattle.frame_core.specs.Limits.{text_bytes, all_text_bytes}
 use Rattle.segment_bytes.specs.Heads.{text_at}
 use Rattle.segment_bytes.specs.CellTexts.{cell_text, text_of, ends_from, end_text, joined, cells_text, int_cell_at, stamp_cell_at, flag_cell_at, end_at, ends_at, texts_at, cells_at}
+use Rattle.segment_bytes.specs.Kept.{IsCellOf}
+use Rattle.segment_bytes.specs.Skipping.{last_end}
 use Rattle.segment_bytes.proofs.HeadLaws.{TextRead, text_takes, text_again}
-
--- a cell of this type, whose number has 64 bits and whose text is UTF-8 and not too long
-pub record IsCellOf (kind : ColType) (cell : Cell) : Type 0 where
-  pub typed : type_of cell ≡ kind
-  pub valid : IsCell cell
-  pub short : text_bytes cell ≤ 65535
 
 -- ---- numbers and flags
 
@@ -97,11 +93,6 @@ flag_field = record {
 abbrev pub Climb : ℕ → ℕ → List ℕ → Type 0
 Climb so_far start [] = Unit {0}
 Climb so_far start (e ∷ ends) = (start ≤ e) × (e ≤ start + 65535) × (so_far + e ≤ 67108864) × Climb so_far e ends
-
--- the last end
-abbrev pub last_end : ℕ → List ℕ → ℕ
-last_end start [] = start
-last_end start (e ∷ ends) = last_end e ends
 
 -- n ends were taken
 pub record EndsRead (so_far start : ℕ) (bytes : List ℕ) (n : ℕ) (ends rest : List ℕ) : Type 0 where

@@ -20,7 +20,8 @@ use Rattle.segment_bytes.specs.Heads.{head_text, head_at}
 use Rattle.segment_bytes.specs.CellTexts.{joined, cells_text, cells_at}
 use Rattle.segment_bytes.specs.Sheets.{Series, Sheet, series_text, segment_magic, sheet_text, rows_at, count_at, stamp_at, stamps_at, series_at, columns_at, sheet_at}
 use Rattle.segment_bytes.proofs.HeadLaws.{IsNew, HeadRead, head_takes, head_again}
-use Rattle.segment_bytes.proofs.CellLaws.{IsCellOf, CellsRead, cells_take, cells_again}
+use Rattle.segment_bytes.specs.Kept.{IsCellOf, IsSeries}
+use Rattle.segment_bytes.proofs.CellLaws.{CellsRead, cells_take, cells_again}
 
 -- ---- the counts
 
@@ -113,12 +114,6 @@ stamps_again (t ∷ stamps) before rest fit rise =
     ∙ bind_is (stamps_at (length stamps) (Some t) (flat_map signed_text stamps ++ rest)) (stamps, rest) (λ more. Ok (t ∷ more.0, more.1)) (stamps_again stamps (Some t) rest fit.1 rise.1)
 
 -- ---- columns
-
--- a column of so many rows
-pub record IsSeries (rows : ℕ) (column : Series) : Type 0 where
-  pub named : IsColName column.0.0
-  pub len : length column.1 ≡ rows
-  pub each : AllByRecursion (IsCellOf column.0.1) column.1
 
 -- the bytes in the texts of columns
 abbrev pub texts_in : List Series → ℕ

@@ -20,8 +20,9 @@ use Rattle.frame_core.specs.Columns.{rows_from, cells_of, columns_from}
 use Rattle.frame_core.proofs.Rows.{drop_at_place, length-rows_from, stamps-rows_from, columns-rows_from, rows_from-columns, length-cells_of}
 use Rattle.segment_bytes.specs.CellTexts.{joined}
 use Rattle.segment_bytes.specs.Sheets.{Series, Sheet, series_from, sheet_of, frame_of}
-use Rattle.segment_bytes.proofs.CellLaws.{IsCellOf, length-joined}
-use Rattle.segment_bytes.proofs.SheetLaws.{RiseFrom, IsSeries, IsSheet, texts_in, names_in}
+use Rattle.segment_bytes.specs.Kept.{IsCellOf, IsSeries}
+use Rattle.segment_bytes.proofs.CellLaws.{length-joined}
+use Rattle.segment_bytes.proofs.SheetLaws.{RiseFrom, IsSheet, texts_in, names_in}
 
 -- the cells and the heads of columns
 abbrev pub cells_in : List Series → List (List Cell)

@@ -2,3 +2,5 @@ pub mod Heads
 pub mod CellTexts
 pub mod Sheets
 pub mod Segments
+pub mod Kept
+pub mod Skipping

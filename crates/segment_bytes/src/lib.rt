@@ -1,6 +1,8 @@
 //! Frames as bytes: the one spelling of each, and views that read it where it lies.
 #![tactic(auto)]
 
+mod heads;
 mod laws;
 
+pub use heads::{put_head, read_head, read_text, read_type, type_byte};
 pub use laws::one_spelling;
