@@ -3,3 +3,4 @@ pub mod CellLaws
 pub mod SheetLaws
 pub mod Turning
 pub mod SegmentLaws
+pub mod Skips

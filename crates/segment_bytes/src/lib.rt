@@ -1,6 +1,7 @@
 //! Frames as bytes: the one spelling of each, and views that read it where it lies.
 #![tactic(auto)]
 
+mod cells;
 mod heads;
 mod laws;
 
