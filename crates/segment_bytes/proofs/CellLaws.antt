@@ -184,7 +184,7 @@ texts_again start (cells.Int n ∷ column) rest each = absurd (let e = each.0.ty
 texts_again start (cells.Flag b ∷ column) rest each = absurd (let e = each.0.typed in cc)
 texts_again start (cells.Stamp n ∷ column) rest each = absurd (let e = each.0.typed in cc)
 
-length-ends_from : (start : ℕ) (texts : List Text) → length (ends_from start texts) ≡ length texts
+pub length-ends_from : (start : ℕ) (texts : List Text) → length (ends_from start texts) ≡ length texts
 length-ends_from start [] = refl
 length-ends_from start (t ∷ ts) = ap suc (length-ends_from (start + length t) ts)
 

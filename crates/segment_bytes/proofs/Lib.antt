@@ -4,3 +4,4 @@ pub mod SheetLaws
 pub mod Turning
 pub mod SegmentLaws
 pub mod Skips
+pub mod Walks

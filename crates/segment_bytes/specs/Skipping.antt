@@ -30,13 +30,19 @@ abbrev pub ends_in : ℕ → List ℕ → List ℕ
 ends_in zero bytes = []
 ends_in (suc n) bytes = from_be_bytes w32 (take 4 bytes) ∷ ends_in n (drop 4 bytes)
 
+-- how many bytes the cells of a text column have, which has rows: four for each end, and as many as the last end says
+abbrev pub texts_width : ℕ → List ℕ → Result ℕ ℕ
+texts_width rows bytes = do
+  ends ← bytes_at (4 * rows - 4) bytes
+  last ← number_at w32 ends.1
+  Ok (4 * rows + last.0)
+
 -- how many bytes the cells of a column have: so many for each row, and for texts besides as many as the last end says
 unfoldable pub width_at : ColType → ℕ → List ℕ → Result ℕ ℕ
 width_at types.Int rows bytes = Ok (8 * rows)
 width_at types.Flag rows bytes = Ok rows
 width_at types.Stamp rows bytes = Ok (8 * rows)
-width_at types.Text rows bytes =
-    if nat_eq rows 0 then Ok 0 else (number_at w32 (drop (4 * rows - 4) bytes) >>= λ e. Ok (4 * rows + e.0))
+width_at types.Text rows bytes = if nat_eq rows 0 then Ok 0 else texts_width rows bytes
 
 -- the next column as it lies in the bytes: its type, its name and the bytes of its cells, none of them tested
 unfoldable pub skip_at : ℕ → List ℕ → Reading (ColType × Text × List ℕ)

@@ -2,8 +2,10 @@
 #![tactic(auto)]
 
 mod cells;
+mod columns;
 mod heads;
 mod laws;
+mod sheet;
 
 pub use heads::{put_head, read_head, read_text, read_type, type_byte};
 pub use laws::one_spelling;
