@@ -2,9 +2,13 @@
 --     was_entry, HasMovedOn      a reference that has moved on from an entry
 --     MovesOn             what a law shows of such references
 --     MayTryRefer, MayTryDrop      when a refer and a drop may be called: the event may follow, or the store will refuse it
---     DidLook, DidChange, DidDrop      what a look, a changing call and a drop did
+--     IsSteady            what no call changes of a bucket
+--     IsFound, IsListed      what a get and a list answer
+--     RefusesLook, DidChange, DidDrop      the refusals of a look; what a changing call and a drop did
 --     RefusesPut, RefusesRefer, RefusesName, RefusesUnname      the refusals of each changing call, with their causes
-use Rattle.std.specs.Prelude.{◌≡◌, ◌≢◌, ◌⊎◌, ◌<◌, ◌≤◌, ℕ, suc, Bool, true, false, ◌&&◌, ◌||◌, List, [], ◌∷◌, ◌++◌, length, drop, filter, Option, Some, None, Result, Ok, Err, ⊤, is_some}
+use Rattle.std.specs.Prelude.{◌≡◌, ◌≢◌, ◌⊎◌, ◌≤◌, ℕ, suc, Bool, true, false, ◌&&◌, ◌||◌, List, [], ◌∷◌, ◌++◌, length, drop, filter, Option, Some, None, Result, Ok, Err, ⊤, is_some, option_map}
+use Rattle.std.specs.Arc.{arc_value}
+use Rattle.base_types.specs.Faults.{Rose}
 use Rattle.key_kind.specs.Names.{Name, same_name}
 use Rattle.key_kind.specs.declared.key.KeyKind.{KeyKind}
 use Rattle.key_kind.specs.declared.key.Key.{Key}
@@ -14,6 +18,8 @@ use Rattle.bucket_core.specs.declared.event.Event.{Event}
 use Rattle.bucket_core.specs.declared.event.Event.TheVariants as events
 use Rattle.bucket_core.specs.declared.answer.StoreErr.{StoreErr}
 use Rattle.bucket_core.specs.declared.answer.StoreErr.TheVariants as errs
+use Rattle.bucket_core.specs.declared.answer.Found.{Found}
+use Rattle.bucket_core.specs.declared.answer.Listed.{Listed}
 use Rattle.bucket_core.specs.declared.answer.Dropped.{Dropped}
 use Rattle.bucket_core.specs.declared.answer.Dropped.TheVariants as drops
 use Rattle.bucket_core.specs.History.{History, Bytes, stored, stored_keys, body_put, reference, since}
@@ -70,9 +76,16 @@ MayTryDrop claimed h client key = MayFollow claimed h (drop_event client key) �
 
 -- ---- what a call did
 
--- a look: others' events alone were added; a fault comes only where the count of faults rose
+-- no call changes a bucket's client and limit; its count of faults never falls, and while it is sole it stays so
+pub record IsSteady {B : Type 0} (number limit faults : B → ℕ) (sole : B → Bool) (old new : B) : Type 0 where
+  pub same_number : number new ≡ number old
+  pub same_limit : limit new ≡ limit old
+  pub faults_rise : faults old ≤ faults new
+  pub stays_sole : sole old ≡ true → sole new ≡ true
+
+-- the refusals of a look: a fault comes only where the count of faults rose
 abbrev pub RefusesLook : ℕ → ℕ → StoreErr → Type 0
-RefusesLook before now errs.Fault = before < now
+RefusesLook before now errs.Fault = Rose before now
 RefusesLook before now errs.NoMemory = ⊤
 RefusesLook before now _ = ⊥
 
@@ -87,6 +100,17 @@ matches (Some kind) (Some name) key = same_kind key.kind kind && same_name key.n
 abbrev pub keys_that_match : History → Option KeyKind → Option Name → List Key
 keys_that_match h kind name = filter (matches kind name) (stored_keys h)
 
+-- the body under the key, with the place of the look and the place of the event that set it
+pub record IsFound (h : History) (key : Key) (found : Found) : Type 0 where
+  pub body : option_map arc_value found.body ≡ stored h key
+  pub place : found.place ≡ length h
+  pub since : found.since ≡ since h key
+
+-- the stored keys that match, with the place of the look
+pub record IsListed (h : History) (kind : Option KeyKind) (name : Option Name) (listed : Listed) : Type 0 where
+  pub keys : listed.keys ≡ keys_that_match h kind name
+  pub place : listed.place ≡ length h
+
 -- the history is at least as long as the limit, and this is its length
 abbrev pub IsFull : ℕ → History → ℕ → Type 0
 IsFull limit h count = (count ≡ length h) × (limit ≤ count)
@@ -95,7 +119,7 @@ IsFull limit h count = (count ≡ length h) × (limit ≤ count)
 abbrev pub DidChange : (History → Event → Type 0) → ℕ → Bool → ℕ → ℕ → ℕ → History → History → Event → (History → StoreErr → Type 0) → Result ℕ StoreErr → Type 0
 DidChange claimed client sole limit before now old new e refuses (Ok place) =
     Adds claimed client sole old new e × (place ≡ length new) × (place ≤ limit) × IsTested (drop 1 new) e
-DidChange claimed client sole limit before now old new e refuses (Err errs.Fault) = (before < now) × (Adds claimed client sole old new e ⊎ Looks claimed client sole old new)
+DidChange claimed client sole limit before now old new e refuses (Err errs.Fault) = Rose before now × (Adds claimed client sole old new e ⊎ Looks claimed client sole old new)
 DidChange claimed client sole limit before now old new e refuses (Err errs.NoMemory) = Looks claimed client sole old new
 DidChange claimed client sole limit before now old new e refuses (Err why) = Looks claimed client sole old new × refuses new why
 
@@ -130,7 +154,7 @@ DidDrop claimed client sole limit before now old new key (Ok (drops.Gone place))
     Adds claimed client sole old new (drop_event client key) × (place ≡ length new) × (place ≤ limit) × (is_some (stored (drop 1 new) key) ≡ true)
 DidDrop claimed client sole limit before now old new key (Ok (drops.Absent place)) = Looks claimed client sole old new × (place ≡ length new) × (stored new key ≡ None)
 DidDrop claimed client sole limit before now old new key (Err errs.Fault) =
-    (before < now) × (Adds claimed client sole old new (drop_event client key) ⊎ Looks claimed client sole old new)
+    Rose before now × (Adds claimed client sole old new (drop_event client key) ⊎ Looks claimed client sole old new)
 DidDrop claimed client sole limit before now old new key (Err errs.NoMemory) = Looks claimed client sole old new
 DidDrop claimed client sole limit before now old new key (Err (errs.Spent count)) = Looks claimed client sole old new × (is_some (stored new key) ≡ true) × IsFull limit new count
 DidDrop claimed client sole limit before now old new key (Err _) = ⊥

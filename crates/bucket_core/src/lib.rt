@@ -3,13 +3,21 @@
 
 mod answer;
 mod body;
+mod bucket;
+mod entry;
 mod event;
+mod event_log;
+mod law;
+mod plain;
 
 pub use answer::{Dropped, Found, Listed, StoreErr};
 pub use base_types::{Items, Keep, NoMemory};
 pub use body::{Body, SharedBody};
+pub use bucket::Bucket;
 pub use event::{Change, Event, PieceName};
 use key_kind::Key;
+pub use law::Law;
+pub use plain::PlainBucket;
 
 /// Numbers of versions, seen as a list.
 pub type Numbers = Items<u64>;

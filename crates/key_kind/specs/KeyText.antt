@@ -2,7 +2,7 @@
 --     name_text, key_text      the spelling of a name and of a key
 --     key_at              the key that bytes begin with
 --     key_of_at           such a key of one kind
-use Rattle.std.specs.Prelude.{ℕ, ℤ, pos, Bool, ◌||◌, ◌&&◌, List, [], ◌∷◌, ◌++◌, length, Ok, Err, Option, Some, None, find, nat_le, nat_eq}
+use Rattle.std.specs.Prelude.{ℕ, ℤ, pos, Bool, ◌||◌, List, [], ◌∷◌, ◌++◌, length, Ok, Err, Option, Some, None, find, nat_le, nat_eq}
 use Rattle.std.specs.List.{list_all}
 use Rattle.std.specs.Int.{w8, w32, w64, to_be_bytes}
 use Rattle.std.specs.Ordering.{int_eq}
@@ -10,7 +10,7 @@ use Rattle.byte_fields.specs.Reading.{Reading, ◌>>=◌, wanted, number_at, sig
 use Rattle.key_kind.specs.declared.key.KeyKind.{KeyKind}
 use Rattle.key_kind.specs.declared.key.KeyKind.TheVariants as kinds
 use Rattle.key_kind.specs.declared.key.Key.{Key}
-use Rattle.key_kind.specs.Names.{Name}
+use Rattle.key_kind.specs.Names.{Name, is_graphic}
 use Rattle.key_kind.specs.Keys.{kind_code, same_kind, is_put, has_version, has_stamps}
 
 -- a length of one byte, and the name
@@ -37,10 +37,6 @@ abbrev pub kind_at : List ℕ → Reading KeyKind
 kind_at bytes = do
   code ← number_at w8 bytes
   kind_found bytes code.1 (kind_of code.0)
-
--- a byte that may stand in a name
-abbrev pub is_graphic : ℕ → Bool
-is_graphic c = nat_le 0x21 c && nat_le c 0x7E
 
 -- a length from 1 to 255, and so many bytes that may stand in a name
 abbrev pub name_at : List ℕ → Reading Name

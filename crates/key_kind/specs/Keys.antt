@@ -72,9 +72,14 @@ same_holder a b = nat_eq a.client b.client && nat_eq a.serial b.serial
 -- the order of keys: by their fields, in the order written
 abbrev pub key_cmp : Key → Key → Ordering
 key_cmp a b =
-    ordering_then (nat_cmp (kind_code a.kind) (kind_code b.kind)) (ordering_then (slice_cmp nat_cmp a.name b.name)
-    (ordering_then (nat_cmp a.client b.client) (ordering_then (nat_cmp a.serial b.serial)
-    (ordering_then (nat_cmp a.version b.version) (ordering_then (int_cmp a.first b.first) (int_cmp a.last b.last))))))
+    ordering_then (ordering_then (ordering_then (ordering_then (ordering_then (ordering_then
+    (nat_cmp (kind_code a.kind) (kind_code b.kind))
+    (slice_cmp nat_cmp a.name b.name))
+    (nat_cmp a.client b.client))
+    (nat_cmp a.serial b.serial))
+    (nat_cmp a.version b.version))
+    (int_cmp a.first b.first))
+    (int_cmp a.last b.last)
 
 -- the key stands before the other
 abbrev pub key_before : Key → Key → Bool

@@ -6,7 +6,7 @@ mod name;
 
 pub use base_types::{Items, Keep, NoMemory, Text};
 pub use key::{Holder, Key, KeyKind};
-pub use name::{Name, SnapName, Symbol};
+pub use name::{Name, NameFault, SnapName, Symbol};
 
 /// Symbols, seen as a list.
 pub type Symbols = Items<Symbol>;
