@@ -5,3 +5,4 @@ pub mod Turning
 pub mod SegmentLaws
 pub mod Skips
 pub mod Walks
+pub mod ViewLaws

@@ -4,3 +4,4 @@ pub mod Sheets
 pub mod Segments
 pub mod Kept
 pub mod Skipping
+pub mod Views

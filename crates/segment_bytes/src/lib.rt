@@ -6,6 +6,8 @@ mod columns;
 mod heads;
 mod laws;
 mod sheet;
+mod viewing;
 
 pub use heads::{put_head, read_head, read_text, read_type, type_byte};
 pub use laws::one_spelling;
+pub use viewing::{SegFault, SegView, view};

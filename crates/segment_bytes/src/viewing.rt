@@ -1,0 +1,84 @@
+ghost use Rattle.std.specs.Prelude.{◌≡◌, ◌<◌, ℕ, length, IfOk, IfErr, IsOkAnd, Ok, Some};
+ghost use Rattle.byte_fields.specs.Reading.{fault_at};
+ghost use Rattle.byte_fields.specs.Readers.{Gives};
+ghost use Rattle.frame_core.specs.Frames.{Frame, stamp_at};
+ghost use Rattle.frame_core.specs.Limits.{IsStorable};
+ghost use Rattle.segment_bytes.specs.Segments.{segment_text, segment_of};
+
+use crate::columns::skip_columns;
+use crate::sheet::{read_count, read_rows, skip_stamps};
+use byte_fields::read_magic;
+use std::marker::Model;
+
+/// Where bytes are no segment: the place of the first field that is not whole or breaks its rule.
+#[derive(Clone, Copy, Debug, PartialEq, Eq)]
+pub struct SegFault {
+    pub at: u64,
+}
+
+/// The frame that bytes spell, read where they lie. Contracts see the frame.
+#[derive(Debug, Drop)]
+pub struct SegView<'a> {
+    bytes: &'a [u8],
+    rows: u32,
+    count: u16,
+    stamps: &'a [u8],
+    columns: &'a [u8],
+}
+
+impl<'a> Model for SegView<'a> {
+    ghost use Rattle.frame_core.specs.Frames.{Frame};
+    ghost use Rattle.segment_bytes.specs.Views.{frame_in, IsView};
+
+    ghost Value = { Frame };
+
+    ghost view = { λ v. frame_in v.bytes.now };
+
+    ghost invariant = { λ v. IsView v.bytes.now v.rows v.count v.stamps.now v.columns.now };
+}
+
+/// Reads bytes as a segment, in one pass and without memory.
+///
+/// The bytes are `ASG1`; the number of rows (4 bytes, at most 2,000,000) and of columns (2 bytes, at most 4,096, and at
+/// most 8,000,000 cells); a stamp for each row (8 bytes), never falling; and for each column its type (1 byte: 1 `Int`,
+/// 2 `Flag`, 3 `Text`, 4 `Stamp`), the length of its name (1 byte, at least 1), its name in UTF-8, which no column before
+/// has, and its cells: 8 bytes each for `Int` and `Stamp`, 1 byte each for `Flag`, 0 or 1; for `Text` where each text
+/// ends (4 bytes, never falling, each at most 65,535 above the one before, at most 67,108,864 bytes in all texts of the
+/// segment), and then the texts, each of them UTF-8. Nothing follows. Numbers have the high byte first.
+pub fn view(bytes: &[u8]) -> Result<SegView<'_>, SegFault>
+    // What is read is what the bytes spell; and what they spell is read.
+    ensures found { IfOk result (λ v. segment_of bytes.now ≡ Ok v) }
+    ensures only { (f : Frame) → segment_of bytes.now ≡ Ok f → IsOkAnd result (λ v. v ≡ f) }
+    // A fault is that of the first bad field.
+    ensures fault { IfErr result (λ e. fault_at (length bytes.now) (segment_of bytes.now) ≡ Some e.at) }
+    ensures spelled { IfOk result (λ v. bytes.now ≡ segment_text v) }
+    ensures storable { IfOk result IsStorable }
+{
+    match read_segment(bytes) {
+        Ok(view) => Ok(view),
+        Err(left) => Err(SegFault {
+            at: bytes.len().saturating_sub(left) as u64,
+        }),
+    }
+}
+
+#[tactic(auto, unfolding(crate::specs::Segments::segment_of, crate::specs::Segments::sheet_spelled, crate::specs::Sheets::sheet_at))]
+fn read_segment(bytes: &[u8]) -> Result<SegView<'_>, usize>
+    ensures { Gives (λ v. v) result (segment_of bytes.now) }
+{
+    let rest = read_magic(b"ASG1".as_slice(), bytes)?;
+    let (rows, rest) = read_rows(rest)?;
+    let (count, stamps) = read_count(rows, rest)?;
+    let columns = skip_stamps(rows, stamps)?;
+    let end = skip_columns(rows, count, columns)?;
+    if !end.is_empty() {
+        return Err(end.len());
+    }
+    Ok(SegView {
+        bytes,
+        rows,
+        count,
+        stamps,
+        columns,
+    })
+}
