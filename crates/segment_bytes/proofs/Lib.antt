@@ -6,3 +6,4 @@ pub mod SegmentLaws
 pub mod Skips
 pub mod Walks
 pub mod ViewLaws
+pub mod Writes

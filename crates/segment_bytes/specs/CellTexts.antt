@@ -2,7 +2,7 @@
 --     cells_text          the spelling of cells: one behind another, and of texts first where each ends
 --     ends_at, texts_at   the ends of the next texts, and the texts
 --     cells_at            the next n cells of a type
-use Rattle.std.specs.Prelude.{ℕ, suc, zero, ◌+◌, ◌-◌, ◌&&◌, true, false, List, [], ◌∷◌, ◌++◌, map, length, flat_map, Result, Ok, nat_le, nat_eq}
+use Rattle.std.specs.Prelude.{ℕ, suc, zero, ◌+◌, ◌-◌, ◌&&◌, Bool, true, false, List, [], ◌∷◌, ◌++◌, map, length, flat_map, Result, Ok, nat_le, nat_eq}
 use Rattle.std.specs.Int.{w8, w32, to_be_bytes}
 use Rattle.byte_fields.specs.Reading.{Reading, ◌>>=◌, wanted, number_at, signed_at, list_at, signed_text}
 use Rattle.frame_core.specs.declared.cell.ColType.{ColType}
@@ -12,12 +12,16 @@ use Rattle.frame_core.specs.declared.cell.Cell.TheVariants as cells
 use Rattle.frame_core.specs.Texts.{Text}
 use Rattle.segment_bytes.specs.Heads.{text_at}
 
+-- a flag
+abbrev pub flag_text : Bool → List ℕ
+flag_text true = 1 ∷ []
+flag_text false = 0 ∷ []
+
 -- a cell that is no text
 abbrev pub cell_text : Cell → List ℕ
 cell_text (cells.Int n) = signed_text n
 cell_text (cells.Stamp n) = signed_text n
-cell_text (cells.Flag true) = 1 ∷ []
-cell_text (cells.Flag false) = 0 ∷ []
+cell_text (cells.Flag b) = flag_text b
 cell_text (cells.Text t) = []
 
 -- the bytes of a text cell

@@ -7,7 +7,9 @@ mod heads;
 mod laws;
 mod sheet;
 mod viewing;
+mod writing;
 
 pub use heads::{put_head, read_head, read_text, read_type, type_byte};
 pub use laws::one_spelling;
 pub use viewing::{SegFault, SegView, view};
+pub use writing::encode;
