@@ -5,5 +5,7 @@ pub mod Turning
 pub mod SegmentLaws
 pub mod Skips
 pub mod Walks
+pub mod Finds
 pub mod ViewLaws
 pub mod Writes
+pub mod Getters

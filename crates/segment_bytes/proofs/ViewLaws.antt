@@ -12,11 +12,14 @@ use Rattle.byte_fields.specs.Readers.{IsBytes, seen_by, rest_of}
 use Rattle.byte_fields.proofs.Steps.{done, ok_is, seen_ok, whole_again}
 use Rattle.byte_fields.proofs.Numbers.{magic_takes}
 use Rattle.frame_core.specs.Frames.{Frame}
+use Rattle.frame_core.specs.Limits.{IsStorable}
 use Rattle.segment_bytes.specs.CellTexts.{joined}
 use Rattle.segment_bytes.specs.Sheets.{Series, Sheet, frame_of, series_text, segment_magic, rows_at, count_at, stamps_at, columns_at, sheet_at}
 use Rattle.segment_bytes.specs.Segments.{sheet_spelled, segment_of}
 use Rattle.segment_bytes.specs.Kept.{IsSeries, IsStored}
 use Rattle.segment_bytes.specs.Views.{sheet_in, frame_in, IsView}
+use Rattle.segment_bytes.proofs.Turning.{storable_is}
+use Rattle.segment_bytes.proofs.SegmentLaws.{spelled_takes}
 use Rattle.segment_bytes.proofs.SheetLaws.{rows_takes, count_takes, stamps_take, columns_take, texts_in}
 
 -- each column keeps the limit of all
@@ -51,6 +54,7 @@ view_made bytes head rest stamps columns end front rows count fits h0 h1 h2 h3 h
     let t4 = columns_take [] 0 rows count columns (b.0.0, end) (omega arith) t3.takes.rest_fits columns_read in
     record {
       good = good ∙ ap (λ (s : Sheet). done s) (sym is);
+      storable = subst (λ (s : Sheet). IsStorable (frame_of s)) (sym is) (storable_is made (spelled_takes bytes made fits good).sheet);
       rows_are = ap (λ (s : Sheet). length s.stamps) is ∙ t3.len;
       count_is = ap (λ (s : Sheet). length s.columns) is ∙ t4.count;
       fit = subst (λ (s : Sheet). AllByRecursion (FitsSigned w64) s.stamps) (sym is) t3.fit;

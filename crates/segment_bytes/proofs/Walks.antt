@@ -63,19 +63,19 @@ wide_cells : (kind : ColType) (width : ℕ) → ((c : Cell) → IsCellOf kind c 
 wide_cells kind width one [] each = omega arith
 wide_cells kind width one (c ∷ column) each = rw flat_map-cons (omega (arith, length-append (cell_text c) (flat_map cell_text column), one c each.0, wide_cells kind width one column each.1))
 
-int_wide : (c : Cell) → IsCellOf types.Int c → length (cell_text c) ≡ 8
+pub int_wide : (c : Cell) → IsCellOf types.Int c → length (cell_text c) ≡ 8
 int_wide (cells.Int n) is = length-signed_text n
 int_wide (cells.Flag b) is = absurd (let e = is.typed in cc)
 int_wide (cells.Text t) is = absurd (let e = is.typed in cc)
 int_wide (cells.Stamp n) is = absurd (let e = is.typed in cc)
 
-stamp_wide : (c : Cell) → IsCellOf types.Stamp c → length (cell_text c) ≡ 8
+pub stamp_wide : (c : Cell) → IsCellOf types.Stamp c → length (cell_text c) ≡ 8
 stamp_wide (cells.Stamp n) is = length-signed_text n
 stamp_wide (cells.Flag b) is = absurd (let e = is.typed in cc)
 stamp_wide (cells.Text t) is = absurd (let e = is.typed in cc)
 stamp_wide (cells.Int n) is = absurd (let e = is.typed in cc)
 
-flag_wide : (c : Cell) → IsCellOf types.Flag c → length (cell_text c) ≡ 1
+pub flag_wide : (c : Cell) → IsCellOf types.Flag c → length (cell_text c) ≡ 1
 flag_wide (cells.Flag true) is = refl
 flag_wide (cells.Flag false) is = refl
 flag_wide (cells.Int n) is = absurd (let e = is.typed in cc)
@@ -183,7 +183,7 @@ next_found rows columns i tail rest each lt text =
     record { column = at.0; is = at.1; stored = stored; read = ap (skip_at rows) whole ∙ skip_known rows at.0 others stored }
 
 -- what was skipped is the column
-skipped : (rows : ℕ) (rest : List ℕ) (a b : ColType × Text × List ℕ) (after others : List ℕ) → skip_at rows rest ≡ Ok (a, after) → skip_at rows rest ≡ Ok (b, others) → (a.1 ≡ b.1) × (after ≡ others)
+pub skipped : (rows : ℕ) (rest : List ℕ) (a b : ColType × Text × List ℕ) (after others : List ℕ) → skip_at rows rest ≡ Ok (a, after) → skip_at rows rest ≡ Ok (b, others) → (a.1 ≡ b.1) × (after ≡ others)
 skipped rows rest a b after others h k =
     let same = ok_is (a, after) (b, others) (sym h ∙ k) in
     (ap (λ (x : (ColType × Text × List ℕ) × List ℕ). x.0.1) same, ap (λ (x : (ColType × Text × List ℕ) × List ℕ). x.1) same)

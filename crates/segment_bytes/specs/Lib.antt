@@ -4,4 +4,5 @@ pub mod Sheets
 pub mod Segments
 pub mod Kept
 pub mod Skipping
+pub mod Lying
 pub mod Views

@@ -3,7 +3,7 @@
 --     IsView              the parts of a view are those of the sheet
 --     name_of             the name of the column at a place
 --     cells_in, IsColumnView      the cells that the bytes of a column spell, and the parts of its view
-use Rattle.std.specs.Prelude.{◌≡◌, ℕ, List, [], ◌++◌, length, flat_map, FitsSigned, Ok, Option, option_map, slice_get}
+use Rattle.std.specs.Prelude.{◌≡◌, ◌≤◌, ℕ, List, [], ◌++◌, length, flat_map, FitsSigned, Ok, Option, option_map, slice_get}
 use Rattle.std.specs.Int.{w64}
 use Rattle.std.specs.List.{AllByRecursion}
 use Rattle.std.specs.Result.{result_unwrap_or}
@@ -13,10 +13,11 @@ use Rattle.frame_core.specs.declared.cell.Cell.{Cell}
 use Rattle.frame_core.specs.Texts.{Text}
 use Rattle.frame_core.specs.Schemas.{Head}
 use Rattle.frame_core.specs.Frames.{Frame}
-use Rattle.segment_bytes.specs.CellTexts.{cells_at}
+use Rattle.frame_core.specs.Limits.{IsStorable}
+use Rattle.segment_bytes.specs.CellTexts.{joined, cells_text, cells_at}
 use Rattle.segment_bytes.specs.Sheets.{Series, Sheet, frame_of, series_text}
 use Rattle.segment_bytes.specs.Segments.{sheet_spelled}
-use Rattle.segment_bytes.specs.Kept.{IsStored}
+use Rattle.segment_bytes.specs.Kept.{IsCellOf, IsStored}
 
 -- the sheet that the bytes spell; without rows and columns where they spell none
 unfoldable pub sheet_in : List ℕ → Sheet
@@ -29,6 +30,7 @@ frame_in bytes = frame_of (sheet_in bytes)
 -- the bytes spell a sheet of so many rows and columns; from the stamps on, and from the columns on, they are these
 pub record IsView (bytes : List ℕ) (rows count : ℕ) (stamps columns : List ℕ) : Type 0 where
   pub good : sheet_spelled bytes ≡ Ok (sheet_in bytes)
+  pub storable : IsStorable (frame_in bytes)
   pub rows_are : length (sheet_in bytes).stamps ≡ rows
   pub count_is : length (sheet_in bytes).columns ≡ count
   pub fit : AllByRecursion (FitsSigned w64) (sheet_in bytes).stamps
@@ -46,4 +48,7 @@ cells_in kind rows bytes = (result_unwrap_or (cells_at kind 0 rows bytes) ([], [
 
 -- the bytes spell so many cells of a type, and nothing else
 pub record IsColumnView (kind : ColType) (rows : ℕ) (bytes : List ℕ) : Type 0 where
-  pub good : cells_at kind 0 rows bytes ≡ Ok (cells_in kind rows bytes, [])
+  pub len : length (cells_in kind rows bytes) ≡ rows
+  pub each : AllByRecursion (IsCellOf kind) (cells_in kind rows bytes)
+  pub within : length (joined (cells_in kind rows bytes)) ≤ 67108864
+  pub text : bytes ≡ cells_text kind (cells_in kind rows bytes)

@@ -1,10 +1,11 @@
-ghost use Rattle.std.specs.Prelude.{◌≡◌, ◌++◌, ℕ, List, [], length};
+ghost use Rattle.std.specs.Prelude.{◌≡◌, ◌++◌, ℕ, List, [], length, slice_get, Some};
 ghost use Rattle.std.specs.List.{AllByRecursion, flat_map, list_any};
 ghost use Rattle.byte_fields.specs.Readers.{Gives, rest_of};
 ghost use Rattle.frame_core.specs.Texts.{same_text};
 ghost use Rattle.segment_bytes.specs.Sheets.{Series, series_text, columns_at};
 ghost use Rattle.segment_bytes.specs.Kept.{IsStored};
 ghost use Rattle.segment_bytes.specs.Skipping.{width_at, skip_at};
+ghost use Rattle.segment_bytes.specs.Lying.{Spells, LiesAs};
 
 use crate::cells::skip_cells;
 use crate::heads::{read_head, read_type};
@@ -90,4 +91,22 @@ pub fn skip_columns(rows: u32, count: u16, first: &[u8]) -> Result<&[u8], usize>
         rest = after;
     }
     Ok(rest)
+}
+
+/// The column at a place, counted from 0. It skips each column before it in constant time.
+pub fn find_column(rows: u32, columns: &[u8], place: u64) -> ColumnBytes<'_>
+    requires { (all : List Series) × Spells rows place columns.now all }
+    ensures { (all : List Series) (column : Series) → Spells rows place columns.now all → slice_get all place ≡ Some column → LiesAs column result }
+{
+    let mut rest = columns;
+    for _ in 0..place {
+        match next_column(rows, rest) {
+            Ok((_, after)) => rest = after,
+            Err(_) => unreachable!(),
+        }
+    }
+    match next_column(rows, rest) {
+        Ok((found, _)) => found,
+        Err(_) => unreachable!(),
+    }
 }

@@ -2,6 +2,7 @@
 #![tactic(auto)]
 
 mod cells;
+mod column_view;
 mod columns;
 mod heads;
 mod laws;
@@ -9,6 +10,7 @@ mod sheet;
 mod viewing;
 mod writing;
 
+pub use column_view::ColumnView;
 pub use heads::{put_head, read_head, read_text, read_type, type_byte};
 pub use laws::one_spelling;
 pub use viewing::{SegFault, SegView, view};

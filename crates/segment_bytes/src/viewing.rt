@@ -1,13 +1,17 @@
 ghost use Rattle.std.specs.Prelude.{◌≡◌, ◌<◌, ℕ, length, IfOk, IfErr, IsOkAnd, Ok, Some};
 ghost use Rattle.byte_fields.specs.Reading.{fault_at};
 ghost use Rattle.byte_fields.specs.Readers.{Gives};
-ghost use Rattle.frame_core.specs.Frames.{Frame, stamp_at};
+ghost use Rattle.frame_core.specs.Frames.{Frame, stamp_at, cell_at, type_at, cell_of};
+ghost use Rattle.frame_core.specs.Columns.{cells_of};
 ghost use Rattle.frame_core.specs.Limits.{IsStorable};
 ghost use Rattle.segment_bytes.specs.Segments.{segment_text, segment_of};
+ghost use Rattle.segment_bytes.specs.Views.{name_of};
 
-use crate::columns::skip_columns;
+use crate::column_view::{ColumnView, number_in, text_in};
+use crate::columns::{find_column, skip_columns};
 use crate::sheet::{read_count, read_rows, skip_stamps};
 use byte_fields::read_magic;
+use frame_core::{CellRef, ColType};
 use std::marker::Model;
 
 /// Where bytes are no segment: the place of the first field that is not whole or breaks its rule.
@@ -81,4 +85,57 @@ fn read_segment(bytes: &[u8]) -> Result<SegView<'_>, usize>
         stamps,
         columns,
     })
+}
+
+impl<'a> SegView<'a> {
+    /// How many rows there are.
+    pub fn rows(&self) -> u64
+        ensures rows { result ≡ length self.now.rows }
+        ensures storable { IsStorable self.now }
+    {
+        self.rows as u64
+    }
+
+    /// How many columns there are.
+    pub fn cols(&self) -> u64
+        ensures { result ≡ length self.now.schema.columns }
+    {
+        self.count as u64
+    }
+
+    /// The stamp of a row, counted from 0, in constant time.
+    pub fn stamp(&self, row: u64) -> i64
+        requires { row < length self.now.rows }
+        ensures { stamp_at self.now row ≡ Some result }
+    {
+        number_in(self.stamps, row as usize)
+    }
+
+    /// The name of a column, counted from 0, lent from the viewed bytes.
+    pub fn name(&self, col: u64) -> &'a str
+        requires { col < length self.now.schema.columns }
+        ensures { name_of self.now col ≡ Some result.now }
+    {
+        text_in(find_column(self.rows, self.columns, col).name)
+    }
+
+    /// The type of a column, counted from 0.
+    pub fn kind(&self, col: u64) -> ColType
+        requires { col < length self.now.schema.columns }
+        ensures { type_at self.now col ≡ Some result }
+    {
+        find_column(self.rows, self.columns, col).kind
+    }
+
+    /// The cells of a column, counted from 0. Finding it skips each column before it in constant time; for loops over its
+    /// rows it is found once.
+    pub fn column(&self, col: u64) -> ColumnView<'a>
+        requires { col < length self.now.schema.columns }
+        ensures kind { type_at self.now col ≡ Some result.0 }
+        ensures cells { result.1 ≡ cells_of col self.now.rows }
+        ensures len { length result.1 ≡ length self.now.rows }
+    {
+        let found = find_column(self.rows, self.columns, col);
+        ColumnView::new(found.kind, self.rows, found.cells)
+    }
 }
