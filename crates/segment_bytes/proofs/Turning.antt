@@ -318,6 +318,10 @@ storable_rows f is =
     let fit = fitting_rows f.schema.columns f.rows is.is_frame.fitting short in
     record { within = within; fit = fit; wide = wide_rows f.schema.columns f.rows fit }
 
+-- each row of a storable frame has a cell for each column
+pub storable_wide : (f : Frame) → IsStorable f → AreWide (length f.schema.columns) f.rows
+storable_wide f is = (storable_rows f is).wide
+
 pub sheet_is : (f : Frame) → IsStorable f → IsSheet (sheet_of f)
 sheet_is f is =
     let s = storable_rows f is in

@@ -1,8 +1,9 @@
-ghost use Rattle.std.specs.Prelude.{◌≡◌, ◌<◌, ℕ, length, IfOk, IfErr, IsOkAnd, Ok, Some};
+ghost use Rattle.std.specs.Prelude.{◌≡◌, ◌<◌, ℕ, length, slice_get, IfOk, IfErr, IsOkAnd, Ok, Some};
 ghost use Rattle.byte_fields.specs.Reading.{fault_at};
 ghost use Rattle.byte_fields.specs.Readers.{Gives};
 ghost use Rattle.frame_core.specs.Frames.{Frame, stamp_at, cell_at, type_at, cell_of};
 ghost use Rattle.frame_core.specs.Columns.{cells_of};
+ghost use Rattle.frame_core.specs.declared.cell.Cell.TheVariants.{Int as int_cell, Flag as flag_cell, Text as text_cell, Stamp as stamp_cell};
 ghost use Rattle.frame_core.specs.Limits.{IsStorable};
 ghost use Rattle.segment_bytes.specs.Segments.{segment_text, segment_of};
 ghost use Rattle.segment_bytes.specs.Views.{name_of};
@@ -134,8 +135,54 @@ impl<'a> SegView<'a> {
         ensures kind { type_at self.now col ≡ Some result.0 }
         ensures cells { result.1 ≡ cells_of col self.now.rows }
         ensures len { length result.1 ≡ length self.now.rows }
+        ensures at { (row : ℕ) → cell_at self.now row col ≡ slice_get result.1 row }
     {
         let found = find_column(self.rows, self.columns, col);
         ColumnView::new(found.kind, self.rows, found.cells)
+    }
+
+    /// The cell of a row at a column, both counted from 0.
+    pub fn cell(&self, row: u64, col: u64) -> CellRef<'a>
+        requires row { row < length self.now.rows }
+        requires col { col < length self.now.schema.columns }
+        ensures { cell_at self.now row col ≡ Some (cell_of result) }
+    {
+        self.column(col).cell(row)
+    }
+
+    /// The whole number of a row at an `Int` column, both counted from 0.
+    pub fn int(&self, row: u64, col: u64) -> i64
+        requires row { row < length self.now.rows }
+        requires kind { type_at self.now col ≡ Some ColType.Int }
+        ensures { cell_at self.now row col ≡ Some (int_cell result) }
+    {
+        self.column(col).int(row)
+    }
+
+    /// The flag of a row at a `Flag` column, both counted from 0.
+    pub fn flag(&self, row: u64, col: u64) -> bool
+        requires row { row < length self.now.rows }
+        requires kind { type_at self.now col ≡ Some ColType.Flag }
+        ensures { cell_at self.now row col ≡ Some (flag_cell result) }
+    {
+        self.column(col).flag(row)
+    }
+
+    /// The text of a row at a `Text` column, both counted from 0. It is lent from the viewed bytes.
+    pub fn text(&self, row: u64, col: u64) -> &'a str
+        requires row { row < length self.now.rows }
+        requires kind { type_at self.now col ≡ Some ColType.Text }
+        ensures { cell_at self.now row col ≡ Some (text_cell result.now) }
+    {
+        self.column(col).text(row)
+    }
+
+    /// The moment of a row at a `Stamp` column, both counted from 0.
+    pub fn stamp_cell(&self, row: u64, col: u64) -> i64
+        requires row { row < length self.now.rows }
+        requires kind { type_at self.now col ≡ Some ColType.Stamp }
+        ensures { cell_at self.now row col ≡ Some (stamp_cell result) }
+    {
+        self.column(col).stamp(row)
     }
 }
