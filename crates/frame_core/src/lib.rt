@@ -4,6 +4,9 @@
 mod cell;
 mod column;
 mod frame;
+mod limits;
+mod maker;
+mod making;
 mod name;
 mod part;
 mod range;
@@ -16,6 +19,7 @@ pub use base_types::{Items, Keep, NoMemory, Text};
 pub use cell::{Cell, CellRef, ColType};
 pub use column::Column;
 pub use frame::Frame;
+pub use maker::FrameMaker;
 pub use name::{ColName, NameFault};
 pub use part::Part;
 pub use range::Range;
