@@ -2,7 +2,8 @@ ghost use Rattle.std.specs.Prelude.{◌≡◌, ◌<◌, length, slice_get, Some,
 ghost use Rattle.std.specs.Int.{w64};
 ghost use Rattle.std.specs.List.{AllByRecursion};
 ghost use Rattle.frame_core.specs.Columns.{column_type, column_cells};
-ghost use Rattle.frame_core.specs.Frames.{cell_of};
+ghost use Rattle.frame_core.specs.Frames.{IsCell, cell_of};
+ghost use Rattle.frame_core.specs.Limits.{all_text_bytes, longest_text as longest_of};
 
 use crate::cell::{CellRef, ColType};
 use crate::texts::TextList;
@@ -40,6 +41,44 @@ impl Column {
             Column::Flags(flags) => flags.len(),
             Column::Texts(texts) => texts.len(),
             Column::Stamps(stamps) => stamps.len(),
+        }
+    }
+
+    /// How many bytes of text the cells have together.
+    pub fn text_bytes(&self) -> usize
+        ensures { result ≡ all_text_bytes (column_cells self.now) }
+    {
+        match self {
+            Column::Texts(texts) => texts.bytes(),
+            Column::Ints(_) => 0,
+            Column::Flags(_) => 0,
+            Column::Stamps(_) => 0,
+        }
+    }
+
+    /// How many bytes the longest text has.
+    pub fn longest_text(&self) -> usize
+        ensures { result ≡ longest_of (column_cells self.now) }
+    {
+        match self {
+            Column::Texts(texts) => texts.longest(),
+            Column::Ints(_) => 0,
+            Column::Flags(_) => 0,
+            Column::Stamps(_) => 0,
+        }
+    }
+
+    /// Nothing is done: contracts learn here that each number has 64 bits and each text is UTF-8.
+    pub(crate) fn known(&self)
+        ensures { AllByRecursion IsCell (column_cells self.now) }
+    {
+        match self {
+            Column::Ints(values) => read_all(values.items()),
+            Column::Flags(_) => {}
+            Column::Texts(texts) => {
+                let _count = texts.len();
+            }
+            Column::Stamps(stamps) => read_all(stamps.items()),
         }
     }
 

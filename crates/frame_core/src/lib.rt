@@ -4,6 +4,8 @@
 mod cell;
 mod column;
 mod frame;
+mod limits;
+mod making;
 mod name;
 mod part;
 mod range;

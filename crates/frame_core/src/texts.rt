@@ -1,4 +1,4 @@
-ghost use Rattle.std.specs.Prelude.{◌≡◌, ◌<◌, ◌≤◌, ◌++◌, ◌∷◌, [], length, slice_get, slice_index, Some, IsUtf8, IfOk, OnOk, OnErr};
+ghost use Rattle.std.specs.Prelude.{◌≡◌, ◌<◌, ◌≤◌, ◌++◌, ◌∷◌, [], length, slice_get, slice_index, max, map, fold, sum_by, Some, IsUtf8, IfOk, OnOk, OnErr};
 ghost use Rattle.std.specs.List.{AllByRecursion};
 
 use base_types::{Keep, NoMemory};
@@ -60,6 +60,26 @@ impl TextList {
         ensures texts { AllByRecursion IsUtf8 self.now }
     {
         self.ends.len()
+    }
+
+    /// How many bytes the texts have together.
+    pub fn bytes(&self) -> usize
+        ensures { result ≡ sum_by (λ t. length t) self.now }
+    {
+        self.buffer.as_str().len()
+    }
+
+    /// How many bytes the longest text has.
+    pub fn longest(&self) -> usize
+        ensures { result ≡ fold max 0 (map (λ t. length t) self.now) }
+    {
+        let mut longest = 0;
+        let mut start = 0;
+        for end in &self.ends {
+            longest = longest.max(*end - start);
+            start = *end;
+        }
+        longest
     }
 
     /// The text at a place, counted from 0. It is lent from the buffer, in constant time.
