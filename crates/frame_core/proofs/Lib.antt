@@ -4,3 +4,4 @@ pub mod WholeFrames
 pub mod Totals
 pub mod RawLemmas
 pub mod FrameLimits
+pub mod MakerLemmas

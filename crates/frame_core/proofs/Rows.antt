@@ -107,7 +107,7 @@ length-columns_from (suc n) k rows = ap suc (length-columns_from n (k + 1) rows)
 
 -- ---- one row of columns
 
-later_cells : (i : ℕ) (cols : List (List Cell)) → filter_map (λ c. slice_get c i) (tails cols) ≡ filter_map (λ c. slice_get c (suc i)) cols
+pub later_cells : (i : ℕ) (cols : List (List Cell)) → filter_map (λ c. slice_get c i) (tails cols) ≡ filter_map (λ c. slice_get c (suc i)) cols
 later_cells i [] = refl
 later_cells i ([] ∷ cols) = later_cells i cols
 later_cells i ((x ∷ c) ∷ cols) = ap (cons_option (slice_get c i)) (later_cells i cols)

@@ -7,3 +7,4 @@ pub mod Selecting
 pub mod Limits
 pub mod RawFrames
 pub mod Refusals
+pub mod Making
