@@ -3,6 +3,7 @@
 
 mod cell;
 mod column;
+mod cutting;
 mod frame;
 mod limits;
 mod maker;
@@ -13,6 +14,7 @@ mod range;
 mod raw;
 mod refusal;
 mod schema;
+mod text_parts;
 mod texts;
 
 pub use base_types::{Items, Keep, NoMemory, Text};
