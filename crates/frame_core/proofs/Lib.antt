@@ -9,3 +9,4 @@ pub mod TextParts
 pub mod Counts
 pub mod Parts
 pub mod ColumnParts
+pub mod SelectLemmas

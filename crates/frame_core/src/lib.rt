@@ -14,6 +14,7 @@ mod range;
 mod raw;
 mod refusal;
 mod schema;
+mod selecting;
 mod text_parts;
 mod texts;
 
