@@ -10,3 +10,4 @@ pub mod Counts
 pub mod Parts
 pub mod ColumnParts
 pub mod SelectLemmas
+pub mod JoinLemmas

@@ -5,6 +5,7 @@ mod cell;
 mod column;
 mod cutting;
 mod frame;
+mod joining;
 mod limits;
 mod maker;
 mod making;
