@@ -5,3 +5,9 @@ pub mod Totals
 pub mod RawLemmas
 pub mod FrameLimits
 pub mod MakerLemmas
+pub mod TextParts
+pub mod Counts
+pub mod Parts
+pub mod ColumnParts
+pub mod SelectLemmas
+pub mod JoinLemmas

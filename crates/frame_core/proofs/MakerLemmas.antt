@@ -104,19 +104,17 @@ AreBegun-ended n (suc b) (c ∷ cs) are e = (are.0, AreBegun-ended n b cs are.1 
 pub none_begun-ended : (n : ℕ) (cs : List (List Cell)) → AreBegun n zero cs → filter_map (λ c. slice_get c n) cs ≡ []
 none_begun-ended n cs are = none_begun n cs are
 
-last_of : List ℤ → Option ℤ
+abbrev pub last_of : List ℤ → Option ℤ
 last_of [] = None
 last_of (t ∷ []) = Some t
 last_of (t ∷ u ∷ ts) = last_of (u ∷ ts)
 
-last_is : (rows : List Row) → last_stamp rows ≡ last_of (stamps_of rows)
-unfolding last_of
+pub last_is : (rows : List Row) → last_stamp rows ≡ last_of (stamps_of rows)
 last_is [] = refl
 last_is (r ∷ []) = refl
 last_is (r ∷ s ∷ rows) = last_is (s ∷ rows)
 
 rising_more : (ts : List ℤ) (t : ℤ) → NeverFall ts → InOrder (last_of ts) (Some t) → NeverFall (ts ++ t ∷ [])
-unfolding last_of
 rising_more [] t rising order = tt
 rising_more (s ∷ []) t rising order = (order, tt)
 rising_more (s ∷ u ∷ ts) t rising order = (rising.0, rising_more (u ∷ ts) t rising.1 order)

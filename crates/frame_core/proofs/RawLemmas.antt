@@ -43,7 +43,7 @@ values_lack n rows k earlier names cols lt short =
 pub nothing_left : (n rows k : ℕ) (earlier names : List Text) (cols : List (ColType × List Cell)) → length names ≤ k → length cols ≤ k → bad_column n rows earlier (drop k names) (drop k cols) ≡ None
 nothing_left n rows k earlier names cols no_names no_values = rw (drop_all k names no_names, drop_all k cols no_values) refl
 
-any_reverse : (p : Text → Bool) (xs : List Text) → list_any p (reverse xs) ≡ list_any p xs
+pub any_reverse : (p : Text → Bool) (xs : List Text) → list_any p (reverse xs) ≡ list_any p xs
 any_reverse p [] = refl
 any_reverse p (x ∷ xs) =
     ap (list_any p) (reverse-append (x ∷ []) xs) ∙ list_any-append p (reverse xs) (x ∷ []) ∙ ap (λ b. b || (p x || false)) (any_reverse p xs) ∙ or_last (p x) (list_any p xs)

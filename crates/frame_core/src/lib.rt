@@ -3,7 +3,9 @@
 
 mod cell;
 mod column;
+mod cutting;
 mod frame;
+mod joining;
 mod limits;
 mod maker;
 mod making;
@@ -13,6 +15,8 @@ mod range;
 mod raw;
 mod refusal;
 mod schema;
+mod selecting;
+mod text_parts;
 mod texts;
 
 pub use base_types::{Items, Keep, NoMemory, Text};

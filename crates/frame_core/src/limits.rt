@@ -1,6 +1,6 @@
 //! The limits on frames, tested over columns before any cell is copied.
 
-ghost use Rattle.std.specs.Prelude.{◌≡◌, max, map, fold, sum_by};
+ghost use Rattle.std.specs.Prelude.{◌≡◌, ◌<◌, ◌^◌, max, map, fold, sum_by};
 ghost use Rattle.frame_core.specs.Columns.{column_cells};
 ghost use Rattle.frame_core.specs.Limits.{too_large, longest_text as longest_of, all_text_bytes};
 
@@ -47,7 +47,8 @@ pub fn longest_text(columns: &[Column]) -> usize
 
 /// The bytes of all texts in these columns.
 pub fn text_bytes(columns: &[Column]) -> u128
-    ensures { result ≡ sum_by (λ c. all_text_bytes (column_cells c)) columns.now }
+    ensures sum { result ≡ sum_by (λ c. all_text_bytes (column_cells c)) columns.now }
+    ensures small { result < 2 ^ 127 }
 {
     let mut bytes: u128 = 0;
     for column in columns {

@@ -41,7 +41,7 @@ pub fn too_large(raw: &RawFrame) -> Option<(Extent, u64)>
 }
 
 /// Whether the name at a place stands before it too.
-fn repeats(names: &[ColName], place: usize) -> bool
+pub fn repeats(names: &[ColName], place: usize) -> bool
     requires { place < length names.now }
     ensures { result ≡ list_any (same_text (slice_index_or names.now place [])) (take place names.now) }
 {

@@ -8,8 +8,8 @@ use std::marker::Model;
 /// Texts, one behind another in one buffer, with the end of each. Contracts see the list of the texts' bytes.
 #[derive(Debug, Drop)]
 pub struct TextList {
-    buffer: String,
-    ends: Vec<usize>,
+    pub(crate) buffer: String,
+    pub(crate) ends: Vec<usize>,
 }
 
 impl Model for TextList {
@@ -92,18 +92,18 @@ impl TextList {
     }
 }
 
-/// Where the text at a place begins.
-fn start_of(ends: &[usize], place: usize) -> usize
-    requires { place ≤ length ends.now }
-    ensures { result ≡ slice_index (0 ∷ ends.now) place }
-{
-    if place == 0 { 0 } else { ends[place - 1] }
-}
-
 impl Keep for TextList {
     fn copy(&self, alloc: Global) -> Result<TextList, NoMemory> {
         let buffer = String::from_str(alloc, self.buffer.as_str())?;
         let ends = Vec::from_slice(alloc, &self.ends)?;
         Ok(TextList { buffer, ends })
     }
+}
+
+/// Where the text at a place begins.
+pub(crate) fn start_of(ends: &[usize], place: usize) -> usize
+    requires { place ≤ length ends.now }
+    ensures { result ≡ slice_index (0 ∷ ends.now) place }
+{
+    if place == 0 { 0 } else { ends[place - 1] }
 }
