@@ -1,5 +1,5 @@
 -- A spelled key is read again, whatever follows; and what is read as a key was spelled so.
-use Rattle.std.proofs.Common.{◌≡◌, ℕ, ◌<◌, ◌^◌, ℤ, pos, Bool, true, false, cond, ◌||◌, List, [], ◌∷◌, ◌++◌, ◌+◌, ◌-◌, length, drop, refl, sym, ap, subst, ◌∙◌, append_assoc, arith, Ok, Err, Some, None, Option, nat_eq, rules}
+use Rattle.std.proofs.Common.{◌≡◌, ℕ, ◌^◌, ℤ, pos, Bool, true, false, cond, ◌||◌, List, [], ◌∷◌, ◌++◌, ◌+◌, ◌-◌, length, drop, refl, sym, ap, subst, ◌∙◌, append_assoc, arith, Ok, Some, None, Option, nat_eq, rules}
 use Rattle.std.specs.Int.{w8, w32, w64, to_be_bytes}
 use Rattle.std.specs.Prelude.{nat_le, find}
 use Rattle.std.specs.List.{list_all}
@@ -180,8 +180,8 @@ key_takes bytes k rest fits e =
     let made : Key × List ℕ = (record { kind = kind; name = a2.0.0; client = a3.0.0; serial = a4.0.0; version = a5.0.0; first = a6.0.0; last = a7.0.0 }, a7.0.1) in
     subst (λ (p : Key × List ℕ). KeyRead bytes p.0 p.1) (ok_is made (k, rest) a7.2) (record {
       takes =
-        Takes-then bytes _ a6.0.1 (signed_text a7.0.0) a7.0.1 (Takes-then bytes _ a5.0.1 (signed_text a6.0.0) a6.0.1 (Takes-then bytes _ a4.0.1 (to_be_bytes w64 a5.0.0) a5.0.1 (Takes-then bytes _ a3.0.1 (to_be_bytes w64 a4.0.0) a4.0.1
-        (Takes-then bytes _ a2.0.1 (to_be_bytes w32 a3.0.0) a3.0.1 (Takes-then bytes (kind_code kind ∷ []) a1.0.1 (name_text a2.0.0) a2.0.1 t1 t2.takes) t3.takes) t4.takes) t5.takes) t6.takes) t7.takes;
+          Takes-then bytes _ a6.0.1 (signed_text a7.0.0) a7.0.1 (Takes-then bytes _ a5.0.1 (signed_text a6.0.0) a6.0.1 (Takes-then bytes _ a4.0.1 (to_be_bytes w64 a5.0.0) a5.0.1 (Takes-then bytes _ a3.0.1 (to_be_bytes w64 a4.0.0) a4.0.1
+          (Takes-then bytes _ a2.0.1 (to_be_bytes w32 a3.0.0) a3.0.1 (Takes-then bytes (kind_code kind ∷ []) a1.0.1 (name_text a2.0.0) a2.0.1 t1 t2.takes) t3.takes) t4.takes) t5.takes) t6.takes) t7.takes;
       is_key = record { name = t2.is_name; made = λ free. (z3.1 free, z4.1 free); version = z5.1; stamps = λ free. (z6.1 free, z7.1 free) };
       fits = record { client = t3.below; serial = t4.below; version = t5.below; first = t6.fits; last = t7.fits };
     })

@@ -74,7 +74,10 @@ impl KeyKind {
     pub fn has_stamps(self) -> bool
         ensures { result ≡ has_stamps self }
     {
-        matches!(self, KeyKind::TableData | KeyKind::TableIndex | KeyKind::Staged)
+        matches!(
+            self,
+            KeyKind::TableData | KeyKind::TableIndex | KeyKind::Staged
+        )
     }
 }
 

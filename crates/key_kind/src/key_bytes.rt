@@ -1,4 +1,4 @@
-ghost use Rattle.std.specs.Prelude.{◌≡◌, ℕ, List, [], ◌++◌, length, drop, Ok, IfOk, IfErr};
+ghost use Rattle.std.specs.Prelude.{◌≡◌, ℕ, List, [], ◌++◌, length, drop, Ok, OnOk, IfOk, IfErr};
 ghost use Rattle.key_kind.specs.declared.key.Key.{Key};
 ghost use Rattle.key_kind.specs.Keys.{IsKey, FitsFields};
 ghost use Rattle.key_kind.specs.KeyText.{key_text, key_at};
@@ -22,23 +22,13 @@ pub enum KeyFault {
 const FIXED_LENGTH: usize = 38;
 
 impl Key {
-    /// The one spelling of a key: its kind and the length of its name in a byte each, the name, the client in four bytes, and
-    /// the serial, the version and both stamps in eight bytes each, the high byte first.
-    #[tactic(auto, unfolding(crate::specs::KeyText::key_text))]
+    /// The one spelling of a key, in memory of its own (`put_key`).
     pub fn bytes(&self, alloc: Global) -> Result<Vec<u8>, NoMemory>
         requires { IsKey self.now }
         ensures { IfOk result (λ bytes. bytes.items ≡ key_text self.now) }
     {
-        let name = self.name.text();
-        let mut bytes = Vec::with_capacity(alloc, FIXED_LENGTH + name.len())?;
-        put_u8(&mut bytes, self.kind.code())?;
-        put_u8(&mut bytes, name.len() as u8)?;
-        put_bytes(&mut bytes, name.as_bytes())?;
-        put_u32(&mut bytes, self.client)?;
-        put_u64(&mut bytes, self.serial)?;
-        put_u64(&mut bytes, self.version)?;
-        put_i64(&mut bytes, self.first)?;
-        put_i64(&mut bytes, self.last)?;
+        let mut bytes = Vec::with_capacity(alloc, FIXED_LENGTH + self.name.text().len())?;
+        put_key(&mut bytes, self)?;
         Ok(bytes)
     }
 
@@ -59,6 +49,24 @@ impl Key {
             Err(NoMemory) => Err(KeyFault::NoMemory),
         }
     }
+}
+
+/// Adds the one spelling of a key at the end: its kind and the length of its name in a byte each, the name, the client in four
+/// bytes, and the serial, the version and both stamps in eight bytes each, the high byte first.
+#[tactic(auto, unfolding(crate::specs::KeyText::key_text))]
+pub fn put_key(out: &mut Vec<u8>, key: &Key) -> Result<(), NoMemory>
+    requires { IsKey key.now }
+    ensures { OnOk result (out.new.items ≡ out.old.items ++ key_text key.now) }
+{
+    let name = key.name.text();
+    put_u8(out, key.kind.code())?;
+    put_u8(out, name.len() as u8)?;
+    put_bytes(out, name.as_bytes())?;
+    put_u32(out, key.client)?;
+    put_u64(out, key.serial)?;
+    put_u64(out, key.version)?;
+    put_i64(out, key.first)?;
+    put_i64(out, key.last)
 }
 
 /// What is spelled is read again, whatever follows it. This does nothing: it states a law.

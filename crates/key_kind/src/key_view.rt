@@ -97,7 +97,11 @@ fn read_client(free: bool, bytes: &[u8]) -> Result<(u32, &[u8]), usize>
     ensures { Gives (λ x. (x.0, x.1.now)) result (zero_unless free bytes.now (number_at w32 bytes.now)) }
 {
     let (client, rest) = read_u32(bytes)?;
-    if free || client == 0 { Ok((client, rest)) } else { Err(bytes.len()) }
+    if free || client == 0 {
+        Ok((client, rest))
+    } else {
+        Err(bytes.len())
+    }
 }
 
 /// The next number, which is 0 unless it is free, and what follows. The error is how many bytes are left at the field.
@@ -105,7 +109,11 @@ fn read_number(free: bool, bytes: &[u8]) -> Result<(u64, &[u8]), usize>
     ensures { Gives (λ x. (x.0, x.1.now)) result (zero_unless free bytes.now (number_at w64 bytes.now)) }
 {
     let (number, rest) = read_u64(bytes)?;
-    if free || number == 0 { Ok((number, rest)) } else { Err(bytes.len()) }
+    if free || number == 0 {
+        Ok((number, rest))
+    } else {
+        Err(bytes.len())
+    }
 }
 
 /// The next stamp, which is 0 unless it is free, and what follows. The error is how many bytes are left at the field.
@@ -113,7 +121,11 @@ fn read_stamp(free: bool, bytes: &[u8]) -> Result<(i64, &[u8]), usize>
     ensures { Gives (λ x. (x.0, x.1.now)) result (int_zero_unless free bytes.now (signed_at bytes.now)) }
 {
     let (stamp, rest) = read_i64(bytes)?;
-    if free || stamp == 0 { Ok((stamp, rest)) } else { Err(bytes.len()) }
+    if free || stamp == 0 {
+        Ok((stamp, rest))
+    } else {
+        Err(bytes.len())
+    }
 }
 
 /// The fields of a key, and what follows. The error is how many bytes are left at the field that breaks its rule.

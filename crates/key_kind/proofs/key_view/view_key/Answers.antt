@@ -1,4 +1,4 @@
-use Rattle.std.proofs.Common.{◌≡◌, arith}
+use Rattle.std.proofs.Common.{arith}
 use Rattle.key_kind.specs.KeyViews.{key_of}
 use Rattle.key_kind.proofs.KeyReading.{key_takes}
 use Rattle.key_kind.proofs.key_view.view_key.Goals as goal

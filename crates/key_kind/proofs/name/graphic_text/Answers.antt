@@ -1,4 +1,4 @@
-use Rattle.std.proofs.Common.{◌≡◌, sym, ap, ◌∙◌, cond, Some, None, List, ℕ}
+use Rattle.std.proofs.Common.{sym, ap, ◌∙◌, cond, Some, None, List, ℕ}
 use Rattle.key_kind.proofs.NameRules.{IsUtf8-graphic}
 use Rattle.key_kind.proofs.name.graphic_text.Goals as goal
 

@@ -1,7 +1,6 @@
-use Rattle.std.proofs.Common.{◌≡◌, ◌-◌, ap, sym, subst, ◌∙◌, arith, length, Ok, List, ℕ}
+use Rattle.std.proofs.Common.{◌-◌, ap, sym, subst, ◌∙◌, arith, length, Ok}
 use Rattle.std.proofs.lemmas.List.{length-append}
 use Rattle.key_kind.specs.declared.key.Key.{Key}
-use Rattle.key_kind.specs.Keys.{IsKey}
 use Rattle.key_kind.specs.KeyViews.{key_of}
 use Rattle.key_kind.specs.KeyText.{key_text}
 use Rattle.key_kind.proofs.KeyReading.{KeyRead, key_takes, KeyFound, key_found}
@@ -17,7 +16,7 @@ overflow_sub-result c =
 taken : (c : In-Ok-to_key) → KeyRead c.args.bytes.now c.in-Ok-to_key.key c.in-Ok.read.1.now
 taken c =
     subst (λ (k : Key). KeyRead c.args.bytes.now k c.in-Ok.read.1.now) (sym c.in-Ok-to_key.ensures)
-      (key_takes c.args.bytes.now (key_of c.in-Ok.read.0) c.in-Ok.read.1.now (λ i. omega (arith, c.type_inv.bytes i)) c.in-Ok.ensures.gives)
+    (key_takes c.args.bytes.now (key_of c.in-Ok.read.0) c.in-Ok.read.1.now (λ i. omega (arith, c.type_inv.bytes i)) c.in-Ok.ensures.gives)
 
 -- where it stands
 found : (c : In-Ok-to_key) → KeyFound c.args.bytes.now c.in-Ok-to_key.key (length c.args.bytes.now - length c.in-Ok.read.1.now)

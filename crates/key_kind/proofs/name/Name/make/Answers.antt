@@ -1,7 +1,7 @@
-use Rattle.std.proofs.Common.{◌≡◌, ◌≤◌, arith, sym, ap, ◌∙◌, not, subst, None, List, ℕ, length}
+use Rattle.std.proofs.Common.{◌≡◌, ◌≤◌, arith, sym, ap, ◌∙◌, not, None, List, ℕ, length}
 use Rattle.std.proofs.lemmas.Bool.Decides.{nat_tests}
 use Rattle.std.specs.List.{position}
-use Rattle.key_kind.specs.Names.{IsName, is_graphic}
+use Rattle.key_kind.specs.Names.{is_graphic}
 use Rattle.key_kind.proofs.NameRules.{IsName-from}
 use Rattle.key_kind.proofs.name.Name.make.Goals as goal
 
