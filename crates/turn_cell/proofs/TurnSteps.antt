@@ -49,6 +49,14 @@ module _ {V E : Type 0} (stands : V → List E → Type 0) (author : E → ℕ) 
   owns : (log : List E) (v : View E) → Fits author log v → v.badge.in_use ≡ true → Owns author v log
   owns log v f live = record { until_seen = f.until_seen; own = f.own live; kept = f.kept }
 
+  -- while the turn is free, no seat has begun a row
+  none_begun : (s : St) (r : Rule s) → IsHome stands greatest r.log r.top r.begun s → (id : ℕ) (v : View E) → get_elem? s.views id ≡ some v → v.begun ≡ None
+  none_begun s r h id v at = go v.begun refl
+    where
+      go : (o : Option ℕ) → v.begun ≡ o → o ≡ None
+      go None e = refl
+      go (Some q) e = absurd (let on = (r.rowed.holds id q v at e).0 in let off = h.free id v at in cc)
+
   abbrev TakeGoal : ℕ → ℕ → Sa → St → Type 0
   TakeGoal slots id me z = (w : View E) × (a : Act (Option V)) × Valid z.homes me.1 a × Rule (stepped z 1 (either (eqb (get_or z.words 1 0) 0) 1 (get_or z.words 1 0)) id me.1 w a)
       × TakesTurn stands author row greatest (step slots 1 0 1 none) me (get_or z.words 1 0) (w, carried_after me.1 a)
@@ -66,7 +74,7 @@ module _ {V E : Type 0} (stands : V → List E → Type 0) (author : E → ℕ) 
           first = r.first;
           top = top;
           begun = r.begun;
-          rowed = rowed_set row log r.begun s.views r.rowed id me.0 w at refl (λ q n a. r.rowed.noted id q n me.0 at a) (λ _ _. refl);
+          rowed = rowed_set row log r.begun s.views r.rowed id me.0 w at (sym (none_begun s r h id me.0 at)) (λ q n a. r.rowed.noted id q n me.0 at a) (λ _ _. refl);
           place = inr record {
             holder = id;
             view = w;

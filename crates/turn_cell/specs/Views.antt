@@ -17,9 +17,9 @@ module _ {E : Type 0} where
   abbrev pub first_view : ℕ → View E
   first_view n = record { badge = record { in_use = true; first = n; number = n; joined = []; gave = [] }; seen = []; told = []; until = 0; turn = false; top = n; begun = None; notes = [] }
 
-  -- the seat takes the turn, sees the whole history and knows the greatest number given out
+  -- the seat takes the turn, sees the whole history, knows the greatest number given out and has begun no row
   abbrev pub taken_view : View E → List E → ℕ → View E
-  taken_view v log top = record { badge = v.badge; seen = log; told = v.told; until = v.until; turn = true; top = top; begun = v.begun; notes = v.notes }
+  taken_view v log top = record { badge = v.badge; seen = log; told = v.told; until = v.until; turn = true; top = top; begun = None; notes = v.notes }
 
   -- the seat adds an entry, and has begun no row any more
   abbrev pub stepped_view : View E → E → View E
