@@ -39,11 +39,11 @@ pub fn two<R: Threads + Wait + Sync>(
         rt,
         || -> (Seat<Tally>, usize)
             requires { (one.table_id ≡ shared.now) × Rests one }
-            ensures { (result.0.table_id ≡ one.table_id) × Rests result.0 × ((view result.0).badge ≡ (view one).badge) × (marks_by (view one).badge.number (seen result.0) ≡ marks_by (view one).badge.number (seen one) ++ marks (view one).badge.number (take result.1 a.now)) }
+            ensures { (result.0.table_id ≡ one.table_id) × Rests result.0 × ((view result.0).badge ≡ (view one).badge) × (marks_by (view one).badge.number (seen result.0) ≡ marks_by (view one).badge.number (seen one) ++ marks (view one).badge.number (take result.1 a.entry.now)) }
         { add_list(rt, shared, one, a) },
         || -> (Seat<Tally>, usize)
             requires { (two.table_id ≡ shared.now) × Rests two }
-            ensures { (result.0.table_id ≡ two.table_id) × Rests result.0 × ((view result.0).badge ≡ (view two).badge) × (marks_by (view two).badge.number (seen result.0) ≡ marks_by (view two).badge.number (seen two) ++ marks (view two).badge.number (take result.1 b.now)) }
+            ensures { (result.0.table_id ≡ two.table_id) × Rests result.0 × ((view result.0).badge ≡ (view two).badge) × (marks_by (view two).badge.number (seen result.0) ≡ marks_by (view two).badge.number (seen two) ++ marks (view two).badge.number (take result.1 b.entry.now)) }
         { add_list(rt, shared, two, b) },
     );
     cell.join(&mut one, two);
@@ -81,11 +81,11 @@ pub fn add_all<R: Threads + Wait + Sync>(
         rt,
         || -> (Seat<Tally>, bool)
             requires { IsSync R.row × (seat.table_id ≡ cell.now) × Rests seat }
-            ensures { (result.0.table_id ≡ seat.table_id) × Rests result.0 × IsPrefix (seen seat) (seen result.0) × (Has (view seat).badge (view seat).badge.first → Has (view result.0).badge (view result.0).badge.first) × ((ns : List ℕ) → Awaits (view seat).badge ns → Awaits (view result.0).badge ns) × OnTrue result.1 ((m : ℕ) → Gave (view seat).badge m → AllMade rest.now m (view result.0).badge (seen result.0)) }
+            ensures { (result.0.table_id ≡ seat.table_id) × Rests result.0 × IsPrefix (seen seat) (seen result.0) × (Has (view seat).badge (view seat).badge.first → Has (view result.0).badge (view result.0).badge.first) × ((ns : List ℕ) → Awaits (view seat).badge ns → Awaits (view result.0).badge ns) × OnTrue result.1 ((m : ℕ) → Gave (view seat).badge m → AllMade rest.entry.now m (view result.0).badge (seen result.0)) }
         { add_all(rt, cell, seat, rest) },
         || -> (Seat<Tally>, usize)
             requires { (other.table_id ≡ cell.now) × Rests other }
-            ensures { (result.0.table_id ≡ other.table_id) × Rests result.0 × ((view result.0).badge ≡ (view other).badge) × (result.1 ≤ length amounts.now) × (marks_by (view other).badge.number (seen result.0) ≡ marks_by (view other).badge.number (seen other) ++ marks (view other).badge.number (take result.1 amounts.now)) }
+            ensures { (result.0.table_id ≡ other.table_id) × Rests result.0 × ((view result.0).badge ≡ (view other).badge) × (result.1 ≤ length amounts.entry.now) × (marks_by (view other).badge.number (seen result.0) ≡ marks_by (view other).badge.number (seen other) ++ marks (view other).badge.number (take result.1 amounts.entry.now)) }
         { add_list(rt, cell, other, amounts) },
     );
     merge(rt, cell, &mut seat, other);
