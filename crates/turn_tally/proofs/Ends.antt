@@ -1,5 +1,5 @@
 -- The badge of the first seat, after the second was joined into it, and jobs that are kept.
-use Rattle.std.proofs.Common.{◌≡◌, ◌<◌, ◌≤◌, ℕ, true, ◌⊎◌, List, [], ◌∷◌, ◌++◌, refl, inl, inr, ⊎_elim, sym, ap, ◌∙◌, subst, get_or, length, take, arith}
+use Rattle.std.proofs.Common.{◌≡◌, ◌<◌, ℕ, true, ◌⊎◌, List, [], ◌∷◌, ◌++◌, refl, inl, inr, ⊎_elim, sym, ap, ◌∙◌, subst, get_or, length, take, arith}
 use Rattle.std.proofs.lemmas.List.{take_all}
 use Rattle.std.specs.Prelude.{All}
 use Rattle.turn_cell.specs.declared.badge.Badge.{Badge}

@@ -115,6 +115,7 @@ pub fn total<R: Wait>(rt: &R, cell: &TurnCell<Tally>, seat: &mut Seat<Tally>) ->
     ensures rests { Rests seat.new }
     ensures badge { (view seat.new).badge ≡ (view seat.old).badge }
     ensures later { IsPrefix (seen seat.old) (seen seat.new) }
+    ensures own { marks_by (view seat.old).badge.number (seen seat.new) ≡ marks_by (view seat.old).badge.number (seen seat.old) }
     ensures total { result ≡ total_of (seen seat.new) }
 {
     let tally = cell.take(rt, seat);

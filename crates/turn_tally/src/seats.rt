@@ -1,5 +1,5 @@
 // Seats at a cell with a tally: the first, further ones, and two that become one.
-ghost use Rattle.std.specs.Prelude.{◌≡◌, ℕ, ◌<◌, List, true, [], ◌∷◌, IfOk, IfSome, IfNone, length};
+ghost use Rattle.std.specs.Prelude.{◌≡◌, ◌≢◌, ◌^◌, ◌-◌, ℕ, ◌<◌, List, true, [], ◌∷◌, IfOk, IfSome, IfNone, length};
 ghost use mathlib.Core.List.{IsPrefix};
 ghost use Rattle.turn_cell.specs.Badges.{Has, Awaits, badge_after_split, new_badge, joined_badge};
 ghost use Rattle.turn_cell.specs.Seats.{view, seen, Rests};
@@ -50,6 +50,7 @@ pub fn share<R: Wait>(rt: &R, cell: &TurnCell<Tally>, seat: &mut Seat<Tally>) ->
     ensures gave { IfSome result (λ p. (view seat.new).badge ≡ badge_after_split (view seat.old).badge (view p).badge.number) }
     ensures above { IfSome result (λ p. (m : ℕ) → Gave (view seat.old).badge m → m < (view p).badge.number) }
     ensures none { IfNone result ((view seat.new).badge ≡ (view seat.old).badge) }
+    ensures last { IfNone result ((view seat.new).top ≡ 2 ^ 32 - 1) }
 {
     let mut tally = cell.take(rt, seat);
     if tally.given == u32::MAX {
@@ -71,6 +72,7 @@ pub fn merge<R: Wait>(rt: &R, cell: &TurnCell<Tally>, seat: &mut Seat<Tally>, ot
     ensures cell { seat.new.table_id ≡ seat.old.table_id }
     ensures rests { Rests seat.new }
     ensures badge { (view seat.new).badge ≡ joined_badge (view seat.old).badge (view other).badge (length (seen other)) }
+    ensures apart { (view seat.old).badge.number ≢ (view other).badge.number }
     ensures later { IsPrefix (seen seat.old) (seen seat.new) }
     ensures other_later { IsPrefix (seen other) (seen seat.new) }
     ensures joined { (n : ℕ) → Has (view seat.old).badge n → marks_by n (seen seat.new) ≡ marks_by n (seen seat.old) }

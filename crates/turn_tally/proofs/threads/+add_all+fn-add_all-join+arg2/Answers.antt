@@ -1,11 +1,9 @@
-use Rattle.std.proofs.Common.{rules, true, false, ◌≡◌, ◌∷◌, ◌++◌, ℕ, [], List, sym, ap, ◌∙◌, subst, length, inl, inr, refl, take, eqb-true, arith, ◌≤◌}
+use Rattle.std.proofs.Common.{rules, true, false, ◌≡◌, ◌∷◌, ℕ, [], List, sym, ap, ◌∙◌, subst, length, inl, inr, refl, eqb-true}
 use Rattle.std.proofs.lemmas.Bool.{OnTrue_at, OnTrue_from}
-use Rattle.std.proofs.lemmas.List.{take_all}
 use Rattle.turn_cell.specs.declared.badge.Badge.{Badge}
 use Rattle.turn_cell.specs.Badges.{Has, Awaits}
 use Rattle.turn_cell.proofs.Sole.{awaits_split, has_left}
 use Rattle.turn_tally.specs.Jobs.{AllMade, Gave}
-use Rattle.turn_tally.specs.Marks.{marks, marks_by}
 use Rattle.turn_tally.proofs.Ends.{AllMade-more}
 use Rattle.turn_tally.proofs.threads.+add_all+fn-add_all-join+arg2.Goals.{then-all, else-all}
 use Rattle.turn_tally.proofs.threads.+add_all+fn-add_all-join+arg2.Goals as goal
@@ -27,7 +25,6 @@ returns-clause-made g t c = OnTrue_from _ ((m : ℕ) → Gave c.args.seat.me.0.b
     let one = c.join-seat.result.0.0.me.0 in let n : ℕ = c.in-Some-share.other.me.0.badge.number in let share = c.in-Some-share.ensures in let second = c.join-seat.ensures.second in let first = c.join-seat.ensures.first in
     let rest : AllMade c.in-Some.rest.now n one.badge one.seen = OnTrue_at {P = (k : ℕ) → Gave c.share.new.seat.me.0.badge k → AllMade c.in-Some.rest.now k one.badge one.seen} both.0 first.5 n (subst (λ (b : Badge). Gave b n) (sym share.gave) (inr (inl refl))) in
     let jobs : c.items-amounts.result.now ∷ c.in-Some.rest.now ≡ c.args.jobs.now = search rules in
-    
     subst (λ (js : List (List ℕ)). AllMade js m c.merge.new.seat.me.0.badge c.merge.new.seat.me.0.seen) jobs
     (AllMade-more one c.join-seat.result.1.0.me.0 c.merge.new.seat.me.0 m n c.join-seat.result.1.1 c.in-Some-share.other.me.0.seen c.items-amounts.result.now c.in-Some.rest.now (share.above m h) second.1.0 (ap (λ (b : Badge). b.number) second.2) second.4 share.other_none both.1
-        c.merge.ensures.badge c.merge.ensures.joined c.merge.ensures.other_joined rest))
+    c.merge.ensures.badge c.merge.ensures.joined c.merge.ensures.other_joined rest))
