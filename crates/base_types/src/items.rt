@@ -32,6 +32,15 @@ impl<T> Items<T> {
         }
     }
 
+    /// No items, with memory for so many.
+    pub fn with_capacity(alloc: Global, count: usize) -> Result<Items<T>, NoMemory>
+        ensures { IfOk result (λ made. made ≡ []) }
+    {
+        Ok(Items {
+            items: Vec::with_capacity(alloc, count)?,
+        })
+    }
+
     /// The items of a `Vec`, which are moved and not copied.
     pub fn from_vec(items: Vec<T>) -> Items<T>
         ensures { result ≡ items.items }
@@ -84,6 +93,25 @@ impl<T: Drop> Items<T> {
         ensures err { OnErr result (self.new ≡ self.old) }
     {
         Ok(self.items.push(item)?)
+    }
+}
+
+impl<T: Copy> Items<T> {
+    /// The items of a slice, copied at once.
+    pub fn from_slice(alloc: Global, items: &[T]) -> Result<Items<T>, NoMemory>
+        ensures { IfOk result (λ copy. copy ≡ items.now) }
+    {
+        Ok(Items {
+            items: Vec::from_slice(alloc, items)?,
+        })
+    }
+
+    /// Adds the items of a slice behind the others, all or none.
+    pub fn extend(&mut self, items: &[T]) -> Result<(), NoMemory>
+        ensures ok { OnOk result (self.new ≡ self.old ++ items.now) }
+        ensures err { OnErr result (self.new ≡ self.old) }
+    {
+        Ok(self.items.extend_from_slice(items)?)
     }
 }
 

@@ -15,3 +15,9 @@ impl Keep for i64 {
         Ok(*self)
     }
 }
+
+impl<A: Keep, B: Keep> Keep for (A, B) {
+    fn copy(&self, alloc: Global) -> Result<(A, B), NoMemory> {
+        Ok((self.0.copy(alloc)?, self.1.copy(alloc)?))
+    }
+}

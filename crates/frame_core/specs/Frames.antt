@@ -2,11 +2,12 @@
 --     Row, Frame              a stamp and cells; a schema and rows
 --     type_of, cell_of        the type of a cell, and the cell that is lent
 --     NeverFall, IsFrame      what each frame keeps: cells of their columns' types, and stamps that never fall
+--     stamp_at, cell_at, type_at      a row's stamp, a cell and a column's type, by their places counted from 0
 --     first_stamp, last_stamp     the stamps of the first and of the last row
 --     rows_below, rows_within, rows_above, rows_between      the rows by a range
 --     slice, concat_rows      the rows from one place up to another; the rows of both
 --     replace_range           what an update makes of the base's rows
-use Rattle.std.specs.Prelude.{◌≡◌, ℕ, ℤ, ◌≤ℤ◌, pos, false, not, List, [], ◌∷◌, ◌++◌, map, Option, Some, None, ⊤, IsUtf8, FitsSigned, slice_range, count_by, filter}
+use Rattle.std.specs.Prelude.{◌≡◌, ℕ, ℤ, ◌≤ℤ◌, pos, false, not, List, [], ◌∷◌, ◌++◌, map, Option, Some, None, ⊤, IsUtf8, FitsSigned, slice_get, slice_range, count_by, filter, option_map, option_and_then}
 use Rattle.std.specs.Int.{w64}
 use Rattle.std.specs.List.{AllZip, AllByRecursion}
 use Rattle.frame_core.specs.declared.cell.ColType.{ColType}
@@ -75,6 +76,18 @@ pub record IsFrame (frame : Frame) : Type 0 where
   pub untimed : frame.schema.timed ≡ false → AllByRecursion (λ r. r.stamp ≡ pos 0) frame.rows
 
 -- ---- rows
+
+-- the stamp of the row at a place
+abbrev pub stamp_at : Frame → ℕ → Option ℤ
+stamp_at f row = option_map (λ (r : Row). r.stamp) (slice_get f.rows row)
+
+-- the cell of a row at a column
+abbrev pub cell_at : Frame → ℕ → ℕ → Option Cell
+cell_at f row column = option_and_then (λ (r : Row). slice_get r.cells column) (slice_get f.rows row)
+
+-- the type of the column at a place
+abbrev pub type_at : Frame → ℕ → Option ColType
+type_at f column = option_map (λ (c : Head). c.1) (slice_get f.schema.columns column)
 
 -- the stamp of the first row
 abbrev pub first_stamp : List Row → Option ℤ

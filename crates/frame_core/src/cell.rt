@@ -1,4 +1,5 @@
-use base_types::Text;
+use base_types::{Keep, NoMemory, Text};
+use std::alloc::Global;
 
 /// The type of a column.
 #[derive(Clone, Copy, Debug, PartialEq, Eq)]
@@ -29,4 +30,10 @@ pub enum Cell {
     Flag(bool),
     Text(Text),
     Stamp(i64),
+}
+
+impl Keep for ColType {
+    fn copy(&self, _alloc: Global) -> Result<ColType, NoMemory> {
+        Ok(*self)
+    }
 }

@@ -1,3 +1,8 @@
+ghost use Rattle.std.specs.Prelude.{◌≡◌, ◌<◌, length, Some};
+ghost use Rattle.frame_core.specs.Frames.{IsFrame, stamps_of, stamp_at, cell_at, type_at, cell_of as lent_cell};
+ghost use Rattle.frame_core.specs.Columns.{column_type, column_cells, cells_of};
+
+use crate::cell::CellRef;
 use crate::column::Column;
 use crate::schema::Schema;
 use base_types::Items;
@@ -21,4 +26,55 @@ impl Model for Frame {
     ghost view = { λ f. record { schema = f.schema; rows = rows_from f.stamps (map column_cells f.columns) } };
 
     ghost invariant = { λ f. IsWhole f.schema f.stamps f.columns };
+}
+
+impl Frame {
+    /// The schema, lent.
+    pub fn schema(&self) -> &Schema
+        ensures schema { result.now ≡ self.now.schema }
+        ensures frame { IsFrame self.now }
+    {
+        &self.schema
+    }
+
+    /// How many rows there are.
+    pub fn rows(&self) -> u64
+        ensures rows { result ≡ length self.now.rows }
+        ensures frame { IsFrame self.now }
+    {
+        self.stamps.len() as u64
+    }
+
+    /// The stamps of all rows, lent.
+    pub fn stamps(&self) -> &[i64]
+        ensures { result.now ≡ stamps_of self.now.rows }
+    {
+        self.stamps.items()
+    }
+
+    /// The stamp of a row, counted from 0.
+    pub fn stamp(&self, row: u64) -> i64
+        requires { row < length self.now.rows }
+        ensures { stamp_at self.now row ≡ Some result }
+    {
+        self.stamps.items()[row as usize]
+    }
+
+    /// The cells of a column, counted from 0, lent.
+    pub fn column(&self, column: u64) -> &Column
+        requires { column < length self.now.schema.columns }
+        ensures cells { column_cells result.now ≡ cells_of column self.now.rows }
+        ensures kind { type_at self.now column ≡ Some (column_type result.now) }
+    {
+        self.columns.at(column as usize)
+    }
+
+    /// The cell of a row at a column, both counted from 0, in constant time.
+    pub fn cell(&self, row: u64, column: u64) -> CellRef<'_>
+        requires row { row < length self.now.rows }
+        requires column { column < length self.now.schema.columns }
+        ensures { cell_at self.now row column ≡ Some (lent_cell result) }
+    {
+        self.columns.at(column as usize).cell(row as usize)
+    }
 }

@@ -1,0 +1,70 @@
+ghost use Rattle.std.specs.Prelude.{◌≡◌, ℕ, Bool, length, IfOk, IfErr, option_copied};
+ghost use Rattle.std.specs.Arc.{arc_value};
+ghost use Rattle.bucket_core.specs.History.{History, puts_by};
+ghost use Rattle.bucket_core.specs.Laws.{IsLawful, Looks};
+ghost use Rattle.bucket_core.specs.Calls.{IsSteady, IsFound, IsListed, RefusesLook, RefusesPut, DidChange, put_event};
+
+use crate::answer::{Found, Listed, StoreErr};
+use crate::body::Body;
+use crate::law::Law;
+use key_kind::{Key, KeyKind, Name};
+use std::sync::{Arc, Wait};
+
+/// A store as one client sees it. What the bucket has seen is the front of the store's one history; each call adds to it what
+/// other clients did since, and then at most its own event.
+pub trait Bucket<L: Law> {
+    /// The events that the bucket has seen, the newest first.
+    ghost seen: { Self → History };
+
+    /// The client's number.
+    ghost number: { Self → ℕ };
+
+    /// The length from which on the store takes no more events.
+    ghost limit: { Self → ℕ };
+
+    /// How often the store has failed.
+    ghost faults: { Self → ℕ };
+
+    /// Whether the store has no other client.
+    ghost sole: { Self → Bool };
+
+    /// The number of events that the bucket has seen.
+    fn place(&self) -> u64
+        ensures { result ≡ length (seen self.now) };
+
+    /// The client's number.
+    fn client(&self) -> u32
+        ensures { result ≡ number self.now };
+
+    /// The serial of the client's next put.
+    fn serial(&self) -> u64
+        ensures { result ≡ puts_by (number self.now) (seen self.now) };
+
+    /// The body under a key, if any. It may wait for the store.
+    fn get<R: Wait>(&mut self, rt: &R, key: &Key) -> Result<Found, StoreErr>
+        ensures looks { Looks L.claimed (number self.old) (sole self.old) (seen self.old) (seen self.new) }
+        ensures steady { IsSteady number limit faults sole self.old self.new }
+        ensures found { IfOk result (IsFound (seen self.new) key.now) }
+        ensures refused { IfErr result (RefusesLook (faults self.old) (faults self.new)) };
+
+    /// The stored keys of a kind and of a name, where these are given, in the order of keys. It may wait for the store.
+    fn list<R: Wait>(
+        &mut self,
+        rt: &R,
+        kind: Option<KeyKind>,
+        name: Option<&Name>,
+    ) -> Result<Listed, StoreErr>
+        ensures looks { Looks L.claimed (number self.old) (sole self.old) (seen self.old) (seen self.new) }
+        ensures steady { IsSteady number limit faults sole self.old self.new }
+        ensures listed { IfOk result (IsListed (seen self.new) kind (option_copied name.entry)) }
+        ensures refused { IfErr result (RefusesLook (faults self.old) (faults self.new)) };
+
+    /// Puts a body under a key, and answers the place of the event. It may wait for the store.
+    fn put<R: Wait>(&mut self, rt: &R, key: Key, body: Arc<Body>) -> Result<u64, StoreErr>
+        requires claim { L.claimed (seen self.old) (put_event (number self.old) key (arc_value body)) }
+        ensures steady { IsSteady number limit faults sole self.old self.new }
+        ensures did { DidChange L.claimed (number self.old) (sole self.old) (limit self.old) (faults self.old) (faults self.new) (seen self.old) (seen self.new) (put_event (number self.old) key (arc_value body)) (RefusesPut (limit self.old)) result };
+
+    /// Each event that the bucket has seen was lawful after those before it.
+    ghost lawful: { (bucket : Self) → ∥ IsLawful L.claimed (seen bucket) ∥₁ };
+}

@@ -1,0 +1,65 @@
+use crate::body::SharedBody;
+use base_types::Items;
+use frame_core::{Frame, Range};
+use key_kind::{Holder, Key, SnapName, Symbol};
+
+/// The name of a staged piece: the client that staged it and the serial of its key.
+#[derive(Clone, Copy, Debug, PartialEq, Eq)]
+pub struct PieceName {
+    pub client: u32,
+    pub serial: u64,
+}
+
+/// What one commit changes of its symbol. Moments are in nanoseconds since 1970.
+#[derive(Drop)]
+pub enum Change {
+    /// A new version of this frame.
+    Wrote { frame: Frame, at: i64 },
+    /// A new version: the base's rows and then these.
+    Appended { frame: Frame, at: i64 },
+    /// A new version: the base's rows outside the range, and these in it.
+    Updated { frame: Frame, range: Range, at: i64 },
+    /// These versions are buried.
+    Removed { versions: Items<u64> },
+    /// The holder holds this version.
+    Held { holder: Holder, version: u64 },
+    /// The holder's hold ends.
+    Released { holder: Holder },
+    /// These staged pieces are consumed.
+    Discarded { pieces: Items<PieceName> },
+}
+
+/// One event of a store. Each sets one key: to a body, or to nothing.
+#[derive(Drop)]
+pub enum Event {
+    /// An object is put under a key of its own.
+    Put {
+        client: u32,
+        key: Key,
+        body: SharedBody,
+    },
+    /// The symbol's reference, which was `was`, is set to an element of its chain.
+    Refer {
+        client: u32,
+        symbol: Symbol,
+        was: Option<Key>,
+        entry: Key,
+        changes: Items<Change>,
+    },
+    /// The snapshot's name stands from now on.
+    Name {
+        client: u32,
+        snap: SnapName,
+        body: SharedBody,
+    },
+    /// The snapshot's name stands no more.
+    Unname {
+        client: u32,
+        snap: SnapName,
+    },
+    /// The object of a key is dropped.
+    Drop {
+        client: u32,
+        key: Key,
+    },
+}

@@ -1,0 +1,32 @@
+//! The events of a store, what they leave in it, and the store as one client sees it.
+#![tactic(auto)]
+
+mod answer;
+mod body;
+mod bucket;
+mod entry;
+mod event;
+mod event_log;
+mod law;
+mod plain;
+
+pub use answer::{Dropped, Found, Listed, StoreErr};
+pub use base_types::{Items, Keep, NoMemory};
+pub use body::{Body, SharedBody};
+pub use bucket::Bucket;
+pub use event::{Change, Event, PieceName};
+use key_kind::Key;
+pub use law::Law;
+pub use plain::PlainBucket;
+
+/// Numbers of versions, seen as a list.
+pub type Numbers = Items<u64>;
+
+/// Names of staged pieces, seen as a list.
+pub type Pieces = Items<PieceName>;
+
+/// The changes of one commit, seen as a list.
+pub type Changes = Items<Change>;
+
+/// Keys, seen as a list.
+pub type Keys = Items<Key>;

@@ -1,0 +1,119 @@
+ghost use Rattle.std.specs.Prelude.{◌≡◌, ◌<◌, [], ◌∷◌, reverse, true, IfOk};
+ghost use Rattle.std.specs.Arc.{arc_value};
+ghost use Rattle.bucket_core.specs.History.{puts_by};
+ghost use Rattle.bucket_core.specs.Laws.{IsLawful};
+
+use crate::answer::{Found, Listed, StoreErr};
+use crate::body::Body;
+use crate::bucket::Bucket;
+use crate::event::Event;
+use crate::event_log::EventLog;
+use crate::law::Law;
+use base_types::NoMemory;
+use key_kind::{Key, KeyKind, Name};
+use std::alloc::Global;
+use std::marker::PhantomData;
+use std::sync::{Arc, Wait};
+
+/// A store of one client, in memory. It never answers `Fault`.
+#[derive(Drop)]
+pub struct PlainBucket<L: Law> {
+    alloc: Global,
+    number: u32,
+    most: u64,
+    next: u64,
+    log: EventLog,
+    law: PhantomData<L>,
+    ghost counted: { next ≡ puts_by number log },
+    ghost lawful: { ∥ IsLawful L.claimed log ∥₁ },
+}
+
+impl<L: Law> PlainBucket<L> {
+    /// An empty store of this client, which takes no more events once it has as many as the limit.
+    pub fn make(alloc: Global, client: u32, limit: u64) -> Result<PlainBucket<L>, NoMemory>
+        ensures empty { IfOk result (λ bucket. ⟦<PlainBucket<L> as Bucket<L>>⟧.seen bucket ≡ []) }
+        ensures client { IfOk result (λ bucket. ⟦<PlainBucket<L> as Bucket<L>>⟧.number bucket ≡ client) }
+        ensures limit { IfOk result (λ bucket. ⟦<PlainBucket<L> as Bucket<L>>⟧.limit bucket ≡ limit) }
+        ensures sole { IfOk result (λ bucket. ⟦<PlainBucket<L> as Bucket<L>>⟧.sole bucket ≡ true) }
+    {
+        Ok(PlainBucket {
+            alloc,
+            number: client,
+            most: limit,
+            next: 0,
+            log: EventLog::new(alloc),
+            law: PhantomData,
+        })
+    }
+
+    /// The events of the store, the oldest first.
+    pub fn events(&self) -> &[Event]
+        ensures { reverse result.now ≡ ⟦<PlainBucket<L> as Bucket<L>>⟧.seen self.now }
+    {
+        self.log.events()
+    }
+}
+
+impl<L: Law> Bucket<L> for PlainBucket<L> {
+    ghost use Rattle.std.specs.Prelude.{true};
+
+    ghost seen = { λ b. b.log };
+
+    ghost number = { λ b. b.number };
+
+    ghost limit = { λ b. b.most };
+
+    ghost faults = { λ b. 0 };
+
+    ghost sole = { λ b. true };
+
+    ghost lawful = { λ b. b.lawful };
+
+    fn place(&self) -> u64 {
+        self.log.len()
+    }
+
+    fn client(&self) -> u32 {
+        self.number
+    }
+
+    fn serial(&self) -> u64 {
+        self.next
+    }
+
+    fn get<R: Wait>(&mut self, _rt: &R, key: &Key) -> Result<Found, StoreErr> {
+        match self.log.find(key) {
+            Ok(found) => Ok(found),
+            Err(NoMemory) => Err(StoreErr::NoMemory),
+        }
+    }
+
+    fn list<R: Wait>(
+        &mut self,
+        _rt: &R,
+        kind: Option<KeyKind>,
+        name: Option<&Name>,
+    ) -> Result<Listed, StoreErr> {
+        match self.log.list(self.alloc, kind, name) {
+            Ok(keys) => Ok(Listed {
+                keys,
+                place: self.log.len(),
+            }),
+            Err(NoMemory) => Err(StoreErr::NoMemory),
+        }
+    }
+
+    fn put<R: Wait>(&mut self, _rt: &R, key: Key, body: Arc<Body>) -> Result<u64, StoreErr> {
+        let count = self.log.len();
+        if self.most <= count {
+            return Err(StoreErr::Spent { count });
+        }
+        match self.log.put(self.alloc, self.number, key, body) {
+            Ok(()) => {
+                self.next += 1;
+                Ok(count + 1)
+            }
+            Err(NoMemory) => Err(StoreErr::NoMemory),
+        }
+    }
+}
