@@ -1,6 +1,6 @@
 -- The rows of one frame behind those of another.
-use Rattle.std.proofs.Common.{◌≡◌, ℕ, zero, suc, ◌+◌, ◌<◌, ◌≤◌, max, Bool, true, false, not, cond, ◌&&◌, ℤ, ◌≤ℤ◌, pos, List, [], ◌∷◌, ◌++◌, length, map, get_or, take, drop, Option, Some, None, Result, Ok, Err, refl, sym, ap, ◌∙◌, subst, arith, drop-cons, add-one, length-append}
-use Rattle.std.specs.Prelude.{slice_get, fold, sum_by, FitsSigned}
+use Rattle.std.proofs.Common.{◌≡◌, ℕ, zero, suc, ◌+◌, ◌<◌, ◌≤◌, max, Bool, true, false, cond, ◌&&◌, ℤ, List, [], ◌∷◌, ◌++◌, length, map, get_or, take, drop, Option, Some, None, refl, sym, ap, ◌∙◌, subst, arith, drop-cons, add-one, length-append}
+use Rattle.std.specs.Prelude.{fold, sum_by, FitsSigned}
 use Rattle.std.specs.Int.{w64}
 use Rattle.std.specs.List.{AllByRecursion, zip}
 use Rattle.std.proofs.lemmas.List.{length-map, drop_all, map-append, take_all, take_more, get_or-map}
@@ -182,9 +182,9 @@ limits_joined schema other stamps more_stamps cols more_cols f g w more f_is g_i
     let more_rows = rows_from more_stamps (map column_cells more_cols) in
     let count : length (rows ++ more_rows) ≡ length stamps + length more_stamps = length-append rows more_rows ∙ omega (arith, length-rows_from stamps (map column_cells cols), length-rows_from more_stamps (map column_cells more_cols)) in
     let longest : fold max 0 (map (λ (r : Row). longest_text r.cells) (rows ++ more_rows)) ≡ max (fold max 0 (map (λ (c : Column). longest_text (column_cells c)) cols)) (fold max 0 (map (λ (c : Column). longest_text (column_cells c)) more_cols)) =
-        ap (fold max 0) (map-append (λ (r : Row). longest_text r.cells) rows more_rows) ∙ fold_max-append (map (λ (r : Row). longest_text r.cells) rows) (map (λ (r : Row). longest_text r.cells) more_rows) ∙ rw (longest-rows_from stamps (map column_cells cols) (same_lengths schema stamps cols w), longest-rows_from more_stamps (map column_cells more_cols) (same_lengths other more_stamps more_cols more), map-map longest_text column_cells cols, map-map longest_text column_cells more_cols) refl in
+    ap (fold max 0) (map-append (λ (r : Row). longest_text r.cells) rows more_rows) ∙ fold_max-append (map (λ (r : Row). longest_text r.cells) rows) (map (λ (r : Row). longest_text r.cells) more_rows) ∙ rw (longest-rows_from stamps (map column_cells cols) (same_lengths schema stamps cols w), longest-rows_from more_stamps (map column_cells more_cols) (same_lengths other more_stamps more_cols more), map-map longest_text column_cells cols, map-map longest_text column_cells more_cols) refl in
     let bytes : sum_by (λ (r : Row). all_text_bytes r.cells) (rows ++ more_rows) ≡ sum_by (λ (c : Column). all_text_bytes (column_cells c)) cols + sum_by (λ (c : Column). all_text_bytes (column_cells c)) more_cols =
-        sum_by-append (λ (r : Row). all_text_bytes r.cells) rows more_rows ∙ rw (bytes-rows_from stamps (map column_cells cols) (same_lengths schema stamps cols w), bytes-rows_from more_stamps (map column_cells more_cols) (same_lengths other more_stamps more_cols more), sum_by-map all_text_bytes column_cells cols, sum_by-map all_text_bytes column_cells more_cols) refl in
+    sum_by-append (λ (r : Row). all_text_bytes r.cells) rows more_rows ∙ rw (bytes-rows_from stamps (map column_cells cols) (same_lengths schema stamps cols w), bytes-rows_from more_stamps (map column_cells more_cols) (same_lengths other more_stamps more_cols more), sum_by-map all_text_bytes column_cells cols, sum_by-map all_text_bytes column_cells more_cols) refl in
     rw (← f_is, ← g_is, count, longest, bytes) refl
 
 -- ---- the loop over both frames' columns

@@ -1,5 +1,5 @@
 -- A frame that is made row by row, in columns of which some have the begun row's cell.
-use Rattle.std.proofs.Common.{◌≡◌, ℕ, zero, suc, ◌+◌, ◌<◌, ◌≤◌, ℤ, pos, true, false, List, [], ◌∷◌, ◌++◌, length, map, get_or, set, take, Option, Some, None, refl, sym, ap, ◌∙◌, subst, arith}
+use Rattle.std.proofs.Common.{◌≡◌, ℕ, zero, suc, ◌+◌, ◌-◌, ◌<◌, ◌≤◌, ℤ, pos, true, false, List, [], ◌∷◌, ◌++◌, length, map, get_or, set, take, Option, Some, None, refl, sym, ap, ◌∙◌, subst, arith}
 use Rattle.std.specs.Prelude.{slice_get, filter_map, option_map, FitsSigned}
 use Rattle.std.specs.Int.{w64}
 use Rattle.std.specs.List.{AllByRecursion, AllZip}
@@ -10,10 +10,11 @@ use Rattle.frame_core.specs.declared.cell.Cell.{Cell}
 use Rattle.frame_core.specs.declared.column.Column.{Column}
 use Rattle.frame_core.specs.Ranges.{InOrder}
 use Rattle.frame_core.specs.Schemas.{Head, Schema, IsColName, are_new}
-use Rattle.frame_core.specs.Frames.{Row, type_of, IsCell, NeverFall, stamps_of, last_stamp}
+use Rattle.frame_core.specs.Frames.{Row, Frame, type_of, IsCell, NeverFall, stamps_of, last_stamp}
 use Rattle.frame_core.specs.Columns.{column_type, column_cells, rows_from, IsWhole}
 use Rattle.frame_core.specs.Making.{Making, making_of, AreBegun, IsMaking, Takes}
 use Rattle.frame_core.proofs.Rows.{heads, tails, stamps-rows_from, later_cells}
+use Rattle.frame_core.proofs.WholeFrames.{frame_of}
 
 -- ---- rows read no more of a column than there are stamps
 
@@ -267,3 +268,14 @@ IsMaking-new given schema stamps heads cols distinct same named none heads_are k
 
 pub made_new : (given schema : Schema) (stamps : List ℤ) (cols : List Column) → schema ≡ given → stamps ≡ [] → AllByRecursion (λ (c : Column). column_cells c ≡ []) cols → making_of schema stamps (map column_cells cols) ≡ record { schema = given; rows = []; begun = [] }
 made_new given schema stamps cols same none empty = rw (same, none, none_begun 0 (map column_cells cols) (no_cells cols empty).0) refl
+
+last_at : (ts : List ℤ) → slice_get ts (length ts - 1) ≡ last_of ts
+last_at [] = refl
+last_at (t ∷ []) = refl
+last_at (t ∷ u ∷ ts) =
+    let here : length (t ∷ u ∷ ts) - 1 ≡ suc (length (u ∷ ts) - 1) = omega arith in
+    rw here (last_at (u ∷ ts))
+
+pub last_lent : (schema : Schema) (stamps lent : List ℤ) (cols : List Column) (f : Frame) (found : Option ℤ) → frame_of schema stamps cols ≡ f → lent ≡ stamps → found ≡ slice_get lent (length lent - 1) → found ≡ last_stamp f.rows
+last_lent schema stamps lent cols f found is same at =
+    at ∙ last_at lent ∙ ap last_of same ∙ ap last_of (sym (stamps-rows_from stamps (map column_cells cols))) ∙ ap (λ (g : Frame). last_of (stamps_of g.rows)) is ∙ sym (last_is f.rows)

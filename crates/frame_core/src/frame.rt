@@ -1,5 +1,5 @@
 ghost use Rattle.std.specs.Prelude.{◌≡◌, ◌<◌, length, Some, IfOk};
-ghost use Rattle.frame_core.specs.Frames.{IsFrame, stamps_of, stamp_at, cell_at, type_at, cell_of as lent_cell};
+ghost use Rattle.frame_core.specs.Frames.{IsFrame, first_stamp, last_stamp, stamps_of, stamp_at, cell_at, type_at, cell_of as lent_cell};
 ghost use Rattle.frame_core.specs.Limits.{IsStorable};
 ghost use Rattle.frame_core.specs.RawFrames.{frame_from};
 ghost use Rattle.frame_core.specs.Refusals.{Answers};
@@ -77,6 +77,20 @@ impl Frame {
         ensures { result.now ≡ stamps_of self.now.rows }
     {
         self.stamps.items()
+    }
+
+    /// The stamp of the first row.
+    pub fn first_stamp(&self) -> Option<i64>
+        ensures { result ≡ first_stamp self.now.rows }
+    {
+        self.stamps.items().first().copied()
+    }
+
+    /// The stamp of the last row.
+    pub fn last_stamp(&self) -> Option<i64>
+        ensures { result ≡ last_stamp self.now.rows }
+    {
+        self.stamps.items().last().copied()
     }
 
     /// The stamp of a row, counted from 0.

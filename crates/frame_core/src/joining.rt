@@ -93,7 +93,11 @@ fn joined(alloc: Global, first: &Frame, more: &Frame) -> Result<Frame, NoMemory>
 }
 
 /// Each of the first columns, and behind it the other of its place.
-fn joined_columns(alloc: Global, first: &[Column], more: &[Column]) -> Result<Items<Column>, NoMemory>
+fn joined_columns(
+    alloc: Global,
+    first: &[Column],
+    more: &[Column],
+) -> Result<Items<Column>, NoMemory>
     requires { map column_type first.now ≡ map column_type more.now }
     ensures kinds { IfOk result (λ both. map column_type both ≡ map column_type first.now) }
     ensures cells { IfOk result (λ both. map column_cells both ≡ map (λ c. c.0 ++ c.1) (zip (map column_cells first.now) (map column_cells more.now))) }

@@ -16,6 +16,8 @@ mod raw;
 mod refusal;
 mod schema;
 mod selecting;
+#[cfg(test)]
+mod tests;
 mod text_parts;
 mod texts;
 

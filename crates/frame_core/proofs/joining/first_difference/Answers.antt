@@ -1,4 +1,4 @@
-use Rattle.std.proofs.Common.{◌≡◌, ◌<◌, ◌∙◌, max, sym, length, rules}
+use Rattle.std.proofs.Common.{◌<◌, ◌∙◌, max, sym, length, rules}
 use Rattle.frame_core.proofs.JoinLemmas.{first_ends, other_ends}
 use Rattle.frame_core.proofs.joining.first_difference.Goals as goal
 

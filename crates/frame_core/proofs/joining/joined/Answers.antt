@@ -1,5 +1,5 @@
-use Rattle.std.proofs.Common.{◌≡◌, ◌∙◌, refl, sym, ap, map}
-use Rattle.frame_core.specs.Columns.{column_type, column_cells}
+use Rattle.std.proofs.Common.{◌∙◌, refl, ap, map}
+use Rattle.frame_core.specs.Columns.{column_type}
 use Rattle.frame_core.proofs.JoinLemmas.{same_kinds, whole_joined, joined_is}
 use Rattle.frame_core.proofs.joining.joined.Goals as goal
 
