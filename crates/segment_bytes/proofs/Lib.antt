@@ -9,3 +9,4 @@ pub mod Finds
 pub mod ViewLaws
 pub mod Writes
 pub mod Getters
+pub mod Copies

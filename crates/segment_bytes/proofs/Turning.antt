@@ -301,7 +301,7 @@ named_series : (k n : ℕ) (heads : List Head) (rows : List Row) → AllByRecurs
 named_series k n [] rows named lens fit = tt
 named_series k n (head ∷ heads) rows named lens fit = (record { named = named.0; len = lens.0; each = fit.0 }, named_series (k + 1) n heads rows named.1 lens.1 fit.1)
 
-column_lens : (n k count : ℕ) (rows : List Row) → k + count ≡ n → AreWide n rows → AllByRecursion (λ (c : List Cell). length c ≡ length rows) (columns_from k count rows)
+pub column_lens : (n k count : ℕ) (rows : List Row) → k + count ≡ n → AreWide n rows → AllByRecursion (λ (c : List Cell). length c ≡ length rows) (columns_from k count rows)
 column_lens n k zero rows e wide = tt
 column_lens n k (suc count) rows e wide = (length-cells_of n k rows (omega arith) wide, column_lens n (k + 1) count rows (omega arith) wide)
 

@@ -5,7 +5,7 @@ ghost use Rattle.byte_fields.specs.Reading.{signed_text};
 ghost use Rattle.frame_core.specs.Frames.{cell_of};
 
 ghost use Rattle.frame_core.specs.declared.cell.Cell.TheVariants.{Int as int_cell, Flag as flag_cell, Text as text_cell, Stamp as stamp_cell};
-ghost use Rattle.segment_bytes.specs.CellTexts.{end_text};
+ghost use Rattle.segment_bytes.specs.CellTexts.{end_text, cells_text};
 ghost use Rattle.segment_bytes.specs.Views.{cells_in, IsColumnView};
 
 use byte_fields::{read_i64, read_u32};
@@ -55,6 +55,13 @@ impl<'a> ColumnView<'a> {
         ensures { result ≡ length self.now.1 }
     {
         self.rows as u64
+    }
+
+    /// How many bytes the cells take in the segment.
+    pub fn bytes(&self) -> usize
+        ensures { result ≡ length (cells_text self.now.0 self.now.1) }
+    {
+        self.cells.len()
     }
 
     /// The cell of a row, counted from 0.
