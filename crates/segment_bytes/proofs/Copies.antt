@@ -121,19 +121,19 @@ remade f raw is p =
     let rows : rows_from raw.stamps (map column_cells raw.columns) ≡ f.rows = (λ i. rows_from (p.stamps i) (p.cells i)) ∙ rows_from-columns n f.rows wide in
     let count : length raw.stamps ≡ length f.rows = ap length p.stamps ∙ length-map f.rows (λ (r : Row). r.stamp) in
     let lens : AllByRecursion (λ (c : List Cell). length c ≡ length raw.stamps) (map column_cells raw.columns) =
-      subst (λ (k : ℕ). AllByRecursion (λ (c : List Cell). length c ≡ k) (map column_cells raw.columns)) (sym count) (subst (λ (cs : List (List Cell)). AllByRecursion (λ (c : List Cell). length c ≡ length f.rows) cs) (sym p.cells) (column_lens n 0 n f.rows (zero-add n) wide)) in
+    subst (λ (k : ℕ). AllByRecursion (λ (c : List Cell). length c ≡ k) (map column_cells raw.columns)) (sym count) (subst (λ (cs : List (List Cell)). AllByRecursion (λ (c : List Cell). length c ≡ length f.rows) cs) (sym p.cells) (column_lens n 0 n f.rows (zero-add n) wide)) in
     let name_count : length raw.names ≡ n = ap length p.names ∙ length-map f.schema.columns (λ (h : Head). h.0) in
     let column_count : length raw.columns ≡ n = sym (length-map raw.columns column_type) ∙ ap length p.types ∙ length-map f.schema.columns (λ (h : Head). h.1) in
     let greatest : max (length raw.names) (length raw.columns) ≡ n = (λ i. max (name_count i) (column_count i)) ∙ max_same n in
     let limits : table_too_large (table_of raw) ≡ None =
-      table_limits raw
-      ∙ ap (λ (k : ℕ). too_large (length raw.stamps) k (fold max 0 (map (λ (c : Column). longest_text (column_cells c)) raw.columns)) (sum_by (λ (c : Column). all_text_bytes (column_cells c)) raw.columns)) greatest
-      ∙ sym (frame_limits f.schema raw.stamps raw.columns lens)
-      ∙ ap (λ (rs : List Row). frame_too_large (record { schema = f.schema; rows = rs })) rows
-      ∙ is.within in
+    table_limits raw
+    ∙ ap (λ (k : ℕ). too_large (length raw.stamps) k (fold max 0 (map (λ (c : Column). longest_text (column_cells c)) raw.columns)) (sum_by (λ (c : Column). all_text_bytes (column_cells c)) raw.columns)) greatest
+    ∙ sym (frame_limits f.schema raw.stamps raw.columns lens)
+    ∙ ap (λ (rs : List Row). frame_too_large (record { schema = f.schema; rows = rs })) rows
+    ∙ is.within in
     let new : are_new [] raw.names ≡ true = ap (are_new []) p.names ∙ is.is_frame.columns.distinct in
     let columns : bad_column 1 (length raw.stamps) [] raw.names (map typed_cells raw.columns) ≡ None =
-      good_columns 1 (length raw.stamps) [] raw.names (map typed_cells raw.columns) new (name_count ∙ sym column_count ∙ sym (length-map raw.columns typed_cells)) (lens_typed (length raw.stamps) raw.columns lens) in
+    good_columns 1 (length raw.stamps) [] raw.names (map typed_cells raw.columns) new (name_count ∙ sym column_count ∙ sym (length-map raw.columns typed_cells)) (lens_typed (length raw.stamps) raw.columns lens) in
     let sorted : bad_row 1 raw.stamps ≡ None = ap (bad_row 1) p.stamps ∙ good_rows 1 (stamps_of f.rows) is.is_frame.ascending in
     let heads : heads_from raw.names (map typed_cells raw.columns) ≡ f.schema.columns = heads_again f.schema.columns raw.names (map typed_cells raw.columns) p.names (types_of raw.columns ∙ p.types) in
     let all_rows : rows_from raw.stamps (map (λ (c : Typed). c.1) (map typed_cells raw.columns)) ≡ f.rows = ap (rows_from raw.stamps) (cells_in_typed raw.columns) ∙ rows in

@@ -153,7 +153,7 @@ unfolding series_at
 series_again earlier so_far rows column rest is new within =
     let text = cells_text column.0.1 column.1 in
     let read : cells_at column.0.1 so_far rows (text ++ rest) ≡ Ok (column.1, rest) =
-      subst (λ (n : ℕ). cells_at column.0.1 so_far n (text ++ rest) ≡ Ok (column.1, rest)) is.len (cells_again column.0.1 so_far column.1 rest is.each within) in
+    subst (λ (n : ℕ). cells_at column.0.1 so_far n (text ++ rest) ≡ Ok (column.1, rest)) is.len (cells_again column.0.1 so_far column.1 rest is.each within) in
     ap (λ (bytes : List ℕ). head_at earlier bytes >>= λ head. cells_at head.0.1 so_far rows head.1 >>= λ cs. Ok ((head.0, cs.0), cs.1)) (append_assoc (head_text column.0) text rest)
     ∙ bind_is (head_at earlier (head_text column.0 ++ (text ++ rest))) (column.0, text ++ rest) (λ head. cells_at head.0.1 so_far rows head.1 >>= λ cs. Ok ((head.0, cs.0), cs.1)) (head_again earlier column.0 (text ++ rest) is.named new)
     ∙ bind_is (cells_at column.0.1 so_far rows (text ++ rest)) (column.1, rest) (λ cs. Ok ((column.0, cs.0), cs.1)) read
@@ -234,7 +234,7 @@ sheet_made bytes after_magic after_rows after_count after_stamps rest front rows
     let counted : rows * count ≡ length stamps * length columns = ap (λ (k : ℕ). k * count) (sym t3.len) ∙ ap (λ (k : ℕ). length stamps * k) (sym t4.count) in
     record {
       takes = subst (λ (k : ℕ). Takes bytes ((((segment_magic ++ to_be_bytes w32 k) ++ to_be_bytes w16 (length columns)) ++ flat_map signed_text stamps) ++ flat_map series_text columns) rest) (sym t3.len)
-        (subst (λ (k : ℕ). Takes bytes ((((segment_magic ++ to_be_bytes w32 rows) ++ to_be_bytes w16 k) ++ flat_map signed_text stamps) ++ flat_map series_text columns) rest) (sym t4.count) e04);
+          (subst (λ (k : ℕ). Takes bytes ((((segment_magic ++ to_be_bytes w32 rows) ++ to_be_bytes w16 k) ++ flat_map signed_text stamps) ++ flat_map series_text columns) rest) (sym t4.count) e04);
       sheet = record {
         few_rows = omega (arith, t1.most, t3.len);
         few_columns = omega (arith, t2.most, t4.count);

@@ -142,9 +142,9 @@ texts_on n i start ends bytes e others text rest total lt long number h so_far =
     let others_are : drop 4 ends ≡ others = ap (λ (p : ℕ × List ℕ). p.1) same in
     let ends_are : ends_in (n - i) ends ≡ e ∷ ends_in (n - (i + 1)) others = ap (λ (m : ℕ). ends_in m ends) k ∙ (λ j. end_is j ∷ ends_in (n - (i + 1)) (others_are j)) in
     let one : rest_of (texts_at start (ends_in (n - i) ends) bytes) ≡ rest_of (texts_at e (ends_in (n - (i + 1)) others) rest) =
-      ap (λ (es : List ℕ). rest_of (texts_at start es bytes)) ends_are
-      ∙ ap (λ r. rest_of (r >>= λ t. texts_at e (ends_in (n - (i + 1)) others) t.1 >>= λ more. Ok (cells.Text t.0 ∷ more.0, more.1))) h
-      ∙ text_rest text (texts_at e (ends_in (n - (i + 1)) others) rest) in
+    ap (λ (es : List ℕ). rest_of (texts_at start es bytes)) ends_are
+    ∙ ap (λ r. rest_of (r >>= λ t. texts_at e (ends_in (n - (i + 1)) others) t.1 >>= λ more. Ok (cells.Text t.0 ∷ more.0, more.1))) h
+    ∙ text_rest text (texts_at e (ends_in (n - (i + 1)) others) rest) in
     (omega (arith, length-drop 4 ends, ap length others_are), sym one ∙ so_far)
 
 pub texts_fail : (n i start : ℕ) (ends bytes : List ℕ) (e : ℕ) (others : List ℕ) (left : ℕ) (total : Result (List ℕ) ℕ) → i < n → 4 * (n - i) ≤ length ends → number_at w32 ends ≡ Ok (e, others) → text_at (e - start) bytes ≡ Err left → rest_of (texts_at start (ends_in (n - i) ends) bytes) ≡ total → total ≡ Err left

@@ -140,9 +140,11 @@ later_heads (c ∷ columns) = ap (λ (hs : List Head). c.0 ∷ hs) (later_heads 
 rows_fit : (stamps : List ℤ) (columns : List Series) → AllByRecursion (IsSeries (length stamps)) columns → AllByRecursion (RowFits (heads_in columns)) (rows_from stamps (cells_in columns))
 rows_fit [] columns each = tt
 rows_fit (t ∷ ts) columns each =
-    let rest : AllByRecursion (RowFits (heads_in (later columns))) (rows_from ts (cells_in (later columns))) = rows_fit ts (later columns) (later_series (length ts) columns each) in
-    (first_row (length ts) columns each, subst (λ (hs : List Head). AllByRecursion (RowFits hs) (rows_from ts (map (drop 1) (cells_in columns)))) (later_heads columns)
-      (subst (λ (cs : List (List Cell)). AllByRecursion (RowFits (heads_in (later columns))) (rows_from ts cs)) (later_cells columns) rest))
+    let rest : AllByRecursion (RowFits (heads_in (later columns))) (rows_from ts (cells_in (later columns))) = rows_fit ts (later columns) (later_series (length ts) columns each) in (
+      first_row (length ts) columns each,
+      subst (λ (hs : List Head). AllByRecursion (RowFits hs) (rows_from ts (map (drop 1) (cells_in columns)))) (later_heads columns)
+          (subst (λ (cs : List (List Cell)). AllByRecursion (RowFits (heads_in (later columns))) (rows_from ts cs)) (later_cells columns) rest),
+    )
 
 -- ---- the bytes in texts, by rows and by columns
 
@@ -152,12 +154,12 @@ front_bytes k (head ∷ heads) r rows e =
     let at = drop_at_place k r.cells (omega arith) in
     let column : cells_of k (r ∷ rows) ≡ at.0 ∷ cells_of k rows = rw at.1 refl in
     let here : length (joined (cells_of k (r ∷ rows))) ≡ text_bytes at.0 + length (joined (cells_of k rows)) =
-      ap (λ (c : List Cell). length (joined c)) column ∙ length-joined (at.0 ∷ cells_of k rows) ∙ sum_by-cons text_bytes at.0 (cells_of k rows) ∙ ap (λ (n : ℕ). text_bytes at.0 + n) (sym (length-joined (cells_of k rows))) in
+    ap (λ (c : List Cell). length (joined c)) column ∙ length-joined (at.0 ∷ cells_of k rows) ∙ sum_by-cons text_bytes at.0 (cells_of k rows) ∙ ap (λ (n : ℕ). text_bytes at.0 + n) (sym (length-joined (cells_of k rows))) in
     let rest = front_bytes (k + 1) heads r rows (omega arith) in
     let left = sum_by-cons (λ (c : Series). length (joined c.1)) (head, cells_of k (r ∷ rows)) (series_from (k + 1) heads (r ∷ rows)) in
     let right = sum_by-cons (λ (c : Series). length (joined c.1)) (head, cells_of k rows) (series_from (k + 1) heads rows) in
     let cells : all_text_bytes (drop k r.cells) ≡ text_bytes at.0 + all_text_bytes (drop (k + 1) r.cells) =
-      ap all_text_bytes at.2 ∙ sum_by-cons text_bytes at.0 (drop (suc k) r.cells) ∙ ap (λ (n : ℕ). text_bytes at.0 + all_text_bytes (drop n r.cells)) (sym (add-one k)) in
+    ap all_text_bytes at.2 ∙ sum_by-cons text_bytes at.0 (drop (suc k) r.cells) ∙ ap (λ (n : ℕ). text_bytes at.0 + all_text_bytes (drop n r.cells)) (sym (add-one k)) in
     omega (arith, left, right, here, cells, rest)
 
 no_bytes : (k : ℕ) (heads : List Head) → texts_in (series_from k heads []) ≡ 0

@@ -142,9 +142,9 @@ encoded f o0 o1 o2 o3 o4 o5 magic rows count stamps e0 m e1 e2 e3 e4 e5 r k t =
     let column_count : length f.schema.columns ≡ length (series_from 0 f.schema.columns f.rows) = sym (length-series_from 0 f.schema.columns f.rows) in
     e5
     ∙ ap (λ (o : List ℕ). o ++ flat_map series_text (series_from 0 f.schema.columns f.rows)) (e4
-      ∙ (λ i. (e3 i) ++ flat_map signed_text (t i))
-      ∙ ap (λ (o : List ℕ). o ++ flat_map signed_text (stamps_of f.rows)) (
-        (λ i. e2 i ++ to_be_bytes w16 ((k ∙ column_count) i))
-        ∙ ap (λ (o : List ℕ). o ++ to_be_bytes w16 (length (series_from 0 f.schema.columns f.rows))) (
-          (λ i. e1 i ++ to_be_bytes w32 ((r ∙ row_count) i))
-          ∙ ap (λ (o : List ℕ). o ++ to_be_bytes w32 (length (stamps_of f.rows))) (λ i. e0 i ++ m i))))
+    ∙ (λ i. (e3 i) ++ flat_map signed_text (t i))
+    ∙ ap (λ (o : List ℕ). o ++ flat_map signed_text (stamps_of f.rows)) (
+    (λ i. e2 i ++ to_be_bytes w16 ((k ∙ column_count) i))
+    ∙ ap (λ (o : List ℕ). o ++ to_be_bytes w16 (length (series_from 0 f.schema.columns f.rows))) (
+    (λ i. e1 i ++ to_be_bytes w32 ((r ∙ row_count) i))
+    ∙ ap (λ (o : List ℕ). o ++ to_be_bytes w32 (length (stamps_of f.rows))) (λ i. e0 i ++ m i))))

@@ -10,9 +10,9 @@ ghost use Rattle.segment_bytes.specs.Views.{name_of};
 
 use crate::column_view::{ColumnView, number_in, text_in};
 use crate::columns::{find_column, skip_columns};
+use crate::copying::{copy_columns, copy_names, copy_stamps};
 use crate::sheet::{read_count, read_rows, skip_stamps};
 use byte_fields::read_magic;
-use crate::copying::{copy_columns, copy_names, copy_stamps};
 use frame_core::{CellRef, ColType, Frame, NoMemory, RawFrame};
 use std::alloc::Global;
 use std::marker::Model;

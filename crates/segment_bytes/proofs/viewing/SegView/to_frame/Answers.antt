@@ -2,7 +2,7 @@ use Rattle.std.proofs.Common.{◌≡◌, ◌∙◌, Result, Ok, sym}
 use Rattle.frame_core.specs.declared.raw.RawFrame.{RawFrame}
 use Rattle.frame_core.specs.declared.refusal.Refusal.{Refusal}
 use Rattle.frame_core.specs.Frames.{Frame}
-use Rattle.segment_bytes.proofs.Getters.{view_storable}
+use Rattle.segment_bytes.proofs.SegmentGetters.{view_storable}
 use Rattle.segment_bytes.proofs.Copies.{PartsOf, remade}
 use Rattle.segment_bytes.proofs.viewing.SegView.to_frame.Goals as goal
 
