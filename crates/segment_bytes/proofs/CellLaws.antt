@@ -1,15 +1,15 @@
 -- Cells that are read were spelled so, and cells that are spelled are read again.
-use Rattle.std.proofs.Common.{◌≡◌, ℕ, zero, suc, ◌+◌, ◌-◌, ◌^◌, ◌<◌, ◌≤◌, ℤ, Bool, true, false, ◌&&◌, List, [], ◌∷◌, ◌++◌, map, length, Result, Ok, Err, refl, sym, ap, subst, ◌∙◌, append_assoc, arith, w64}
-use Rattle.std.specs.Prelude.{nat_le, nat_eq, FitsSigned, IsUtf8, sum_by}
-use Rattle.std.specs.Int.{w8, w32, to_be_bytes}
+use Rattle.std.proofs.Common.{◌≡◌, ℕ, zero, suc, ◌+◌, ◌-◌, ◌^◌, ◌<◌, ◌≤◌, true, false, ◌&&◌, List, [], ◌∷◌, ◌++◌, map, length, Ok, refl, sym, ap, subst, ◌∙◌, append_assoc, arith}
+use Rattle.std.specs.Prelude.{nat_le, nat_eq}
+use Rattle.std.specs.Int.{w8, w32}
 use Rattle.std.specs.List.{AllByRecursion, flat_map}
 use Rattle.std.proofs.lemmas.Bool.{leb-true, le-leb, eqb-true, eqb-false}
-use Rattle.std.proofs.lemmas.List.{length-append, append-nil}
+use Rattle.std.proofs.lemmas.List.{length-append}
 use Rattle.std.proofs.lemmas.List.Concat.{flat_map-cons}
 use Rattle.std.proofs.lemmas.List.Sums.{sum_by-cons}
-use Rattle.byte_fields.specs.Reading.{Reading, ◌>>=◌, wanted, number_at, signed_at, list_at, signed_text}
+use Rattle.byte_fields.specs.Reading.{◌>>=◌, wanted, number_at, signed_at, signed_text}
 use Rattle.byte_fields.specs.Readers.{IsBytes}
-use Rattle.byte_fields.proofs.Steps.{done, ok_is, bind_ok, bind_is, wanted_ok, wanted_is, both_true, Takes, Takes-nothing, Takes-then}
+use Rattle.byte_fields.proofs.Steps.{done, ok_is, bind_ok, bind_is, wanted_ok, both_true, Takes, Takes-nothing, Takes-then}
 use Rattle.byte_fields.proofs.Numbers.{wide32, number_takes, number_again, byte_takes, byte_again, signed_takes, signed_again}
 use Rattle.byte_fields.proofs.Lists.{IsField, ListRead, list_takes, list_again, flat_map-front}
 use Rattle.frame_core.specs.declared.cell.ColType.{ColType}
@@ -17,13 +17,13 @@ use Rattle.frame_core.specs.declared.cell.ColType.TheVariants as types
 use Rattle.frame_core.specs.declared.cell.Cell.{Cell}
 use Rattle.frame_core.specs.declared.cell.Cell.TheVariants as cells
 use Rattle.frame_core.specs.Texts.{Text}
-use Rattle.frame_core.specs.Frames.{type_of, IsCell}
+use Rattle.frame_core.specs.Frames.{type_of}
 use Rattle.frame_core.specs.Limits.{text_bytes, all_text_bytes}
 use Rattle.segment_bytes.specs.Heads.{text_at}
 use Rattle.segment_bytes.specs.CellTexts.{cell_text, text_of, ends_from, end_text, joined, cells_text, int_cell_at, stamp_cell_at, flag_cell_at, end_at, ends_at, texts_at, cells_at}
 use Rattle.segment_bytes.specs.Kept.{IsCellOf}
 use Rattle.segment_bytes.specs.Skipping.{last_end}
-use Rattle.segment_bytes.proofs.HeadLaws.{TextRead, text_takes, text_again}
+use Rattle.segment_bytes.proofs.HeadLaws.{text_takes, text_again}
 
 -- ---- numbers and flags
 

@@ -1,35 +1,25 @@
 -- The loop that reads the columns of a segment and keeps none of them.
-use Rattle.std.proofs.Common.{◌≡◌, ℕ, zero, suc, ◌+◌, ◌-◌, ◌*◌, ◌^◌, ◌<◌, ◌≤◌, ℤ, Bool, true, false, not, ◌||◌, List, [], ◌∷◌, ◌++◌, map, length, get_or, take, drop, Option, Some, None, Result, Ok, Err, refl, sym, ap, subst, ◌∙◌, append_assoc, arith, inl, inr, add-one}
-use Rattle.std.specs.Prelude.{nat_le, nat_eq, slice_get, if◌then◌else◌}
+use Rattle.std.proofs.Common.{◌≡◌, ℕ, suc, ◌+◌, ◌-◌, ◌<◌, ◌≤◌, Bool, true, false, not, ◌||◌, List, [], ◌∷◌, ◌++◌, length, take, drop, Result, Ok, Err, refl, sym, ap, subst, ◌∙◌, append_assoc, arith}
+use Rattle.std.specs.Prelude.{nat_le}
 use Rattle.std.specs.Str.{is_utf8}
-use Rattle.std.proofs.lemmas.Option.{get_or_from_slice_get}
-use Rattle.std.specs.Int.{w8, w32}
 use Rattle.std.specs.List.{flat_map, AllByRecursion, list_any}
-use Rattle.std.proofs.lemmas.Bool.{eqb-true, eq-eqb}
-use Rattle.std.proofs.lemmas.List.{length-append, take_more, take_all, drop_all, drop_at, append-nil, take-append-drop}
+use Rattle.std.proofs.lemmas.List.{length-append, drop_at, append-nil, take-append-drop}
 use Rattle.std.proofs.lemmas.List.Concat.{flat_map-cons, flat_map-append}
-use Rattle.std.proofs.lemmas.List.Folds.{list_any_more, list_any_at}
-use Rattle.byte_fields.specs.Reading.{Reading, ◌>>=◌, wanted, number_at, bytes_at}
+use Rattle.byte_fields.specs.Reading.{Reading, ◌>>=◌, wanted, bytes_at}
 use Rattle.byte_fields.specs.Readers.{IsBytes, seen_by, rest_of}
-use Rattle.byte_fields.proofs.Steps.{IsBytes-drop, done, ok_is, bind_ok, bind_is, wanted_ok, wanted_is, seen_ok, seen_err}
-use Rattle.byte_fields.proofs.Numbers.{wide32, number_again, bytes_again, byte_again, length-signed_text}
-use Rattle.byte_fields.proofs.Lists.{flat_map-front, length-flat_map}
+use Rattle.byte_fields.proofs.Steps.{IsBytes-drop, done, ok_is, bind_ok, wanted_ok, seen_ok, seen_err}
 use Rattle.frame_core.specs.declared.cell.ColType.{ColType}
-use Rattle.frame_core.specs.declared.cell.ColType.TheVariants as types
 use Rattle.frame_core.specs.declared.cell.Cell.{Cell}
-use Rattle.frame_core.specs.declared.cell.Cell.TheVariants as cells
 use Rattle.frame_core.specs.Texts.{Text, same_text}
 use Rattle.frame_core.specs.Schemas.{Head}
-use Rattle.frame_core.specs.Frames.{type_of}
-use Rattle.frame_core.proofs.Rows.{drop_at_place}
-use Rattle.segment_bytes.specs.Heads.{type_code, head_text, type_at, text_at, length_at, name_at, head_at}
-use Rattle.segment_bytes.specs.CellTexts.{cell_text, text_of, ends_from, end_text, joined, cells_text, cells_at}
-use Rattle.segment_bytes.specs.Sheets.{Series, series_text, stamp_at, stamps_at, series_at, columns_at}
-use Rattle.segment_bytes.specs.Kept.{IsCellOf, IsSeries, IsStored}
-use Rattle.segment_bytes.specs.Skipping.{counted, last_end, width_at, texts_width, skip_at}
-use Rattle.segment_bytes.proofs.HeadLaws.{TextRead, text_takes, type_again, IsNew, HeadRead, head_takes}
+use Rattle.segment_bytes.specs.Heads.{head_text, type_at, text_at, length_at, name_at, head_at}
+use Rattle.segment_bytes.specs.CellTexts.{joined, cells_text, cells_at}
+use Rattle.segment_bytes.specs.Sheets.{Series, series_text, series_at, columns_at}
+use Rattle.segment_bytes.specs.Kept.{IsStored}
+use Rattle.segment_bytes.specs.Skipping.{counted}
+use Rattle.segment_bytes.proofs.HeadLaws.{head_takes}
 use Rattle.segment_bytes.proofs.Walks.{has_name}
-use Rattle.segment_bytes.proofs.CellLaws.{CellsRead, cells_take, last_end-ends_from, length-ends_from}
+use Rattle.segment_bytes.proofs.CellLaws.{CellsRead, cells_take}
 
 -- ---- columns that were read
 

@@ -1,24 +1,22 @@
 -- A frame that is made again of its columns.
-use Rattle.std.proofs.Common.{◌≡◌, ℕ, zero, suc, ◌+◌, ◌<◌, ◌≤◌, max, ℤ, pos, negsuc, Bool, true, false, not, ◌||◌, T, leb, List, [], ◌∷◌, ◌++◌, map, length, get_or, take, fold, Option, Some, None, Result, Ok, Err, refl, sym, ap, subst, ◌∙◌, arith, zero-add}
-use Rattle.std.specs.Prelude.{slice_get, option_map, sum_by, nat_eq, int_lt, ◌≤ℤ◌}
+use Rattle.std.proofs.Common.{◌≡◌, ℕ, zero, suc, ◌+◌, ◌<◌, ◌≤◌, max, ℤ, pos, negsuc, Bool, true, false, not, T, leb, List, [], ◌∷◌, ◌++◌, map, length, get_or, take, fold, Some, None, Ok, refl, sym, ap, subst, ◌∙◌, arith, zero-add}
+use Rattle.std.specs.Prelude.{slice_get, sum_by, nat_eq, int_lt, ◌≤ℤ◌}
 use Rattle.std.specs.List.{AllByRecursion, list_any}
 use Rattle.std.proofs.lemmas.Bool.{eq-eqb, leb-true, le-ltb, not-true}
 use Rattle.byte_fields.proofs.Steps.{both_true}
 use Rattle.std.proofs.lemmas.List.{take_more, take_all, length-map, map-append}
-use Rattle.std.proofs.lemmas.List.Sums.{sum_by-cons}
 use Rattle.std.proofs.lemmas.Option.{get_or_from_slice_get, slice_get_within, slice_get-map}
 use Rattle.frame_core.specs.declared.cell.ColType.{ColType}
 use Rattle.frame_core.specs.declared.cell.Cell.{Cell}
 use Rattle.frame_core.specs.declared.column.Column.{Column}
 use Rattle.frame_core.specs.declared.raw.RawFrame.{RawFrame}
-use Rattle.frame_core.specs.declared.refusal.Refusal.{Refusal}
 use Rattle.frame_core.specs.Texts.{Text, same_text}
 use Rattle.frame_core.specs.Schemas.{Head, are_new}
 use Rattle.frame_core.specs.Frames.{Row, Frame, stamps_of, NeverFall, type_at}
 use Rattle.frame_core.specs.Limits.{all_text_bytes, longest_text, too_large, frame_too_large, IsStorable}
 use Rattle.frame_core.specs.Columns.{column_type, column_cells, rows_from, cells_of, columns_from}
 use Rattle.frame_core.specs.RawFrames.{typed_cells, bad_column, bad_row, heads_from, table_of, table_too_large, frame_from}
-use Rattle.frame_core.proofs.Rows.{rows_from-columns, length-columns_from, length-cells_of}
+use Rattle.frame_core.proofs.Rows.{rows_from-columns, length-columns_from}
 use Rattle.frame_core.proofs.RawLemmas.{table_limits, made}
 use Rattle.frame_core.proofs.FrameLimits.{frame_limits}
 use Rattle.segment_bytes.specs.Views.{name_of}

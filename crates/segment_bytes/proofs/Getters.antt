@@ -1,15 +1,14 @@
 -- What the getters of the view of a column read.
-use Rattle.std.proofs.Common.{◌≡◌, ℕ, zero, suc, ◌+◌, ◌-◌, ◌*◌, ◌^◌, ◌<◌, ◌≤◌, ℤ, Bool, true, false, List, [], ◌∷◌, ◌++◌, map, length, get_or, take, drop, Option, Some, None, Result, Ok, Err, refl, sym, ap, subst, ◌∙◌, append_assoc, arith, w64, add-one, add-zero}
-use Rattle.std.specs.Prelude.{FitsSigned, IsUtf8, slice_get, option_map, option_and_then, nat_eq}
+use Rattle.std.proofs.Common.{◌≡◌, ℕ, zero, suc, ◌+◌, ◌-◌, ◌*◌, ◌^◌, ◌<◌, ◌≤◌, ℤ, Bool, true, false, List, [], ◌∷◌, ◌++◌, map, length, get_or, take, drop, Some, Ok, refl, sym, ap, subst, ◌∙◌, append_assoc, arith, w64, add-zero}
+use Rattle.std.specs.Prelude.{FitsSigned, IsUtf8, slice_get, nat_eq}
 use Rattle.std.specs.Int.{w32, to_be_bytes}
 use Rattle.std.specs.List.{flat_map, AllByRecursion}
 use Rattle.std.specs.Result.{result_unwrap_or}
-use Rattle.std.proofs.lemmas.List.{append-nil, length-append, length-take, length-drop, length-map, drop_at, drop-drop, take_at, nil_from_length, get_or-drop}
+use Rattle.std.proofs.lemmas.List.{append-nil, length-append, length-drop, drop_at, drop-drop, take_at, get_or-drop}
 use Rattle.std.proofs.lemmas.List.Concat.{flat_map-cons}
-use Rattle.std.proofs.lemmas.Option.{slice_get_within, slice_get-map, get_or_from_slice_get}
-use Rattle.byte_fields.specs.Reading.{Reading, ◌>>=◌, number_at, signed_at, signed_text}
-use Rattle.byte_fields.specs.Readers.{IsBytes}
-use Rattle.byte_fields.proofs.Steps.{done, ok_is}
+use Rattle.std.proofs.lemmas.Option.{get_or_from_slice_get}
+use Rattle.byte_fields.specs.Reading.{Reading, number_at, signed_at, signed_text}
+use Rattle.byte_fields.proofs.Steps.{ok_is}
 use Rattle.byte_fields.proofs.Numbers.{wide32, number_again, signed_again, length-signed_text}
 use Rattle.byte_fields.proofs.Lists.{length-flat_map, flat_map-front}
 use Rattle.frame_core.specs.declared.cell.ColType.{ColType}
@@ -17,23 +16,14 @@ use Rattle.frame_core.specs.declared.cell.ColType.TheVariants as types
 use Rattle.frame_core.specs.declared.cell.Cell.{Cell}
 use Rattle.frame_core.specs.declared.cell.Cell.TheVariants as variants
 use Rattle.frame_core.specs.Texts.{Text}
-use Rattle.frame_core.specs.Schemas.{Head}
-use Rattle.frame_core.specs.Frames.{Row, Frame, stamps_of, stamp_at, cell_at, type_at, type_of}
-use Rattle.frame_core.specs.Limits.{IsStorable}
-use Rattle.frame_core.specs.Columns.{rows_from, cells_of}
-use Rattle.frame_core.proofs.Rows.{drop_at_place, length-rows_from, stamps-rows_from, cells_of-rows_from}
-use Rattle.segment_bytes.specs.declared.columns.ColumnBytes.{ColumnBytes}
+use Rattle.frame_core.proofs.Rows.{drop_at_place}
 use Rattle.segment_bytes.specs.CellTexts.{cell_text, flag_text, text_of, ends_from, end_text, joined, cells_text, cells_at}
-use Rattle.segment_bytes.specs.Sheets.{Series, Sheet, frame_of, series_text}
-use Rattle.segment_bytes.specs.Segments.{sheet_spelled}
-use Rattle.segment_bytes.specs.Kept.{IsCellOf, IsSeries, IsStored}
-use Rattle.segment_bytes.specs.Skipping.{skip_at}
-use Rattle.segment_bytes.specs.Lying.{Spells, LiesAs}
-use Rattle.segment_bytes.specs.Views.{sheet_in, frame_in, IsView, name_of, cells_in, IsColumnView}
+use Rattle.segment_bytes.specs.Sheets.{Series}
+use Rattle.segment_bytes.specs.Kept.{IsCellOf, IsStored}
+use Rattle.segment_bytes.specs.Views.{cells_in, IsColumnView}
 use Rattle.segment_bytes.proofs.CellLaws.{cells_again, length-ends_from}
-use Rattle.segment_bytes.proofs.Turning.{storable_wide}
 use Rattle.segment_bytes.proofs.Walks.{int_wide, stamp_wide, flag_wide}
-use Rattle.segment_bytes.proofs.Walks.{Next, next_found, skipped, all_at}
+use Rattle.segment_bytes.proofs.Walks.{all_at}
 
 -- ---- a number at a place
 

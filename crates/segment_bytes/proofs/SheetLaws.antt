@@ -1,27 +1,26 @@
 -- A sheet that is read was spelled so, and a sheet that is spelled is read again.
-use Rattle.std.proofs.Common.{◌≡◌, ℕ, zero, suc, ◌+◌, ◌*◌, ◌^◌, ◌<◌, ◌≤◌, ℤ, Bool, true, false, not, ◌&&◌, ◌||◌, List, [], ◌∷◌, ◌++◌, map, length, Option, Some, None, Result, Ok, Err, refl, sym, ap, subst, ◌∙◌, append_assoc, arith, w64}
+use Rattle.std.proofs.Common.{◌≡◌, ℕ, zero, suc, ◌+◌, ◌*◌, ◌^◌, ◌<◌, ◌≤◌, ℤ, Bool, true, not, ◌&&◌, ◌||◌, List, [], ◌∷◌, ◌++◌, map, length, Option, Some, None, Ok, refl, sym, ap, subst, ◌∙◌, append_assoc, arith, w64}
 use Rattle.std.specs.Prelude.{nat_le, int_le, FitsSigned, sum_by}
 use Rattle.std.specs.Int.{w16, w32, to_be_bytes}
 use Rattle.std.specs.Option.{option_map_or}
 use Rattle.std.specs.List.{AllByRecursion, flat_map, list_any}
 use Rattle.std.proofs.lemmas.Bool.{leb-true, le-leb}
-use Rattle.std.proofs.lemmas.List.{append-nil}
 use Rattle.std.proofs.lemmas.List.Concat.{flat_map-cons}
 use Rattle.std.proofs.lemmas.List.Sums.{sum_by-cons}
-use Rattle.byte_fields.specs.Reading.{Reading, ◌>>=◌, wanted, number_at, signed_at, magic_at, signed_text}
+use Rattle.byte_fields.specs.Reading.{◌>>=◌, wanted, number_at, signed_at, magic_at, signed_text}
 use Rattle.byte_fields.specs.Readers.{IsBytes}
 use Rattle.byte_fields.proofs.Steps.{done, ok_is, bind_ok, bind_is, wanted_ok, wanted_is, both_true, Takes, Takes-nothing, Takes-then}
 use Rattle.byte_fields.proofs.Numbers.{wide16, wide32, number_takes, number_again, signed_takes, signed_again, magic_takes, magic_again}
 use Rattle.byte_fields.proofs.Lists.{flat_map-front}
 use Rattle.frame_core.specs.declared.cell.Cell.{Cell}
 use Rattle.frame_core.specs.Texts.{Text, same_text}
-use Rattle.frame_core.specs.Schemas.{Head, IsColName, are_new}
+use Rattle.frame_core.specs.Schemas.{Head, are_new}
 use Rattle.segment_bytes.specs.Heads.{head_text, head_at}
 use Rattle.segment_bytes.specs.CellTexts.{joined, cells_text, cells_at}
 use Rattle.segment_bytes.specs.Sheets.{Series, Sheet, series_text, segment_magic, sheet_text, rows_at, count_at, stamp_at, stamps_at, series_at, columns_at, sheet_at}
-use Rattle.segment_bytes.proofs.HeadLaws.{IsNew, HeadRead, head_takes, head_again}
-use Rattle.segment_bytes.specs.Kept.{IsCellOf, IsSeries}
-use Rattle.segment_bytes.proofs.CellLaws.{CellsRead, cells_take, cells_again}
+use Rattle.segment_bytes.proofs.HeadLaws.{IsNew, head_takes, head_again}
+use Rattle.segment_bytes.specs.Kept.{IsSeries}
+use Rattle.segment_bytes.proofs.CellLaws.{cells_take, cells_again}
 
 -- ---- the counts
 

@@ -1,9 +1,9 @@
 -- Readers that pass over cells.
-use Rattle.std.proofs.Common.{◌≡◌, ℕ, zero, suc, ◌+◌, ◌-◌, ◌*◌, ◌<◌, ◌≤◌, Bool, true, false, ◌&&◌, List, [], ◌∷◌, ◌++◌, map, length, take, drop, Result, Ok, Err, refl, sym, ap, subst, ◌∙◌, arith}
+use Rattle.std.proofs.Common.{◌≡◌, ℕ, zero, suc, ◌+◌, ◌-◌, ◌*◌, ◌<◌, ◌≤◌, Bool, true, false, ◌&&◌, List, [], ◌∷◌, length, take, drop, Result, Ok, Err, refl, sym, ap, ◌∙◌, arith}
 use Rattle.std.specs.Prelude.{nat_le, nat_eq, IsUtf8}
 use Rattle.std.specs.Str.{is_utf8}
 use Rattle.std.specs.Int.{w8, w32, from_be_bytes}
-use Rattle.std.specs.List.{flat_map, AllByRecursion}
+use Rattle.std.specs.List.{flat_map}
 use Rattle.std.proofs.lemmas.Bool.{le-leb}
 use Rattle.std.proofs.lemmas.Str.{IsUtf8-from_is_utf8, is_utf8-from_IsUtf8}
 use Rattle.std.proofs.lemmas.List.{length-append, length-drop}
@@ -12,15 +12,15 @@ use Rattle.byte_fields.specs.Reading.{Reading, ◌>>=◌, wanted, number_at, sig
 use Rattle.byte_fields.specs.Readers.{IsBytes, seen_by, rest_of}
 use Rattle.byte_fields.proofs.Steps.{done, ok_is, bind_ok, bind_is, wanted_ok, wanted_is, seen_ok, seen_err}
 use Rattle.byte_fields.proofs.Lists.{length-flat_map}
-use Rattle.byte_fields.proofs.Skipping.{same_rests, numbers_long}
+use Rattle.byte_fields.proofs.Skipping.{same_rests}
 use Rattle.frame_core.specs.declared.cell.ColType.{ColType}
 use Rattle.frame_core.specs.declared.cell.ColType.TheVariants as types
 use Rattle.frame_core.specs.declared.cell.Cell.{Cell}
 use Rattle.frame_core.specs.declared.cell.Cell.TheVariants as cells
 use Rattle.segment_bytes.specs.Heads.{text_at}
-use Rattle.segment_bytes.specs.CellTexts.{text_of, end_text, ends_from, joined, int_cell_at, stamp_cell_at, flag_cell_at, end_at, ends_at, texts_at, cells_at}
+use Rattle.segment_bytes.specs.CellTexts.{text_of, end_text, joined, int_cell_at, stamp_cell_at, flag_cell_at, end_at, ends_at, texts_at, cells_at}
 use Rattle.segment_bytes.specs.Skipping.{counted, last_end, last_from, ends_in}
-use Rattle.segment_bytes.proofs.CellLaws.{Climb, EndsRead, TextsRead, ends_take, texts_take, last_end-ends_from}
+use Rattle.segment_bytes.proofs.CellLaws.{ends_take, texts_take, last_end-ends_from}
 
 -- ---- texts
 

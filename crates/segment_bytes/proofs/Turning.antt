@@ -1,8 +1,7 @@
 -- A frame and its sheet make each other, and what holds of one holds of the other.
-use Rattle.std.proofs.Common.{◌≡◌, ℕ, zero, suc, ◌+◌, ◌*◌, ◌<◌, ◌≤◌, max, ℤ, Bool, true, false, T, if◌then◌else◌, List, [], ◌∷◌, ◌++◌, map, length, drop, fold, Option, Some, None, refl, sym, ap, subst, ◌∙◌, arith, w64, zero-add, add-one}
+use Rattle.std.proofs.Common.{◌≡◌, ℕ, zero, suc, ◌+◌, ◌*◌, ◌≤◌, max, ℤ, Bool, true, false, T, if◌then◌else◌, List, [], ◌∷◌, map, length, drop, fold, Option, Some, None, refl, sym, ap, subst, ◌∙◌, arith, w64, zero-add, add-one}
 use Rattle.std.specs.Prelude.{slice_get, filter_map, sum_by, nat_lt, int_le, ◌≤ℤ◌, FitsSigned}
 use Rattle.std.specs.List.{AllByRecursion, AllZip}
-use Rattle.std.specs.Option.{option_map_or}
 use Rattle.std.proofs.lemmas.Bool.{ltb-false, le-ltb}
 use Rattle.std.proofs.lemmas.Float.{T_from_true}
 use Rattle.std.proofs.lemmas.List.{length-map, drop_all}
@@ -10,12 +9,11 @@ use Rattle.std.proofs.lemmas.List.Sums.{sum_by-cons}
 use Rattle.std.proofs.lemmas.Slice.Zip.{AllZip-long}
 use Rattle.std.proofs.Math.Nat.{max-le, le-max_left, le-max_right}
 use Rattle.frame_core.specs.declared.cell.Cell.{Cell}
-use Rattle.frame_core.specs.declared.refusal.Extent.{Extent}
 use Rattle.frame_core.specs.declared.refusal.Extent.TheVariants as extents
 use Rattle.frame_core.specs.Texts.{Text}
-use Rattle.frame_core.specs.Schemas.{Head, Schema, IsColName, AreColumns, are_new}
-use Rattle.frame_core.specs.Frames.{Row, Frame, type_of, IsCell, FitsColumns, IsFrame, NeverFall, stamps_of}
-use Rattle.frame_core.specs.Limits.{text_bytes, all_text_bytes, longest_text, too_large, frame_too_large, IsStorable}
+use Rattle.frame_core.specs.Schemas.{Head, IsColName, are_new}
+use Rattle.frame_core.specs.Frames.{Row, Frame, type_of, IsCell, FitsColumns, NeverFall, stamps_of}
+use Rattle.frame_core.specs.Limits.{text_bytes, all_text_bytes, longest_text, too_large, IsStorable}
 use Rattle.frame_core.specs.Columns.{rows_from, cells_of, columns_from}
 use Rattle.frame_core.proofs.Rows.{drop_at_place, length-rows_from, stamps-rows_from, columns-rows_from, rows_from-columns, length-cells_of}
 use Rattle.segment_bytes.specs.CellTexts.{joined}

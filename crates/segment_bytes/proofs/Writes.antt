@@ -1,16 +1,15 @@
 -- Loops that write texts and columns, and the spelling that is put together of its parts.
-use Rattle.std.proofs.Common.{◌≡◌, ℕ, zero, suc, ◌+◌, ◌<◌, ◌≤◌, ℤ, Bool, List, [], ◌∷◌, ◌++◌, map, length, get_or, take, drop, Option, Some, refl, sym, ap, subst, ◌∙◌, append_assoc, arith, add-one, zero-add, w32}
+use Rattle.std.proofs.Common.{◌≡◌, ℕ, zero, suc, ◌+◌, ◌≤◌, ℤ, Bool, List, [], ◌∷◌, ◌++◌, map, length, get_or, take, drop, Some, refl, sym, ap, subst, ◌∙◌, append_assoc, arith, add-one, zero-add, w32}
 use Rattle.std.specs.Prelude.{sum_by, slice_get, option_map}
 use Rattle.std.specs.Int.{w16, to_be_bytes}
 use Rattle.std.specs.List.{flat_map}
-use Rattle.std.proofs.lemmas.List.{append-nil, length-map}
+use Rattle.std.proofs.lemmas.List.{length-map}
 use Rattle.std.proofs.lemmas.List.Concat.{flat_map-cons}
 use Rattle.std.proofs.lemmas.List.Sums.{sum_by-cons}
 use Rattle.std.proofs.lemmas.Option.{get_or_from_slice_get, slice_get_within}
 use Rattle.byte_fields.specs.Reading.{signed_text}
 use Rattle.byte_fields.proofs.Written.{Written, written_more}
 use Rattle.frame_core.specs.declared.cell.ColType.{ColType}
-use Rattle.frame_core.specs.declared.cell.ColType.TheVariants as types
 use Rattle.frame_core.specs.declared.cell.Cell.{Cell}
 use Rattle.frame_core.specs.declared.cell.Cell.TheVariants as cells
 use Rattle.frame_core.specs.declared.column.Column.{Column}

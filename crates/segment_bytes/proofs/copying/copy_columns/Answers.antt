@@ -1,4 +1,4 @@
-use Rattle.std.proofs.Common.{◌≡◌, ◌∙◌, ◌<◌, length, map, arith}
+use Rattle.std.proofs.Common.{◌∙◌, ◌<◌, length, map, arith}
 use Rattle.frame_core.specs.Schemas.{Head}
 use Rattle.frame_core.specs.Columns.{column_type, column_cells, columns_from, cells_of}
 use Rattle.segment_bytes.proofs.Copies.{copied_more, kind_at, cells_at_column, columns_all}

@@ -1,4 +1,4 @@
-use Rattle.std.proofs.Common.{◌≡◌, refl}
+use Rattle.std.proofs.Common.{refl}
 use Rattle.frame_core.specs.declared.cell.Cell.TheVariants as variants
 use Rattle.segment_bytes.proofs.Copies.{copied_more}
 use Rattle.segment_bytes.proofs.copying.copy_flags.Goals as goal

@@ -1,4 +1,4 @@
-use Rattle.std.proofs.Common.{◌≡◌, ◌∙◌, map}
+use Rattle.std.proofs.Common.{map}
 use Rattle.frame_core.specs.Schemas.{Head}
 use Rattle.segment_bytes.proofs.Copies.{copied_same, name_at}
 use Rattle.segment_bytes.proofs.copying.copy_names.Goals as goal

@@ -1,4 +1,4 @@
-use Rattle.std.proofs.Common.{◌≡◌, map, take}
+use Rattle.std.proofs.Common.{◌≡◌, take}
 use Rattle.frame_core.specs.Frames.{stamps_of}
 use Rattle.segment_bytes.proofs.copying.copy_stamps.Given as goal
 

@@ -1,4 +1,4 @@
-use Rattle.std.proofs.Common.{◌≡◌, ◌∙◌, Some, List, length, ap, sym}
+use Rattle.std.proofs.Common.{◌∙◌, Some, List, length, ap, sym}
 use Rattle.std.specs.Prelude.{slice_get}
 use Rattle.frame_core.specs.declared.cell.ColType.{ColType}
 use Rattle.frame_core.specs.declared.cell.Cell.{Cell}

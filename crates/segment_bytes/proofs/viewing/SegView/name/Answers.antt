@@ -1,4 +1,4 @@
-use Rattle.std.proofs.Common.{◌≡◌, ◌∙◌, Some, List, ℕ, ap, sym}
+use Rattle.std.proofs.Common.{◌∙◌, Some, List, ℕ, ap, sym}
 use Rattle.segment_bytes.proofs.SegmentGetters.{viewed_column, name_found}
 use Rattle.segment_bytes.proofs.viewing.SegView.name.Goals as goal
 
