@@ -1,15 +1,15 @@
 -- Cells that are read were spelled so, and cells that are spelled are read again.
-use Rattle.std.proofs.Common.{◌≡◌, ℕ, zero, suc, ◌+◌, ◌-◌, ◌^◌, ◌<◌, ◌≤◌, ℤ, Bool, true, false, ◌&&◌, List, [], ◌∷◌, ◌++◌, map, length, Result, Ok, Err, refl, sym, ap, subst, ◌∙◌, append_assoc, arith, w64}
-use Rattle.std.specs.Prelude.{nat_le, nat_eq, FitsSigned, IsUtf8, sum_by}
-use Rattle.std.specs.Int.{w8, w32, to_be_bytes}
+use Rattle.std.proofs.Common.{◌≡◌, ℕ, zero, suc, ◌+◌, ◌-◌, ◌^◌, ◌<◌, ◌≤◌, true, false, ◌&&◌, List, [], ◌∷◌, ◌++◌, map, length, Ok, refl, sym, ap, subst, ◌∙◌, append_assoc, arith}
+use Rattle.std.specs.Prelude.{nat_le, nat_eq}
+use Rattle.std.specs.Int.{w8, w32}
 use Rattle.std.specs.List.{AllByRecursion, flat_map}
 use Rattle.std.proofs.lemmas.Bool.{leb-true, le-leb, eqb-true, eqb-false}
-use Rattle.std.proofs.lemmas.List.{length-append, append-nil}
+use Rattle.std.proofs.lemmas.List.{length-append}
 use Rattle.std.proofs.lemmas.List.Concat.{flat_map-cons}
 use Rattle.std.proofs.lemmas.List.Sums.{sum_by-cons}
-use Rattle.byte_fields.specs.Reading.{Reading, ◌>>=◌, wanted, number_at, signed_at, list_at, signed_text}
+use Rattle.byte_fields.specs.Reading.{◌>>=◌, wanted, number_at, signed_at, signed_text}
 use Rattle.byte_fields.specs.Readers.{IsBytes}
-use Rattle.byte_fields.proofs.Steps.{done, ok_is, bind_ok, bind_is, wanted_ok, wanted_is, both_true, Takes, Takes-nothing, Takes-then}
+use Rattle.byte_fields.proofs.Steps.{done, ok_is, bind_ok, bind_is, wanted_ok, both_true, Takes, Takes-nothing, Takes-then}
 use Rattle.byte_fields.proofs.Numbers.{wide32, number_takes, number_again, byte_takes, byte_again, signed_takes, signed_again}
 use Rattle.byte_fields.proofs.Lists.{IsField, ListRead, list_takes, list_again, flat_map-front}
 use Rattle.frame_core.specs.declared.cell.ColType.{ColType}
@@ -17,23 +17,23 @@ use Rattle.frame_core.specs.declared.cell.ColType.TheVariants as types
 use Rattle.frame_core.specs.declared.cell.Cell.{Cell}
 use Rattle.frame_core.specs.declared.cell.Cell.TheVariants as cells
 use Rattle.frame_core.specs.Texts.{Text}
-use Rattle.frame_core.specs.Frames.{type_of, IsCell}
+use Rattle.frame_core.specs.Frames.{type_of}
 use Rattle.frame_core.specs.Limits.{text_bytes, all_text_bytes}
 use Rattle.segment_bytes.specs.Heads.{text_at}
 use Rattle.segment_bytes.specs.CellTexts.{cell_text, text_of, ends_from, end_text, joined, cells_text, int_cell_at, stamp_cell_at, flag_cell_at, end_at, ends_at, texts_at, cells_at}
 use Rattle.segment_bytes.specs.Kept.{IsCellOf}
 use Rattle.segment_bytes.specs.Skipping.{last_end}
-use Rattle.segment_bytes.proofs.HeadLaws.{TextRead, text_takes, text_again}
+use Rattle.segment_bytes.proofs.HeadLaws.{text_takes, text_again}
 
 -- ---- numbers and flags
 
 pub int_field : IsField int_cell_at cell_text (IsCellOf types.Int)
 int_field = record {
   takes = λ bytes x rest fits e.
-    let a = bind_ok (signed_at bytes) (λ n. Ok (cells.Int n.0, n.1)) (x, rest) e in
-    let t = signed_takes bytes a.0.0 a.0.1 fits a.1 in
-    let made : Cell × List ℕ = (cells.Int a.0.0, a.0.1) in
-    subst (λ (p : Cell × List ℕ). Takes bytes (cell_text p.0) p.1 × IsCellOf types.Int p.0) (ok_is made (x, rest) a.2) (t.takes, record { typed = refl; valid = t.fits; short = omega arith });
+      let a = bind_ok (signed_at bytes) (λ n. Ok (cells.Int n.0, n.1)) (x, rest) e in
+      let t = signed_takes bytes a.0.0 a.0.1 fits a.1 in
+      let made : Cell × List ℕ = (cells.Int a.0.0, a.0.1) in
+      subst (λ (p : Cell × List ℕ). Takes bytes (cell_text p.0) p.1 × IsCellOf types.Int p.0) (ok_is made (x, rest) a.2) (t.takes, record { typed = refl; valid = t.fits; short = omega arith });
   again = int_again;
 }
   where
@@ -46,10 +46,10 @@ int_field = record {
 pub stamp_field : IsField stamp_cell_at cell_text (IsCellOf types.Stamp)
 stamp_field = record {
   takes = λ bytes x rest fits e.
-    let a = bind_ok (signed_at bytes) (λ n. Ok (cells.Stamp n.0, n.1)) (x, rest) e in
-    let t = signed_takes bytes a.0.0 a.0.1 fits a.1 in
-    let made : Cell × List ℕ = (cells.Stamp a.0.0, a.0.1) in
-    subst (λ (p : Cell × List ℕ). Takes bytes (cell_text p.0) p.1 × IsCellOf types.Stamp p.0) (ok_is made (x, rest) a.2) (t.takes, record { typed = refl; valid = t.fits; short = omega arith });
+      let a = bind_ok (signed_at bytes) (λ n. Ok (cells.Stamp n.0, n.1)) (x, rest) e in
+      let t = signed_takes bytes a.0.0 a.0.1 fits a.1 in
+      let made : Cell × List ℕ = (cells.Stamp a.0.0, a.0.1) in
+      subst (λ (p : Cell × List ℕ). Takes bytes (cell_text p.0) p.1 × IsCellOf types.Stamp p.0) (ok_is made (x, rest) a.2) (t.takes, record { typed = refl; valid = t.fits; short = omega arith });
   again = stamp_again;
 }
   where
@@ -70,13 +70,13 @@ flag_byte n le =
 pub flag_field : IsField flag_cell_at cell_text (IsCellOf types.Flag)
 flag_field = record {
   takes = λ bytes x rest fits e.
-    let a = bind_ok (number_at w8 bytes) (λ n. wanted (nat_le n.0 1) bytes (Ok (cells.Flag (nat_eq n.0 1), n.1))) (x, rest) e in
-    let made : Cell × List ℕ = (cells.Flag (nat_eq a.0.0 1), a.0.1) in
-    let g = wanted_ok (nat_le a.0.0 1) bytes (done made) (x, rest) a.2 in
-    let t = byte_takes bytes a.0.0 a.0.1 fits a.1 in
-    let small : a.0.0 ≤ 1 = leb-true a.0.0 1 g.0 in
-    subst (λ (p : Cell × List ℕ). Takes bytes (cell_text p.0) p.1 × IsCellOf types.Flag p.0) (ok_is made (x, rest) g.1)
-    (subst (λ (text : List ℕ). Takes bytes text a.0.1) (sym (flag_byte a.0.0 small)) t.takes, record { typed = refl; valid = tt; short = omega arith });
+      let a = bind_ok (number_at w8 bytes) (λ n. wanted (nat_le n.0 1) bytes (Ok (cells.Flag (nat_eq n.0 1), n.1))) (x, rest) e in
+      let made : Cell × List ℕ = (cells.Flag (nat_eq a.0.0 1), a.0.1) in
+      let g = wanted_ok (nat_le a.0.0 1) bytes (done made) (x, rest) a.2 in
+      let t = byte_takes bytes a.0.0 a.0.1 fits a.1 in
+      let small : a.0.0 ≤ 1 = leb-true a.0.0 1 g.0 in
+      subst (λ (p : Cell × List ℕ). Takes bytes (cell_text p.0) p.1 × IsCellOf types.Flag p.0) (ok_is made (x, rest) g.1)
+      (subst (λ (text : List ℕ). Takes bytes text a.0.1) (sym (flag_byte a.0.0 small)) t.takes, record { typed = refl; valid = tt; short = omega arith });
   again = flag_again;
 }
   where
@@ -279,7 +279,7 @@ texts_spelled so_far column rest each le =
     let ends = ends_from 0 (map text_of column) in
     let count : length ends ≡ length column = length-ends_from 0 (map text_of column) ∙ len_map column in
     let read : ends_at so_far 0 (length column) (flat_map end_text ends ++ (joined column ++ rest)) ≡ Ok (ends, joined column ++ rest) =
-      subst (λ (n : ℕ). ends_at so_far 0 n (flat_map end_text ends ++ (joined column ++ rest)) ≡ Ok (ends, joined column ++ rest)) count (ends_again so_far 0 ends (joined column ++ rest) (climb_from so_far 0 column each (omega arith))) in
+    subst (λ (n : ℕ). ends_at so_far 0 n (flat_map end_text ends ++ (joined column ++ rest)) ≡ Ok (ends, joined column ++ rest)) count (ends_again so_far 0 ends (joined column ++ rest) (climb_from so_far 0 column each (omega arith))) in
     ap (λ (bytes : List ℕ). ends_at so_far 0 (length column) bytes >>= λ es. texts_at 0 es.0 es.1) (append_assoc (flat_map end_text ends) (joined column) rest)
     ∙ bind_is (ends_at so_far 0 (length column) (flat_map end_text ends ++ (joined column ++ rest))) (ends, joined column ++ rest) (λ es. texts_at 0 es.0 es.1) read
     ∙ texts_again 0 column rest each

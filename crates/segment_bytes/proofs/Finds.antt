@@ -1,8 +1,8 @@
 -- Columns that are found again by their place.
-use Rattle.std.proofs.Common.{◌≡◌, ℕ, ◌+◌, ◌<◌, ◌≤◌, List, [], ◌++◌, length, drop, Some, Ok, Err, Result, sym, ap, subst, ◌∙◌, arith}
+use Rattle.std.proofs.Common.{◌≡◌, ℕ, ◌+◌, ◌≤◌, List, [], ◌++◌, drop, Some, Ok, Err, sym, ap, subst, ◌∙◌, arith}
 use Rattle.std.specs.Prelude.{slice_get}
 use Rattle.std.specs.List.{flat_map}
-use Rattle.byte_fields.proofs.Steps.{done, ok_is}
+use Rattle.byte_fields.proofs.Steps.{ok_is}
 use Rattle.frame_core.specs.declared.cell.ColType.{ColType}
 use Rattle.frame_core.specs.Texts.{Text}
 use Rattle.segment_bytes.specs.declared.columns.ColumnBytes.{ColumnBytes}
@@ -10,7 +10,7 @@ use Rattle.segment_bytes.specs.CellTexts.{cells_text}
 use Rattle.segment_bytes.specs.Sheets.{Series, series_text}
 use Rattle.segment_bytes.specs.Skipping.{skip_at}
 use Rattle.segment_bytes.specs.Lying.{Spells, LiesAs}
-use Rattle.segment_bytes.proofs.Walks.{Next, next_found, skipped}
+use Rattle.segment_bytes.proofs.Walks.{next_found, skipped}
 
 pub found_next : (rows place i : ℕ) (bytes rest : List ℕ) (all : List Series) (kind : ColType) (name cells after : List ℕ) → Spells rows place bytes all → i ≤ place → rest ≡ flat_map series_text (drop i all) ++ [] → skip_at rows rest ≡ Ok ((kind, name, cells), after) → after ≡ flat_map series_text (drop (i + 1) all) ++ []
 found_next rows place i bytes rest all kind name cells after s le text read =

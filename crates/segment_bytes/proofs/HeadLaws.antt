@@ -1,15 +1,15 @@
 -- A head that is read was spelled so, and a head that is spelled is read again.
-use Rattle.std.proofs.Common.{◌≡◌, ℕ, suc, ◌+◌, ◌<◌, ◌≤◌, Bool, true, false, not, List, [], ◌∷◌, ◌++◌, length, cond, Option, Some, None, Result, Ok, Err, refl, sym, ap, subst, ◌∙◌, append_assoc, arith}
+use Rattle.std.proofs.Common.{◌≡◌, ℕ, ◌≤◌, Bool, true, false, not, List, [], ◌∷◌, ◌++◌, length, cond, Option, Some, None, Ok, refl, sym, ap, subst, ◌∙◌, arith}
 use Rattle.std.specs.Prelude.{nat_le, nat_eq, find, IsUtf8}
 use Rattle.std.specs.Int.{w8}
 use Rattle.std.specs.Str.{is_utf8}
 use Rattle.std.specs.List.{list_any}
 use Rattle.std.proofs.lemmas.Bool.{leb-true, le-leb, eqb-true}
 use Rattle.std.proofs.lemmas.Str.{IsUtf8-from_is_utf8, is_utf8-from_IsUtf8}
-use Rattle.byte_fields.specs.Reading.{Reading, ◌>>=◌, wanted, number_at, bytes_at}
+use Rattle.byte_fields.specs.Reading.{◌>>=◌, wanted, number_at, bytes_at}
 use Rattle.byte_fields.specs.Readers.{IsBytes}
 use Rattle.byte_fields.proofs.Steps.{done, ok_is, bind_ok, bind_is, wanted_ok, wanted_is, Takes, Takes-then}
-use Rattle.byte_fields.proofs.Numbers.{BytesRead, bytes_takes, bytes_again, ByteRead, byte_takes, byte_again}
+use Rattle.byte_fields.proofs.Numbers.{bytes_takes, bytes_again, byte_takes, byte_again}
 use Rattle.frame_core.specs.declared.cell.ColType.{ColType}
 use Rattle.frame_core.specs.declared.cell.ColType.TheVariants as types
 use Rattle.frame_core.specs.Texts.{Text, same_text}

@@ -5,7 +5,10 @@ pub mod Turning
 pub mod SegmentLaws
 pub mod Skips
 pub mod Walks
+pub mod ColumnLoops
 pub mod Finds
 pub mod ViewLaws
 pub mod Writes
 pub mod Getters
+pub mod SegmentGetters
+pub mod Copies

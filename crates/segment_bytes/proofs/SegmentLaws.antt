@@ -1,7 +1,6 @@
 -- Each frame within the limits has one spelling.
-use Rattle.std.proofs.Common.{◌≡◌, ℕ, List, [], ◌∷◌, ◌++◌, Result, Ok, refl, sym, ap, subst, ◌∙◌}
+use Rattle.std.proofs.Common.{◌≡◌, ℕ, List, [], Ok, sym, ap, subst, ◌∙◌}
 use Rattle.std.proofs.lemmas.List.{append-nil}
-use Rattle.byte_fields.specs.Reading.{Reading, ◌>>=◌, whole}
 use Rattle.byte_fields.specs.Readers.{IsBytes}
 use Rattle.byte_fields.proofs.Steps.{done, ok_is, bind_ok, bind_is, whole_takes, whole_again}
 use Rattle.frame_core.specs.Frames.{Frame}

@@ -1,27 +1,26 @@
 -- A sheet that is read was spelled so, and a sheet that is spelled is read again.
-use Rattle.std.proofs.Common.{◌≡◌, ℕ, zero, suc, ◌+◌, ◌*◌, ◌^◌, ◌<◌, ◌≤◌, ℤ, Bool, true, false, not, ◌&&◌, ◌||◌, List, [], ◌∷◌, ◌++◌, map, length, Option, Some, None, Result, Ok, Err, refl, sym, ap, subst, ◌∙◌, append_assoc, arith, w64}
+use Rattle.std.proofs.Common.{◌≡◌, ℕ, zero, suc, ◌+◌, ◌*◌, ◌^◌, ◌<◌, ◌≤◌, ℤ, Bool, true, not, ◌&&◌, ◌||◌, List, [], ◌∷◌, ◌++◌, map, length, Option, Some, None, Ok, refl, sym, ap, subst, ◌∙◌, append_assoc, arith, w64}
 use Rattle.std.specs.Prelude.{nat_le, int_le, FitsSigned, sum_by}
 use Rattle.std.specs.Int.{w16, w32, to_be_bytes}
 use Rattle.std.specs.Option.{option_map_or}
 use Rattle.std.specs.List.{AllByRecursion, flat_map, list_any}
 use Rattle.std.proofs.lemmas.Bool.{leb-true, le-leb}
-use Rattle.std.proofs.lemmas.List.{append-nil}
 use Rattle.std.proofs.lemmas.List.Concat.{flat_map-cons}
 use Rattle.std.proofs.lemmas.List.Sums.{sum_by-cons}
-use Rattle.byte_fields.specs.Reading.{Reading, ◌>>=◌, wanted, number_at, signed_at, magic_at, signed_text}
+use Rattle.byte_fields.specs.Reading.{◌>>=◌, wanted, number_at, signed_at, magic_at, signed_text}
 use Rattle.byte_fields.specs.Readers.{IsBytes}
 use Rattle.byte_fields.proofs.Steps.{done, ok_is, bind_ok, bind_is, wanted_ok, wanted_is, both_true, Takes, Takes-nothing, Takes-then}
 use Rattle.byte_fields.proofs.Numbers.{wide16, wide32, number_takes, number_again, signed_takes, signed_again, magic_takes, magic_again}
 use Rattle.byte_fields.proofs.Lists.{flat_map-front}
 use Rattle.frame_core.specs.declared.cell.Cell.{Cell}
 use Rattle.frame_core.specs.Texts.{Text, same_text}
-use Rattle.frame_core.specs.Schemas.{Head, IsColName, are_new}
+use Rattle.frame_core.specs.Schemas.{Head, are_new}
 use Rattle.segment_bytes.specs.Heads.{head_text, head_at}
 use Rattle.segment_bytes.specs.CellTexts.{joined, cells_text, cells_at}
 use Rattle.segment_bytes.specs.Sheets.{Series, Sheet, series_text, segment_magic, sheet_text, rows_at, count_at, stamp_at, stamps_at, series_at, columns_at, sheet_at}
-use Rattle.segment_bytes.proofs.HeadLaws.{IsNew, HeadRead, head_takes, head_again}
-use Rattle.segment_bytes.specs.Kept.{IsCellOf, IsSeries}
-use Rattle.segment_bytes.proofs.CellLaws.{CellsRead, cells_take, cells_again}
+use Rattle.segment_bytes.proofs.HeadLaws.{IsNew, head_takes, head_again}
+use Rattle.segment_bytes.specs.Kept.{IsSeries}
+use Rattle.segment_bytes.proofs.CellLaws.{cells_take, cells_again}
 
 -- ---- the counts
 
@@ -153,7 +152,7 @@ unfolding series_at
 series_again earlier so_far rows column rest is new within =
     let text = cells_text column.0.1 column.1 in
     let read : cells_at column.0.1 so_far rows (text ++ rest) ≡ Ok (column.1, rest) =
-      subst (λ (n : ℕ). cells_at column.0.1 so_far n (text ++ rest) ≡ Ok (column.1, rest)) is.len (cells_again column.0.1 so_far column.1 rest is.each within) in
+    subst (λ (n : ℕ). cells_at column.0.1 so_far n (text ++ rest) ≡ Ok (column.1, rest)) is.len (cells_again column.0.1 so_far column.1 rest is.each within) in
     ap (λ (bytes : List ℕ). head_at earlier bytes >>= λ head. cells_at head.0.1 so_far rows head.1 >>= λ cs. Ok ((head.0, cs.0), cs.1)) (append_assoc (head_text column.0) text rest)
     ∙ bind_is (head_at earlier (head_text column.0 ++ (text ++ rest))) (column.0, text ++ rest) (λ head. cells_at head.0.1 so_far rows head.1 >>= λ cs. Ok ((head.0, cs.0), cs.1)) (head_again earlier column.0 (text ++ rest) is.named new)
     ∙ bind_is (cells_at column.0.1 so_far rows (text ++ rest)) (column.1, rest) (λ cs. Ok ((column.0, cs.0), cs.1)) read
@@ -234,7 +233,7 @@ sheet_made bytes after_magic after_rows after_count after_stamps rest front rows
     let counted : rows * count ≡ length stamps * length columns = ap (λ (k : ℕ). k * count) (sym t3.len) ∙ ap (λ (k : ℕ). length stamps * k) (sym t4.count) in
     record {
       takes = subst (λ (k : ℕ). Takes bytes ((((segment_magic ++ to_be_bytes w32 k) ++ to_be_bytes w16 (length columns)) ++ flat_map signed_text stamps) ++ flat_map series_text columns) rest) (sym t3.len)
-        (subst (λ (k : ℕ). Takes bytes ((((segment_magic ++ to_be_bytes w32 rows) ++ to_be_bytes w16 k) ++ flat_map signed_text stamps) ++ flat_map series_text columns) rest) (sym t4.count) e04);
+          (subst (λ (k : ℕ). Takes bytes ((((segment_magic ++ to_be_bytes w32 rows) ++ to_be_bytes w16 k) ++ flat_map signed_text stamps) ++ flat_map series_text columns) rest) (sym t4.count) e04);
       sheet = record {
         few_rows = omega (arith, t1.most, t3.len);
         few_columns = omega (arith, t2.most, t4.count);

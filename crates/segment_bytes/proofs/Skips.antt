@@ -1,9 +1,9 @@
 -- Readers that pass over cells.
-use Rattle.std.proofs.Common.{◌≡◌, ℕ, zero, suc, ◌+◌, ◌-◌, ◌*◌, ◌<◌, ◌≤◌, Bool, true, false, ◌&&◌, List, [], ◌∷◌, ◌++◌, map, length, take, drop, Result, Ok, Err, refl, sym, ap, subst, ◌∙◌, arith}
+use Rattle.std.proofs.Common.{◌≡◌, ℕ, zero, suc, ◌+◌, ◌-◌, ◌*◌, ◌<◌, ◌≤◌, Bool, true, false, ◌&&◌, List, [], ◌∷◌, length, take, drop, Result, Ok, Err, refl, sym, ap, ◌∙◌, arith}
 use Rattle.std.specs.Prelude.{nat_le, nat_eq, IsUtf8}
 use Rattle.std.specs.Str.{is_utf8}
 use Rattle.std.specs.Int.{w8, w32, from_be_bytes}
-use Rattle.std.specs.List.{flat_map, AllByRecursion}
+use Rattle.std.specs.List.{flat_map}
 use Rattle.std.proofs.lemmas.Bool.{le-leb}
 use Rattle.std.proofs.lemmas.Str.{IsUtf8-from_is_utf8, is_utf8-from_IsUtf8}
 use Rattle.std.proofs.lemmas.List.{length-append, length-drop}
@@ -12,15 +12,15 @@ use Rattle.byte_fields.specs.Reading.{Reading, ◌>>=◌, wanted, number_at, sig
 use Rattle.byte_fields.specs.Readers.{IsBytes, seen_by, rest_of}
 use Rattle.byte_fields.proofs.Steps.{done, ok_is, bind_ok, bind_is, wanted_ok, wanted_is, seen_ok, seen_err}
 use Rattle.byte_fields.proofs.Lists.{length-flat_map}
-use Rattle.byte_fields.proofs.Skipping.{same_rests, numbers_long}
+use Rattle.byte_fields.proofs.Skipping.{same_rests}
 use Rattle.frame_core.specs.declared.cell.ColType.{ColType}
 use Rattle.frame_core.specs.declared.cell.ColType.TheVariants as types
 use Rattle.frame_core.specs.declared.cell.Cell.{Cell}
 use Rattle.frame_core.specs.declared.cell.Cell.TheVariants as cells
 use Rattle.segment_bytes.specs.Heads.{text_at}
-use Rattle.segment_bytes.specs.CellTexts.{text_of, end_text, ends_from, joined, int_cell_at, stamp_cell_at, flag_cell_at, end_at, ends_at, texts_at, cells_at}
+use Rattle.segment_bytes.specs.CellTexts.{text_of, end_text, joined, int_cell_at, stamp_cell_at, flag_cell_at, end_at, ends_at, texts_at, cells_at}
 use Rattle.segment_bytes.specs.Skipping.{counted, last_end, last_from, ends_in}
-use Rattle.segment_bytes.proofs.CellLaws.{Climb, EndsRead, TextsRead, ends_take, texts_take, last_end-ends_from}
+use Rattle.segment_bytes.proofs.CellLaws.{ends_take, texts_take, last_end-ends_from}
 
 -- ---- texts
 
@@ -142,9 +142,9 @@ texts_on n i start ends bytes e others text rest total lt long number h so_far =
     let others_are : drop 4 ends ≡ others = ap (λ (p : ℕ × List ℕ). p.1) same in
     let ends_are : ends_in (n - i) ends ≡ e ∷ ends_in (n - (i + 1)) others = ap (λ (m : ℕ). ends_in m ends) k ∙ (λ j. end_is j ∷ ends_in (n - (i + 1)) (others_are j)) in
     let one : rest_of (texts_at start (ends_in (n - i) ends) bytes) ≡ rest_of (texts_at e (ends_in (n - (i + 1)) others) rest) =
-      ap (λ (es : List ℕ). rest_of (texts_at start es bytes)) ends_are
-      ∙ ap (λ r. rest_of (r >>= λ t. texts_at e (ends_in (n - (i + 1)) others) t.1 >>= λ more. Ok (cells.Text t.0 ∷ more.0, more.1))) h
-      ∙ text_rest text (texts_at e (ends_in (n - (i + 1)) others) rest) in
+    ap (λ (es : List ℕ). rest_of (texts_at start es bytes)) ends_are
+    ∙ ap (λ r. rest_of (r >>= λ t. texts_at e (ends_in (n - (i + 1)) others) t.1 >>= λ more. Ok (cells.Text t.0 ∷ more.0, more.1))) h
+    ∙ text_rest text (texts_at e (ends_in (n - (i + 1)) others) rest) in
     (omega (arith, length-drop 4 ends, ap length others_are), sym one ∙ so_far)
 
 pub texts_fail : (n i start : ℕ) (ends bytes : List ℕ) (e : ℕ) (others : List ℕ) (left : ℕ) (total : Result (List ℕ) ℕ) → i < n → 4 * (n - i) ≤ length ends → number_at w32 ends ≡ Ok (e, others) → text_at (e - start) bytes ≡ Err left → rest_of (texts_at start (ends_in (n - i) ends) bytes) ≡ total → total ≡ Err left

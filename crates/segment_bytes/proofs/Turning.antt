@@ -1,8 +1,7 @@
 -- A frame and its sheet make each other, and what holds of one holds of the other.
-use Rattle.std.proofs.Common.{◌≡◌, ℕ, zero, suc, ◌+◌, ◌*◌, ◌<◌, ◌≤◌, max, ℤ, Bool, true, false, T, if◌then◌else◌, List, [], ◌∷◌, ◌++◌, map, length, drop, fold, Option, Some, None, refl, sym, ap, subst, ◌∙◌, arith, w64, zero-add, add-one}
+use Rattle.std.proofs.Common.{◌≡◌, ℕ, zero, suc, ◌+◌, ◌*◌, ◌≤◌, max, ℤ, Bool, true, false, T, if◌then◌else◌, List, [], ◌∷◌, map, length, drop, fold, Option, Some, None, refl, sym, ap, subst, ◌∙◌, arith, w64, zero-add, add-one}
 use Rattle.std.specs.Prelude.{slice_get, filter_map, sum_by, nat_lt, int_le, ◌≤ℤ◌, FitsSigned}
 use Rattle.std.specs.List.{AllByRecursion, AllZip}
-use Rattle.std.specs.Option.{option_map_or}
 use Rattle.std.proofs.lemmas.Bool.{ltb-false, le-ltb}
 use Rattle.std.proofs.lemmas.Float.{T_from_true}
 use Rattle.std.proofs.lemmas.List.{length-map, drop_all}
@@ -10,12 +9,11 @@ use Rattle.std.proofs.lemmas.List.Sums.{sum_by-cons}
 use Rattle.std.proofs.lemmas.Slice.Zip.{AllZip-long}
 use Rattle.std.proofs.Math.Nat.{max-le, le-max_left, le-max_right}
 use Rattle.frame_core.specs.declared.cell.Cell.{Cell}
-use Rattle.frame_core.specs.declared.refusal.Extent.{Extent}
 use Rattle.frame_core.specs.declared.refusal.Extent.TheVariants as extents
 use Rattle.frame_core.specs.Texts.{Text}
-use Rattle.frame_core.specs.Schemas.{Head, Schema, IsColName, AreColumns, are_new}
-use Rattle.frame_core.specs.Frames.{Row, Frame, type_of, IsCell, FitsColumns, IsFrame, NeverFall, stamps_of}
-use Rattle.frame_core.specs.Limits.{text_bytes, all_text_bytes, longest_text, too_large, frame_too_large, IsStorable}
+use Rattle.frame_core.specs.Schemas.{Head, IsColName, are_new}
+use Rattle.frame_core.specs.Frames.{Row, Frame, type_of, IsCell, FitsColumns, NeverFall, stamps_of}
+use Rattle.frame_core.specs.Limits.{text_bytes, all_text_bytes, longest_text, too_large, IsStorable}
 use Rattle.frame_core.specs.Columns.{rows_from, cells_of, columns_from}
 use Rattle.frame_core.proofs.Rows.{drop_at_place, length-rows_from, stamps-rows_from, columns-rows_from, rows_from-columns, length-cells_of}
 use Rattle.segment_bytes.specs.CellTexts.{joined}
@@ -140,9 +138,11 @@ later_heads (c ∷ columns) = ap (λ (hs : List Head). c.0 ∷ hs) (later_heads 
 rows_fit : (stamps : List ℤ) (columns : List Series) → AllByRecursion (IsSeries (length stamps)) columns → AllByRecursion (RowFits (heads_in columns)) (rows_from stamps (cells_in columns))
 rows_fit [] columns each = tt
 rows_fit (t ∷ ts) columns each =
-    let rest : AllByRecursion (RowFits (heads_in (later columns))) (rows_from ts (cells_in (later columns))) = rows_fit ts (later columns) (later_series (length ts) columns each) in
-    (first_row (length ts) columns each, subst (λ (hs : List Head). AllByRecursion (RowFits hs) (rows_from ts (map (drop 1) (cells_in columns)))) (later_heads columns)
-      (subst (λ (cs : List (List Cell)). AllByRecursion (RowFits (heads_in (later columns))) (rows_from ts cs)) (later_cells columns) rest))
+    let rest : AllByRecursion (RowFits (heads_in (later columns))) (rows_from ts (cells_in (later columns))) = rows_fit ts (later columns) (later_series (length ts) columns each) in (
+      first_row (length ts) columns each,
+      subst (λ (hs : List Head). AllByRecursion (RowFits hs) (rows_from ts (map (drop 1) (cells_in columns)))) (later_heads columns)
+          (subst (λ (cs : List (List Cell)). AllByRecursion (RowFits (heads_in (later columns))) (rows_from ts cs)) (later_cells columns) rest),
+    )
 
 -- ---- the bytes in texts, by rows and by columns
 
@@ -152,12 +152,12 @@ front_bytes k (head ∷ heads) r rows e =
     let at = drop_at_place k r.cells (omega arith) in
     let column : cells_of k (r ∷ rows) ≡ at.0 ∷ cells_of k rows = rw at.1 refl in
     let here : length (joined (cells_of k (r ∷ rows))) ≡ text_bytes at.0 + length (joined (cells_of k rows)) =
-      ap (λ (c : List Cell). length (joined c)) column ∙ length-joined (at.0 ∷ cells_of k rows) ∙ sum_by-cons text_bytes at.0 (cells_of k rows) ∙ ap (λ (n : ℕ). text_bytes at.0 + n) (sym (length-joined (cells_of k rows))) in
+    ap (λ (c : List Cell). length (joined c)) column ∙ length-joined (at.0 ∷ cells_of k rows) ∙ sum_by-cons text_bytes at.0 (cells_of k rows) ∙ ap (λ (n : ℕ). text_bytes at.0 + n) (sym (length-joined (cells_of k rows))) in
     let rest = front_bytes (k + 1) heads r rows (omega arith) in
     let left = sum_by-cons (λ (c : Series). length (joined c.1)) (head, cells_of k (r ∷ rows)) (series_from (k + 1) heads (r ∷ rows)) in
     let right = sum_by-cons (λ (c : Series). length (joined c.1)) (head, cells_of k rows) (series_from (k + 1) heads rows) in
     let cells : all_text_bytes (drop k r.cells) ≡ text_bytes at.0 + all_text_bytes (drop (k + 1) r.cells) =
-      ap all_text_bytes at.2 ∙ sum_by-cons text_bytes at.0 (drop (suc k) r.cells) ∙ ap (λ (n : ℕ). text_bytes at.0 + all_text_bytes (drop n r.cells)) (sym (add-one k)) in
+    ap all_text_bytes at.2 ∙ sum_by-cons text_bytes at.0 (drop (suc k) r.cells) ∙ ap (λ (n : ℕ). text_bytes at.0 + all_text_bytes (drop n r.cells)) (sym (add-one k)) in
     omega (arith, left, right, here, cells, rest)
 
 no_bytes : (k : ℕ) (heads : List Head) → texts_in (series_from k heads []) ≡ 0
@@ -301,7 +301,7 @@ named_series : (k n : ℕ) (heads : List Head) (rows : List Row) → AllByRecurs
 named_series k n [] rows named lens fit = tt
 named_series k n (head ∷ heads) rows named lens fit = (record { named = named.0; len = lens.0; each = fit.0 }, named_series (k + 1) n heads rows named.1 lens.1 fit.1)
 
-column_lens : (n k count : ℕ) (rows : List Row) → k + count ≡ n → AreWide n rows → AllByRecursion (λ (c : List Cell). length c ≡ length rows) (columns_from k count rows)
+pub column_lens : (n k count : ℕ) (rows : List Row) → k + count ≡ n → AreWide n rows → AllByRecursion (λ (c : List Cell). length c ≡ length rows) (columns_from k count rows)
 column_lens n k zero rows e wide = tt
 column_lens n k (suc count) rows e wide = (length-cells_of n k rows (omega arith) wide, column_lens n (k + 1) count rows (omega arith) wide)
 

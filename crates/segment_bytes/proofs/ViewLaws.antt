@@ -1,17 +1,15 @@
 -- A view is the frame that its bytes spell.
-use Rattle.std.proofs.Common.{◌≡◌, ℕ, ◌+◌, ◌≤◌, Bool, true, List, [], ◌∷◌, ◌++◌, length, Option, None, Result, Ok, Err, ℤ, refl, sym, ap, subst, ◌∙◌, arith}
-use Rattle.std.specs.Prelude.{nat_le, FitsSigned}
+use Rattle.std.proofs.Common.{◌≡◌, ℕ, ◌+◌, ◌≤◌, List, [], ◌∷◌, ◌++◌, length, None, Result, Ok, ℤ, refl, sym, ap, subst, ◌∙◌, arith}
+use Rattle.std.specs.Prelude.{FitsSigned}
 use Rattle.std.specs.Int.{w64}
 use Rattle.std.specs.List.{flat_map, AllByRecursion}
 use Rattle.std.specs.Result.{result_unwrap_or}
-use Rattle.std.proofs.lemmas.Bool.{eqb-true}
-use Rattle.std.proofs.lemmas.List.{append-nil, nil_from_length}
+use Rattle.std.proofs.lemmas.List.{append-nil}
 use Rattle.std.proofs.lemmas.List.Sums.{sum_by-cons}
-use Rattle.byte_fields.specs.Reading.{Reading, ◌>>=◌, whole, magic_at, signed_text}
-use Rattle.byte_fields.specs.Readers.{IsBytes, seen_by, rest_of}
-use Rattle.byte_fields.proofs.Steps.{done, ok_is, seen_ok, whole_again}
+use Rattle.byte_fields.specs.Reading.{◌>>=◌, magic_at, signed_text}
+use Rattle.byte_fields.specs.Readers.{IsBytes, rest_of}
+use Rattle.byte_fields.proofs.Steps.{done, seen_ok, whole_again}
 use Rattle.byte_fields.proofs.Numbers.{magic_takes}
-use Rattle.frame_core.specs.Frames.{Frame}
 use Rattle.frame_core.specs.Limits.{IsStorable}
 use Rattle.segment_bytes.specs.CellTexts.{joined}
 use Rattle.segment_bytes.specs.Sheets.{Series, Sheet, frame_of, series_text, segment_magic, rows_at, count_at, stamps_at, columns_at, sheet_at}

@@ -1,16 +1,15 @@
 -- Loops that write texts and columns, and the spelling that is put together of its parts.
-use Rattle.std.proofs.Common.{◌≡◌, ℕ, zero, suc, ◌+◌, ◌<◌, ◌≤◌, ℤ, Bool, List, [], ◌∷◌, ◌++◌, map, length, get_or, take, drop, Option, Some, refl, sym, ap, subst, ◌∙◌, append_assoc, arith, add-one, zero-add, w32}
+use Rattle.std.proofs.Common.{◌≡◌, ℕ, zero, suc, ◌+◌, ◌≤◌, ℤ, Bool, List, [], ◌∷◌, ◌++◌, map, length, get_or, take, drop, Some, refl, sym, ap, subst, ◌∙◌, append_assoc, arith, add-one, zero-add, w32}
 use Rattle.std.specs.Prelude.{sum_by, slice_get, option_map}
 use Rattle.std.specs.Int.{w16, to_be_bytes}
 use Rattle.std.specs.List.{flat_map}
-use Rattle.std.proofs.lemmas.List.{append-nil, length-map}
+use Rattle.std.proofs.lemmas.List.{length-map}
 use Rattle.std.proofs.lemmas.List.Concat.{flat_map-cons}
 use Rattle.std.proofs.lemmas.List.Sums.{sum_by-cons}
 use Rattle.std.proofs.lemmas.Option.{get_or_from_slice_get, slice_get_within}
 use Rattle.byte_fields.specs.Reading.{signed_text}
 use Rattle.byte_fields.proofs.Written.{Written, written_more}
 use Rattle.frame_core.specs.declared.cell.ColType.{ColType}
-use Rattle.frame_core.specs.declared.cell.ColType.TheVariants as types
 use Rattle.frame_core.specs.declared.cell.Cell.{Cell}
 use Rattle.frame_core.specs.declared.cell.Cell.TheVariants as cells
 use Rattle.frame_core.specs.declared.column.Column.{Column}
@@ -142,9 +141,9 @@ encoded f o0 o1 o2 o3 o4 o5 magic rows count stamps e0 m e1 e2 e3 e4 e5 r k t =
     let column_count : length f.schema.columns ≡ length (series_from 0 f.schema.columns f.rows) = sym (length-series_from 0 f.schema.columns f.rows) in
     e5
     ∙ ap (λ (o : List ℕ). o ++ flat_map series_text (series_from 0 f.schema.columns f.rows)) (e4
-      ∙ (λ i. (e3 i) ++ flat_map signed_text (t i))
-      ∙ ap (λ (o : List ℕ). o ++ flat_map signed_text (stamps_of f.rows)) (
-        (λ i. e2 i ++ to_be_bytes w16 ((k ∙ column_count) i))
-        ∙ ap (λ (o : List ℕ). o ++ to_be_bytes w16 (length (series_from 0 f.schema.columns f.rows))) (
-          (λ i. e1 i ++ to_be_bytes w32 ((r ∙ row_count) i))
-          ∙ ap (λ (o : List ℕ). o ++ to_be_bytes w32 (length (stamps_of f.rows))) (λ i. e0 i ++ m i))))
+    ∙ (λ i. (e3 i) ++ flat_map signed_text (t i))
+    ∙ ap (λ (o : List ℕ). o ++ flat_map signed_text (stamps_of f.rows)) (
+    (λ i. e2 i ++ to_be_bytes w16 ((k ∙ column_count) i))
+    ∙ ap (λ (o : List ℕ). o ++ to_be_bytes w16 (length (series_from 0 f.schema.columns f.rows))) (
+    (λ i. e1 i ++ to_be_bytes w32 ((r ∙ row_count) i))
+    ∙ ap (λ (o : List ℕ). o ++ to_be_bytes w32 (length (stamps_of f.rows))) (λ i. e0 i ++ m i))))

@@ -2,7 +2,7 @@
 --     cells_text          the spelling of cells: one behind another, and of texts first where each ends
 --     ends_at, texts_at   the ends of the next texts, and the texts
 --     cells_at            the next n cells of a type
-use Rattle.std.specs.Prelude.{ℕ, suc, zero, ◌+◌, ◌-◌, ◌&&◌, Bool, true, false, List, [], ◌∷◌, ◌++◌, map, length, flat_map, Result, Ok, nat_le, nat_eq}
+use Rattle.std.specs.Prelude.{ℕ, suc, zero, ◌+◌, ◌-◌, ◌&&◌, Bool, true, false, List, [], ◌∷◌, ◌++◌, map, length, flat_map, Ok, nat_le, nat_eq}
 use Rattle.std.specs.Int.{w8, w32, to_be_bytes}
 use Rattle.byte_fields.specs.Reading.{Reading, ◌>>=◌, wanted, number_at, signed_at, list_at, signed_text}
 use Rattle.frame_core.specs.declared.cell.ColType.{ColType}

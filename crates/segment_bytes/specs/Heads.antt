@@ -1,7 +1,7 @@
 -- The name and type of a column, as bytes.
 --     type_code, head_text    the number of a type, and the spelling of a column's name and type
 --     type_at, name_at, head_at      the next type, name and head
-use Rattle.std.specs.Prelude.{ℕ, Bool, not, List, [], ◌∷◌, ◌++◌, length, Result, Ok, Err, Option, Some, None, find, nat_le, nat_eq}
+use Rattle.std.specs.Prelude.{ℕ, not, List, [], ◌∷◌, length, Ok, Err, Option, Some, None, find, nat_le, nat_eq}
 use Rattle.std.specs.List.{list_any}
 use Rattle.std.specs.Int.{w8}
 use Rattle.std.specs.Str.{is_utf8}

@@ -2,7 +2,7 @@
 --     segment_text        the spelling of a frame
 --     segment_of          the frame that bytes spell, or the fault
 use Rattle.std.specs.Prelude.{ℕ, List, Result, Ok}
-use Rattle.byte_fields.specs.Reading.{Reading, ◌>>=◌, whole}
+use Rattle.byte_fields.specs.Reading.{◌>>=◌, whole}
 use Rattle.frame_core.specs.Frames.{Frame}
 use Rattle.segment_bytes.specs.Sheets.{Sheet, sheet_of, frame_of, sheet_text, sheet_at}
 

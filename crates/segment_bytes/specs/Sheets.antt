@@ -2,7 +2,7 @@
 --     Series, Sheet           a column with its name and type; stamps and columns
 --     sheet_of, frame_of      a frame's columns, and the frame of such columns
 --     sheet_text, sheet_at    the spelling of a sheet, and the sheet that bytes begin with
-use Rattle.std.specs.Prelude.{ℕ, suc, zero, ◌+◌, ◌*◌, ℤ, true, ◌&&◌, List, [], ◌∷◌, ◌++◌, map, length, flat_map, Result, Ok, Option, Some, None, nat_le, int_le}
+use Rattle.std.specs.Prelude.{ℕ, suc, zero, ◌+◌, ◌*◌, ℤ, true, ◌&&◌, List, [], ◌∷◌, ◌++◌, map, length, flat_map, Ok, Option, Some, None, nat_le, int_le}
 use Rattle.std.specs.Option.{option_map_or}
 use Rattle.std.specs.Int.{w16, w32, to_be_bytes}
 use Rattle.byte_fields.specs.Reading.{Reading, ◌>>=◌, wanted, number_at, signed_at, magic_at, signed_text}

@@ -15,7 +15,7 @@ use Rattle.frame_core.specs.Schemas.{Head}
 use Rattle.frame_core.specs.Frames.{Frame}
 use Rattle.frame_core.specs.Limits.{IsStorable}
 use Rattle.segment_bytes.specs.CellTexts.{joined, cells_text, cells_at}
-use Rattle.segment_bytes.specs.Sheets.{Series, Sheet, frame_of, series_text}
+use Rattle.segment_bytes.specs.Sheets.{Sheet, frame_of, series_text}
 use Rattle.segment_bytes.specs.Segments.{sheet_spelled}
 use Rattle.segment_bytes.specs.Kept.{IsCellOf, IsStored}
 

@@ -18,7 +18,12 @@ const MOST_BYTES_OF_A_TEXT: usize = 65_535;
 /// How many bytes of text the next cells have, and what follows the cells. `so_far` bytes stand in the texts of earlier
 /// columns. Where a cell is not whole or breaks its rule, the error is how many bytes are left from it on.
 #[tactic(auto, unfolding(crate::specs::CellTexts::cells_at))]
-pub fn skip_cells(kind: ColType, so_far: usize, rows: u32, bytes: &[u8]) -> Result<(usize, &[u8]), usize>
+pub fn skip_cells(
+    kind: ColType,
+    so_far: usize,
+    rows: u32,
+    bytes: &[u8],
+) -> Result<(usize, &[u8]), usize>
     requires { so_far ≤ 67108864 }
     ensures { Gives (λ x. (x.0, x.1.now)) result (seen_by counted (cells_at kind so_far rows bytes.now)) }
 {

@@ -3,9 +3,8 @@ ghost use Rattle.std.specs.List.{flat_map};
 ghost use Rattle.std.specs.Int.{w64};
 ghost use Rattle.byte_fields.specs.Reading.{signed_text};
 ghost use Rattle.frame_core.specs.Frames.{cell_of};
-
 ghost use Rattle.frame_core.specs.declared.cell.Cell.TheVariants.{Int as int_cell, Flag as flag_cell, Text as text_cell, Stamp as stamp_cell};
-ghost use Rattle.segment_bytes.specs.CellTexts.{end_text};
+ghost use Rattle.segment_bytes.specs.CellTexts.{end_text, cells_text};
 ghost use Rattle.segment_bytes.specs.Views.{cells_in, IsColumnView};
 
 use byte_fields::{read_i64, read_u32};
@@ -55,6 +54,13 @@ impl<'a> ColumnView<'a> {
         ensures { result ≡ length self.now.1 }
     {
         self.rows as u64
+    }
+
+    /// How many bytes the cells take in the segment.
+    pub fn bytes(&self) -> usize
+        ensures { result ≡ length (cells_text self.now.0 self.now.1) }
+    {
+        self.cells.len()
     }
 
     /// The cell of a row, counted from 0.
@@ -128,10 +134,8 @@ pub fn number_in(bytes: &[u8], place: usize) -> i64
 /// The end of the text at a place, in four bytes.
 fn end_in(ends: &[u8], place: usize) -> usize
     requires { 4 * place + 4 ≤ length ends.now }
-    ensures {
-        (all rest : List ℕ) → ends.now ≡ flat_map end_text all ++ rest → place < length all
-        → slice_index all place < 2 ^ 32 → result ≡ slice_index all place
-    }
+    ensures { (all rest : List ℕ) → ends.now ≡ flat_map end_text all ++ rest → place < length all
+        → slice_index all place < 2 ^ 32 → result ≡ slice_index all place }
 {
     let (_, end) = ends.split_at(4 * place);
     match read_u32(end) {
@@ -143,12 +147,14 @@ fn end_in(ends: &[u8], place: usize) -> usize
 /// Where the text at a place begins: where the one before it ends.
 fn start_in(ends: &[u8], place: usize) -> usize
     requires { 4 * place ≤ length ends.now }
-    ensures {
-        (all rest : List ℕ) → ends.now ≡ flat_map end_text all ++ rest → place < length all
-        → slice_index (0 ∷ all) place < 2 ^ 32 → result ≡ slice_index (0 ∷ all) place
-    }
+    ensures { (all rest : List ℕ) → ends.now ≡ flat_map end_text all ++ rest → place < length all
+        → slice_index (0 ∷ all) place < 2 ^ 32 → result ≡ slice_index (0 ∷ all) place }
 {
-    if place == 0 { 0 } else { end_in(ends, place - 1) }
+    if place == 0 {
+        0
+    } else {
+        end_in(ends, place - 1)
+    }
 }
 
 /// Bytes of UTF-8 as a text. A view has tested them, so they are not tested again.

@@ -55,10 +55,8 @@ pub fn next_column(rows: u32, bytes: &[u8]) -> Result<(ColumnBytes<'_>, &[u8]), 
 
 /// Whether one of the first columns, which were read, has the name.
 fn is_among(rows: u32, first: &[u8], count: u16, name: &str) -> bool
-    ensures {
-        (done : List Series) (tail : List ℕ) → AllByRecursion (IsStored rows) done → length done ≡ count
-        → first.now ≡ flat_map series_text done ++ tail → result ≡ list_any (λ (c : Series). same_text name.now c.0.0) done
-    }
+    ensures { (done : List Series) (tail : List ℕ) → AllByRecursion (IsStored rows) done → length done ≡ count
+        → first.now ≡ flat_map series_text done ++ tail → result ≡ list_any (λ (c : Series). same_text name.now c.0.0) done }
 {
     let mut rest = first;
     for _ in 0..count {

@@ -4,6 +4,7 @@
 mod cells;
 mod column_view;
 mod columns;
+mod copying;
 mod heads;
 mod laws;
 mod sheet;

@@ -27,7 +27,8 @@ fn one_column(alloc: Global, stamps: &[i64], name: &str, column: Column) -> Resu
 const ONE_NUMBER: &[u8] = b"ASG1\0\0\0\x01\0\x01\0\0\0\0\0\0\0\x01\x01\x01a\0\0\0\0\0\0\0\x05";
 
 // Stamps 1 and 2, and column `s` of the text x and the empty text.
-const TWO_TEXTS: &[u8] = b"ASG1\0\0\0\x02\0\x01\0\0\0\0\0\0\0\x01\0\0\0\0\0\0\0\x02\x03\x01s\0\0\0\x01\0\0\0\x01x";
+const TWO_TEXTS: &[u8] =
+    b"ASG1\0\0\0\x02\0\x01\0\0\0\0\0\0\0\x01\0\0\0\0\0\0\0\x02\x03\x01s\0\0\0\x01\0\0\0\x01x";
 
 // Stamps 1 and 2, and columns `a` to `d`, one of each type.
 const ALL_TYPES: &[u8] = b"ASG1\0\0\0\x02\0\x04\0\0\0\0\0\0\0\x01\0\0\0\0\0\0\0\x02\
@@ -85,6 +86,16 @@ fn cells_of_each_type_are_read(rt: HostRuntime) -> Result<(), Fail> {
 }
 
 #[test]
+fn a_view_in_memory_is_spelled_as_before(rt: HostRuntime) -> Result<(), Fail> {
+    let alloc = rt.alloc();
+    let seen = view(ALL_TYPES)?;
+    assert!(rt; seen.rows() == 2);
+    let bytes = encode(alloc, &seen.to_frame(alloc)?)?;
+    assert_eq!(rt; bytes.as_slice(), ALL_TYPES);
+    Ok(())
+}
+
+#[test]
 fn a_byte_more_or_less_is_a_fault_at_its_field(rt: HostRuntime) -> Result<(), Fail> {
     let mut longer = Vec::from_slice(rt.alloc(), ONE_NUMBER)?;
     longer.push(0)?;
@@ -104,27 +115,32 @@ fn a_segment_that_is_cut_is_refused(rt: HostRuntime) {
 fn each_broken_rule_is_a_fault_at_its_field(rt: HostRuntime) -> Result<(), Fail> {
     // The place of a byte, another byte for it, and where the fault is.
     let changes = [
-        (3, b'2', 0),      // another magic
-        (4, 1, 4),         // more than 2,000,000 rows
-        (8, 16, 8),        // more than 4,096 columns
-        (17, 3, 18),       // a stamp that falls
-        (26, 0, 26),       // no type
-        (45, 5, 45),       // no type
-        (27, 0, 27),       // a name without bytes
-        (28, 255, 28),     // a name that is not UTF-8
-        (47, b'a', 47),    // the name of an earlier column
-        (48, 2, 48),       // a flag that is neither 0 nor 1
-        (54, 1, 53),       // a text of more than 65,535 bytes
-        (60, 0, 57),       // an end that falls
-        (61, 255, 61),     // a text that is not UTF-8
+        (3, b'2', 0), // another magic
+        (4, 1, 4), // more than 2,000,000 rows
+        (8, 16, 8), // more than 4,096 columns
+        (17, 3, 18), // a stamp that falls
+        (26, 0, 26), // no type
+        (45, 5, 45), // no type
+        (27, 0, 27), // a name without bytes
+        (28, 255, 28), // a name that is not UTF-8
+        (47, b'a', 47), // the name of an earlier column
+        (48, 2, 48), // a flag that is neither 0 nor 1
+        (54, 1, 53), // a text of more than 65,535 bytes
+        (60, 0, 57), // an end that falls
+        (61, 255, 61), // a text that is not UTF-8
     ];
     for (place, byte, at) in changes {
         let mut bytes = Vec::from_slice(rt.alloc(), ALL_TYPES)?;
         assert!(rt; place < bytes.len());
         bytes[place] = byte;
-        assert!(rt; matches!(view(&bytes), Err(fault) if fault.at == at), "at {place}");
+        assert!(rt;
+            matches!(view(&bytes), Err(fault) if fault.at == at),
+            "at {place}"
+        );
     }
     // 2,000,000 rows of 5 columns are more than 8,000,000 cells.
-    assert!(rt; matches!(view(b"ASG1\0\x1e\x84\x80\0\x05".as_slice()), Err(fault) if fault.at == 8));
+    assert!(rt;
+        matches!(view(b"ASG1\0\x1e\x84\x80\0\x05".as_slice()), Err(fault) if fault.at == 8)
+    );
     Ok(())
 }

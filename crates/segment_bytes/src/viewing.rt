@@ -1,7 +1,7 @@
 ghost use Rattle.std.specs.Prelude.{◌≡◌, ◌<◌, ℕ, length, slice_get, IfOk, IfErr, IsOkAnd, Ok, Some};
 ghost use Rattle.byte_fields.specs.Reading.{fault_at};
 ghost use Rattle.byte_fields.specs.Readers.{Gives};
-ghost use Rattle.frame_core.specs.Frames.{Frame, stamp_at, cell_at, type_at, cell_of};
+ghost use Rattle.frame_core.specs.Frames.{Frame as Table, stamp_at, cell_at, type_at, cell_of};
 ghost use Rattle.frame_core.specs.Columns.{cells_of};
 ghost use Rattle.frame_core.specs.declared.cell.Cell.TheVariants.{Int as int_cell, Flag as flag_cell, Text as text_cell, Stamp as stamp_cell};
 ghost use Rattle.frame_core.specs.Limits.{IsStorable};
@@ -10,9 +10,11 @@ ghost use Rattle.segment_bytes.specs.Views.{name_of};
 
 use crate::column_view::{ColumnView, number_in, text_in};
 use crate::columns::{find_column, skip_columns};
+use crate::copying::{copy_columns, copy_names, copy_stamps};
 use crate::sheet::{read_count, read_rows, skip_stamps};
 use byte_fields::read_magic;
-use frame_core::{CellRef, ColType};
+use frame_core::{CellRef, ColType, Frame, NoMemory, RawFrame};
+use std::alloc::Global;
 use std::marker::Model;
 
 /// Where bytes are no segment: the place of the first field that is not whole or breaks its rule.
@@ -53,7 +55,7 @@ impl<'a> Model for SegView<'a> {
 pub fn view(bytes: &[u8]) -> Result<SegView<'_>, SegFault>
     // What is read is what the bytes spell; and what they spell is read.
     ensures found { IfOk result (λ v. segment_of bytes.now ≡ Ok v) }
-    ensures only { (f : Frame) → segment_of bytes.now ≡ Ok f → IsOkAnd result (λ v. v ≡ f) }
+    ensures only { (f : Table) → segment_of bytes.now ≡ Ok f → IsOkAnd result (λ v. v ≡ f) }
     // A fault is that of the first bad field.
     ensures fault { IfErr result (λ e. fault_at (length bytes.now) (segment_of bytes.now) ≡ Some e.at) }
     ensures spelled { IfOk result (λ v. bytes.now ≡ segment_text v) }
@@ -184,5 +186,21 @@ impl<'a> SegView<'a> {
         ensures { cell_at self.now row col ≡ Some (stamp_cell result) }
     {
         self.column(col).stamp(row)
+    }
+
+    /// The frame, in memory of its own.
+    pub fn to_frame(&self, alloc: Global) -> Result<Frame, NoMemory>
+        ensures { IfOk result (λ frame. frame ≡ self.now) }
+    {
+        let _ = &self.bytes;
+        let raw = RawFrame {
+            stamps: copy_stamps(alloc, self)?,
+            names: copy_names(alloc, self)?,
+            columns: copy_columns(alloc, self)?,
+        };
+        match Frame::make(alloc, &raw) {
+            Ok(frame) => Ok(frame),
+            Err(_) => Err(NoMemory),
+        }
     }
 }

@@ -8,7 +8,7 @@ ghost use Rattle.segment_bytes.specs.Sheets.{series_from, series_text};
 ghost use Rattle.segment_bytes.specs.Segments.{segment_text, segment_of};
 
 use crate::heads::put_head;
-use byte_fields::{put_bytes, put_i64, put_u16, put_u32, put_u8};
+use byte_fields::{put_bytes, put_i64, put_u8, put_u16, put_u32};
 use frame_core::{Column, Frame, NoMemory, TextList};
 use std::alloc::Global;
 
@@ -46,7 +46,10 @@ fn cells_len(column: &Column) -> usize {
         Column::Texts(_) => 4,
         Column::Stamps(_) => 8,
     };
-    column.len().saturating_mul(width).saturating_add(column.text_bytes())
+    column
+        .len()
+        .saturating_mul(width)
+        .saturating_add(column.text_bytes())
 }
 
 /// Adds numbers of eight bytes each.

@@ -1,4 +1,3 @@
-use Rattle.std.proofs.Common.{◌≡◌, ◌∙◌, sym}
 use Rattle.std.proofs.lemmas.Result.{err_from_is_err_and}
 use Rattle.segment_bytes.proofs.Skips.{ends_on, ends_fail, ends_end}
 use Rattle.segment_bytes.proofs.cells.skip_ends.Goals as goal

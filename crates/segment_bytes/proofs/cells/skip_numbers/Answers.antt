@@ -1,4 +1,3 @@
-use Rattle.std.proofs.Common.{◌≡◌, ◌∙◌, sym}
 use Rattle.byte_fields.proofs.Skipping.{numbers_short, numbers_long}
 use Rattle.segment_bytes.proofs.cells.skip_numbers.Goals as goal
 

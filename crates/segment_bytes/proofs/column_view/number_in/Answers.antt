@@ -1,4 +1,4 @@
-use Rattle.std.proofs.Common.{◌≡◌, ◌∙◌, sym, rules, w64, SFits}
+use Rattle.std.proofs.Common.{◌∙◌, rules, w64, SFits}
 use Rattle.std.proofs.lemmas.Int.{to_z-of_z}
 use Rattle.segment_bytes.proofs.Getters.{number_is}
 use Rattle.segment_bytes.proofs.column_view.number_in.Goals as goal

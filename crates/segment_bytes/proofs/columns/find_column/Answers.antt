@@ -1,4 +1,4 @@
-use Rattle.std.proofs.Common.{◌≡◌, ◌<◌, length, sym, ap, arith}
+use Rattle.std.proofs.Common.{arith}
 use Rattle.segment_bytes.proofs.Finds.{found_next, found_fails, found_here}
 use Rattle.segment_bytes.proofs.columns.find_column.Goals as goal
 

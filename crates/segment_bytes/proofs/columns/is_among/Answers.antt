@@ -1,4 +1,4 @@
-use Rattle.std.proofs.Common.{◌≡◌, ◌∙◌, ℕ, List, length, sym, ap, arith}
+use Rattle.std.proofs.Common.{◌∙◌, ℕ, List, sym, ap, arith}
 use Rattle.frame_core.specs.Texts.{same_text}
 use Rattle.segment_bytes.proofs.Walks.{among_found, among_not, among_err}
 use Rattle.segment_bytes.proofs.columns.is_among.Goals as goal

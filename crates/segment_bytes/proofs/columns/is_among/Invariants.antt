@@ -1,6 +1,5 @@
-use Rattle.std.proofs.Common.{◌≡◌, ◌++◌, ℕ, List, length, take, drop, false}
-use Rattle.std.specs.List.{AllByRecursion, flat_map, list_any}
-use Rattle.frame_core.specs.Texts.{same_text}
+use Rattle.std.proofs.Common.{◌≡◌, ◌++◌, ℕ, List, length}
+use Rattle.std.specs.List.{AllByRecursion, flat_map}
 use Rattle.segment_bytes.specs.Sheets.{Series, series_text}
 use Rattle.segment_bytes.specs.Kept.{IsStored}
 use Rattle.segment_bytes.proofs.Walks.{Passed}

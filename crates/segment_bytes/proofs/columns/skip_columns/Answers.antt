@@ -1,6 +1,6 @@
-use Rattle.std.proofs.Common.{◌≡◌, ◌∙◌, sym, arith}
+use Rattle.std.proofs.Common.{arith}
 use Rattle.std.proofs.lemmas.Result.{err_from_is_err_and}
-use Rattle.segment_bytes.proofs.Walks.{so_far_none, so_far_more, so_far_head, so_far_name, so_far_cells, so_far_all, cells_small}
+use Rattle.segment_bytes.proofs.ColumnLoops.{so_far_none, so_far_more, so_far_head, so_far_name, so_far_cells, so_far_all, cells_small}
 use Rattle.segment_bytes.proofs.columns.skip_columns.Goals as goal
 
 pub loop-at-init : goal.loop-at-init

@@ -1,4 +1,4 @@
-use Rattle.segment_bytes.proofs.Walks.{SoFar}
+use Rattle.segment_bytes.proofs.ColumnLoops.{SoFar}
 use Rattle.segment_bytes.proofs.columns.skip_columns.Given as goal
 
 -- the columns so far were read, and what is left gives what the whole gives

@@ -1,4 +1,4 @@
-use Rattle.std.proofs.Common.{◌≡◌, ◌∙◌, ◌+◌, ◌-◌, ℤ, Some, ap, rules, w64, SFits}
+use Rattle.std.proofs.Common.{◌∙◌, ◌+◌, ◌-◌, ℤ, Some, ap, rules, w64, SFits}
 use Rattle.std.proofs.lemmas.Int.{to_z-of_z}
 use Rattle.std.proofs.lemmas.Result.{err_from_is_err_and}
 use Rattle.byte_fields.specs.Readers.{rest_of}

@@ -1,4 +1,4 @@
-use Rattle.std.proofs.Common.{◌≡◌, ◌∙◌, sym, arith, Ok}
+use Rattle.std.proofs.Common.{◌∙◌, sym, arith}
 use Rattle.byte_fields.proofs.Steps.{ok_is}
 use Rattle.segment_bytes.proofs.SegmentLaws.{segment_takes}
 use Rattle.segment_bytes.proofs.viewing.view.Goals as goal

@@ -1,4 +1,4 @@
-use Rattle.std.proofs.Common.{◌≡◌, ◌∙◌, length, sym, ap, arith}
+use Rattle.std.proofs.Common.{◌≡◌, ◌∙◌, length, ap}
 use Rattle.frame_core.specs.Schemas.{Schema}
 use Rattle.segment_bytes.specs.Segments.{segment_text, segment_of}
 use Rattle.segment_bytes.proofs.SegmentLaws.{segment_again}

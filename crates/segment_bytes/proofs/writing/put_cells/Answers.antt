@@ -1,4 +1,4 @@
-use Rattle.std.proofs.Common.{◌≡◌, ◌∙◌, ◌++◌, List, ℕ, ℤ, Bool, sym, ap, append_assoc}
+use Rattle.std.proofs.Common.{◌∙◌, ◌++◌, List, ℕ, ℤ, Bool, ap, append_assoc}
 use Rattle.std.specs.List.{flat_map}
 use Rattle.std.proofs.lemmas.Result.{on_ok_weaker}
 use Rattle.byte_fields.specs.Reading.{signed_text}
@@ -28,6 +28,6 @@ pub returns-in_ok-put_ends-in-Texts : goal.returns-in_ok-put_ends-in-Texts
 returns-in_ok-put_ends-in-Texts c =
     on_ok_weaker c.put_texts.result
     (λ e. e ∙ ap (λ (t : List ℕ). t ++ flat_map (λ (u : List ℕ). u) c.in-Texts.texts) c.in_ok-put_ends-in-Texts.ensures
-      ∙ append_assoc c.args.out.now.items (flat_map end_text (ends_from 0 c.in-Texts.texts)) (flat_map (λ (u : List ℕ). u) c.in-Texts.texts)
-      ∙ ap (λ (t : List ℕ). c.args.out.now.items ++ t) (texts_text c.args.column.now c.in-Texts.texts c.in-Texts.is))
+    ∙ append_assoc c.args.out.now.items (flat_map end_text (ends_from 0 c.in-Texts.texts)) (flat_map (λ (u : List ℕ). u) c.in-Texts.texts)
+    ∙ ap (λ (t : List ℕ). c.args.out.now.items ++ t) (texts_text c.args.column.now c.in-Texts.texts c.in-Texts.is))
     c.put_texts.ensures

@@ -1,4 +1,4 @@
-use Rattle.std.proofs.Common.{◌≡◌, ◌∙◌, length, sym, ap, arith}
+use Rattle.std.proofs.Common.{◌∙◌, length, sym, ap, arith}
 use Rattle.std.specs.Prelude.{slice_get}
 use Rattle.byte_fields.proofs.Written.{written_all}
 use Rattle.frame_core.specs.Schemas.{Schema}

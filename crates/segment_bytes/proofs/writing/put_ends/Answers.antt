@@ -1,4 +1,4 @@
-use Rattle.std.proofs.Common.{◌≡◌, ◌∙◌, sym, arith}
+use Rattle.std.proofs.Common.{arith}
 use Rattle.segment_bytes.proofs.Writes.{ends_small, ends_more}
 use Rattle.segment_bytes.proofs.writing.put_ends.Goals as goal
 

@@ -1,4 +1,3 @@
-use Rattle.std.proofs.Common.{◌≡◌, ◌∙◌, sym, arith}
 use Rattle.segment_bytes.proofs.Writes.{texts_more}
 use Rattle.segment_bytes.proofs.writing.put_texts.Goals as goal
 

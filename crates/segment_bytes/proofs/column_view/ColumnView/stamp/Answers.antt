@@ -1,4 +1,4 @@
-use Rattle.std.proofs.Common.{◌≡◌, ◌∙◌, Some, ℤ, ap, sym, rules, w64, SFits}
+use Rattle.std.proofs.Common.{◌∙◌, Some, ℤ, ap, sym, rules, w64, SFits}
 use Rattle.std.proofs.lemmas.Int.{to_z-of_z}
 use Rattle.frame_core.specs.declared.cell.Cell.TheVariants as variants
 use Rattle.frame_core.specs.declared.cell.ColType.TheVariants as types

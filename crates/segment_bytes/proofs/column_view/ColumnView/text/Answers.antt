@@ -1,4 +1,4 @@
-use Rattle.std.proofs.Common.{◌≡◌, ◌∙◌, ◌≤◌, List, ℕ, Some, ap, sym, subst, arith}
+use Rattle.std.proofs.Common.{◌∙◌, List, ℕ, Some, ap, sym, subst, arith}
 use Rattle.std.specs.Prelude.{IsUtf8}
 use Rattle.frame_core.specs.declared.cell.Cell.TheVariants as variants
 use Rattle.frame_core.specs.declared.cell.ColType.TheVariants as types

@@ -1,8 +1,8 @@
-use Rattle.std.proofs.Common.{◌≡◌, ◌∙◌, Some, List, length, ap, sym}
+use Rattle.std.proofs.Common.{◌∙◌, Some, List, length, ap, sym}
 use Rattle.std.specs.Prelude.{slice_get}
 use Rattle.frame_core.specs.declared.cell.ColType.{ColType}
 use Rattle.frame_core.specs.declared.cell.Cell.{Cell}
-use Rattle.segment_bytes.proofs.Getters.{viewed_column, kind_found, cells_found, cells_count, cell_at-column, view_storable}
+use Rattle.segment_bytes.proofs.SegmentGetters.{viewed_column, kind_found, cells_found, cells_count, cell_at-column, view_storable}
 use Rattle.segment_bytes.proofs.viewing.SegView.column.Goals as goal
 
 pub new-requires : goal.new-requires

@@ -1,4 +1,4 @@
-use Rattle.segment_bytes.proofs.Getters.{viewed_column, kind_found}
+use Rattle.segment_bytes.proofs.SegmentGetters.{viewed_column, kind_found}
 use Rattle.segment_bytes.proofs.viewing.SegView.kind.Goals as goal
 
 pub returns : goal.returns

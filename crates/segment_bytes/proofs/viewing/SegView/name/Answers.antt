@@ -1,5 +1,5 @@
-use Rattle.std.proofs.Common.{◌≡◌, ◌∙◌, Some, List, ℕ, ap, sym}
-use Rattle.segment_bytes.proofs.Getters.{viewed_column, name_found}
+use Rattle.std.proofs.Common.{◌∙◌, Some, List, ℕ, ap, sym}
+use Rattle.segment_bytes.proofs.SegmentGetters.{viewed_column, name_found}
 use Rattle.segment_bytes.proofs.viewing.SegView.name.Goals as goal
 
 pub text_in-requires : goal.text_in-requires

@@ -1,4 +1,4 @@
-use Rattle.segment_bytes.proofs.Getters.{view_rows, view_storable}
+use Rattle.segment_bytes.proofs.SegmentGetters.{view_rows, view_storable}
 use Rattle.segment_bytes.proofs.viewing.SegView.rows.Goals as goal
 
 pub returns-clause-rows : goal.returns-clause-rows

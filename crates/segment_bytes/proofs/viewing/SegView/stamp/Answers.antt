@@ -1,6 +1,6 @@
-use Rattle.std.proofs.Common.{◌≡◌, ◌∙◌, Some, ℤ, ap, sym, rules, w64, SFits}
+use Rattle.std.proofs.Common.{◌∙◌, Some, ℤ, ap, sym, rules, w64, SFits}
 use Rattle.std.proofs.lemmas.Int.{to_z-of_z}
-use Rattle.segment_bytes.proofs.Getters.{view_stamp}
+use Rattle.segment_bytes.proofs.SegmentGetters.{view_stamp}
 use Rattle.segment_bytes.proofs.viewing.SegView.stamp.Goals as goal
 
 pub number_in-requires : goal.number_in-requires
