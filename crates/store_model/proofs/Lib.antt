@@ -1,0 +1,13 @@
+pub mod Dropping
+pub mod Putting
+pub mod Needing
+pub mod Linking
+pub mod Naming
+pub mod Referring
+pub mod AsPut
+pub mod Lawful
+pub mod Stability
+pub mod StableRefer
+pub mod Stable
+pub mod Standing
+pub mod MovesOn
