@@ -11,3 +11,4 @@ pub mod StableRefer
 pub mod Stable
 pub mod Standing
 pub mod MovesOn
+pub mod Walking
