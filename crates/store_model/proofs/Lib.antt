@@ -12,3 +12,10 @@ pub mod Stable
 pub mod Standing
 pub mod MovesOn
 pub mod Walking
+pub mod Rows
+pub mod Witness
+pub mod WitnessKept
+pub mod WitnessShared
+pub mod WitnessPruned
+pub mod WitnessMet
+pub mod WitnessCleared
