@@ -5,7 +5,7 @@
 --     committed               the answer of a commit, with what it buries
 --     version_or, base_or     a version, or why there is none
 --     may_append, joined_within      whether a frame may be joined to the base
-use Rattle.std.specs.Prelude.{ℕ, ℤ, Bool, true, false, not, if◌then◌else◌, List, [], ◌∷◌, map, reverse, slice_get, Option, Some, None, Result, Ok, Err, int_lt, unwrap_or}
+use Rattle.std.specs.Prelude.{ℕ, ℤ, Bool, true, false, not, if◌then◌else◌, List, [], ◌∷◌, map, reverse, slice_get, Option, Some, None, Result, Ok, Err, int_lt, unwrap_or, option_map}
 use Rattle.frame_core.specs.declared.raw.RawFrame.{RawFrame}
 use Rattle.frame_core.specs.declared.refusal.Asked.{Asked}
 use Rattle.frame_core.specs.declared.refusal.Asked.TheVariants as asks
@@ -60,9 +60,13 @@ or_refuse (Some a) why = Ok a
 
 -- ---- parts of answers
 
--- the session's frame of this number
-abbrev pub frame_of : Session → ℕ → Result Frame Refusal
-frame_of s n = or_refuse (slice_get s.frames n) refusals.NoMemory then frame_from
+-- the session's frame of this number, counted from 0, or the first refusal of it
+abbrev pub frame_of : Session → ℕ → Option (Result Frame Refusal)
+frame_of s n = option_map frame_from (slice_get s.frames n)
+
+-- the answer that goes on with the session's frame of this number; there is none where no frame has it
+abbrev pub with_frame : Session → ℕ → (Frame → Result Answer Refusal) → Option Answer
+with_frame s n next = option_map (λ frame. answered (frame then next)) (frame_of s n)
 
 -- the stamp of a change: the command's, or the session's moment
 abbrev pub stamp_of : Session → Option ℤ → ℤ

@@ -76,7 +76,7 @@ pub record IsStaging (s : Session) (symbol : Name) (frame : ℕ) (es : List Even
   pub is : es ≡ events.Put s.client key body ∷ []
   pub key_is : IsKeyOf kinds.Staged symbol key
   pub whole : Frame
-  pub frame_is : frame_of s frame ≡ Ok whole
+  pub frame_is : frame_of s frame ≡ Some (Ok whole)
   pub spelled : segment_of body ≡ Ok whole
 
 -- what the changes of a commit are, the clause of the reply tells

@@ -43,10 +43,10 @@ in_piece_order before (p ∷ ps) = insert_piece before p (in_piece_order before 
 abbrev pub taken : State → State → List Piece
 taken listed st = filter (λ p. list_any (λ (q : Piece). same_piece p.name q.name) listed.staged) (open_pieces st)
 
--- the least piece, from n, whose schema is not that of the first
-abbrev pub odd_piece : Schema → ℕ → List Piece → Option ℕ
-odd_piece schema n [] = None
-odd_piece schema n (p ∷ ps) = elim (schemas_differ schema p.frame.schema) [ Some c ↦ Some c | None ↦ odd_piece schema (n + 1) ps ]
+-- the least column in which the first piece differs that does not have this schema
+abbrev pub odd_column : Schema → List Piece → Option ℕ
+odd_column schema [] = None
+odd_column schema (p ∷ ps) = elim (schemas_differ schema p.frame.schema) [ Some column ↦ Some column | None ↦ odd_column schema ps ]
 
 -- the least piece, from n, whose first stamp lies below the last stamp before it; pieces without rows are passed over
 abbrev pub overlap : ℕ → Option ℤ → List Piece → Option ℕ
@@ -99,7 +99,7 @@ first_schema ps = option_map (λ p. p.frame.schema) (first_of ps)
 abbrev pub finalize_answer : State → State → Bool → Bool → Bool → ℤ → Result Answer Refusal
 finalize_answer listed st append sorted prune at =
     or_refuse (first_schema ps) refusals.NoStaged then λ schema.
-    unless (odd_piece schema 1 ps) refusals.SchemaDiffers (
+    unless (odd_column schema ps) refusals.SchemaDiffers (
     unless (if sorted then None else overlap 1 None ps) refusals.StagedOverlap (
     may_append (base_if append st) (record { schema = schema; rows = finalized_rows sorted ps }) then λ frame.
     within_limits (on_base (λ old new. old ++ new) (base_if append st) frame) then λ whole.

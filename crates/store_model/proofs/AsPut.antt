@@ -24,7 +24,7 @@ use Rattle.store_model.specs.declared.chain.ChainMark.TheVariants as marks
 use Rattle.store_model.specs.declared.chain.Entry.{Entry}
 use Rattle.store_model.specs.ChainText.{entry_of}
 use Rattle.store_model.specs.Links.{Linked, linked, links, links_at, links_of, links_in, index_put, tiles_put, frame_put, with_tile, element, entries}
-use Rattle.store_model.specs.Library.{State, Piece, state_of, after_change, piece_staged, staged_key}
+use Rattle.store_model.specs.Library.{State, Piece, state_of, after_change, piece_staged, staged_key, after_changes}
 use Rattle.store_model.specs.Law.{IsLawful, MayPut, SpellsKind, HasStamps}
 use Rattle.store_model.proofs.Putting.{staged_here, piece_here, staged_key_is}
 use Rattle.store_model.proofs.Referring.{linked_row}
@@ -139,7 +139,7 @@ pieces_as_put (events.Put client key body ∷ h) lawful once symbol p c = elim (
   | inr old ↦ frame_stays h (events.Put client key body ∷ h) (put_stays h (events.Put client key body) once) (staged_key symbol p) p.frame (pieces_as_put h lawful.1 once.1 symbol p old)
 ]
 pieces_as_put (events.Refer client s was entry list ∷ h) lawful once symbol p c =
-    elim (same_name s symbol) as (λ t. Contains (cond t (fold after_change (state_of h symbol) list) (state_of h symbol)).staged p → frame_put h (staged_key symbol p) ≡ Some p.frame) [
+    elim (same_name s symbol) as (λ t. Contains (cond t (after_changes (state_of h symbol) list) (state_of h symbol)).staged p → frame_put h (staged_key symbol p) ≡ Some p.frame) [
       | true ↦ λ d. pieces_as_put h lawful.1 once symbol p (subst (λ ps. Contains ps p) (staged_same (state_of h symbol) list) d)
       | false ↦ λ d. pieces_as_put h lawful.1 once symbol p d
     ] c

@@ -22,7 +22,7 @@ use Rattle.bucket_core.proofs.Histories.{stands_at_refer, stands_from}
 use Rattle.store_model.specs.declared.chain.LinkRow.{LinkRow}
 use Rattle.store_model.specs.declared.snapshot.SnapRow.{SnapRow}
 use Rattle.store_model.specs.declared.snapshot.SnapBody.{SnapBody}
-use Rattle.store_model.specs.Library.{Version, state_of, number_after, next_number, after_change, open_pieces, staged_key}
+use Rattle.store_model.specs.Library.{Version, state_of, number_after, next_number, after_change, open_pieces, staged_key, after_changes}
 use Rattle.store_model.specs.Snapshots.{snap_body}
 use Rattle.store_model.specs.Links.{Linked, linked, links, links_at, links_of, links_in, reached, is_needed, entries, index_put, tiles_put}
 use Rattle.store_model.specs.Holders.{IsHeldRow, is_held_by, has_index}
@@ -169,7 +169,7 @@ module _ (h : History) (client : ℕ) (symbol : Name) (was : Option Key) (entry 
 
   held_row : (snap : Name) (body : SnapBody) → snap_body h snap ≡ Some body → (r : SnapRow) → IsHeldRow h body.holder r → IsHeldRow (event ∷ h) body.holder r
   held_row snap body e r k = (
-    at_symbol symbol r.symbol (λ t. is_held_by (cond t (fold after_change (state_of h r.symbol) list) (state_of h r.symbol)) body.holder r.version ≡ true)
+    at_symbol symbol r.symbol (λ t. is_held_by (cond t (after_changes (state_of h r.symbol) list) (state_of h r.symbol)) body.holder r.version ≡ true)
         (λ same. let m = may_at r.symbol same in
         holds_stay h client r.symbol m.row body.holder r.version list (state_of h r.symbol) m.fits (λ other f. may_not_release h client r.symbol other snap body i e f) k.0)
         k.0,
@@ -185,17 +185,17 @@ module _ (h : History) (client : ℕ) (symbol : Name) (was : Option Key) (entry 
     table_keys = λ s l key. at_symbol symbol s (λ t. Contains (cond t (links_at h entry ++ links h s) (links h s)) l → Contains (reached l) key → IsTableKey s key)
         (λ e. table_keys_here h client s was entry list (may_at s e) i l key) (i.table_keys s l key);
     needed = λ s l key there need reach. stays key (at_symbol symbol s
-        (λ t. Contains (cond t (links_at h entry ++ links h s) (links h s)) l → is_needed (cond t (fold after_change (state_of h s) list) (state_of h s)) l ≡ true → Contains (reached l) key → StandsAsPut h key)
+        (λ t. Contains (cond t (links_at h entry ++ links h s) (links h s)) l → is_needed (cond t (after_changes (state_of h s) list) (state_of h s)) l ≡ true → Contains (reached l) key → StandsAsPut h key)
         (λ e. needed_here h client s was entry list (may_at s e) i l key) (i.needed s l key) there need reach);
     element_keys = λ s key. at_symbol symbol s (λ t. Contains (cond t (entry ∷ entries h s) (entries h s)) key → (key.name ≡ s) × (key.kind ≡ kinds.Version))
         (λ e. element_keys_here h client s was entry list (may_at s e) i key) (i.element_keys s key);
     elements = λ s key there. stays key (at_symbol symbol s (λ t. Contains (cond t (entry ∷ entries h s) (entries h s)) key → StandsAsPut h key)
         (λ e. elements_here h client s was entry list (may_at s e) i key) (i.elements s key) there);
-    pieces = λ s p there. stays (staged_key s p) (i.pieces s p (at_symbol symbol s (λ t. Contains (open_pieces (cond t (fold after_change (state_of h s) list) (state_of h s))) p → Contains (open_pieces (state_of h s)) p)
+    pieces = λ s p there. stays (staged_key s p) (i.pieces s p (at_symbol symbol s (λ t. Contains (open_pieces (cond t (after_changes (state_of h s) list) (state_of h s))) p → Contains (open_pieces (state_of h s)) p)
         (λ e. refer_opens_none (state_of h s) list p) (λ c. c) there));
-    versions = λ s. at_symbol symbol s (λ t. AllZip IsLinkOf (cond t (links_at h entry ++ links h s) (links h s)) (cond t (fold after_change (state_of h s) list) (state_of h s)).versions)
+    versions = λ s. at_symbol symbol s (λ t. AllZip IsLinkOf (cond t (links_at h entry ++ links h s) (links h s)) (cond t (after_changes (state_of h s) list) (state_of h s)).versions)
         (λ e. versions_here h client s was entry list (may_at s e) i) (i.versions s);
-    below = λ s l. at_symbol symbol s (λ t. Contains (cond t (links_at h entry ++ links h s) (links h s)) l → l.row.version < next_number (cond t (fold after_change (state_of h s) list) (state_of h s)))
+    below = λ s l. at_symbol symbol s (λ t. Contains (cond t (links_at h entry ++ links h s) (links h s)) l → l.row.version < next_number (cond t (after_changes (state_of h s) list) (state_of h s)))
         (λ e. below_here h client s was entry list (may_at s e) i l) (i.below s l);
     chain = λ s. (spells s, i.chain s);
     held = λ snap body e. all_weaker (IsHeldRow h body.holder) (IsHeldRow (event ∷ h) body.holder) (held_row snap body e) body.rows (i.held snap body e);

@@ -20,7 +20,7 @@ use Rattle.bucket_core.specs.declared.event.Event.TheVariants as events
 use Rattle.bucket_core.specs.History.{History, Bytes, author, puts_by}
 use Rattle.store_model.specs.declared.chain.LinkRow.{LinkRow}
 use Rattle.store_model.specs.declared.snapshot.SnapRow.{SnapRow}
-use Rattle.store_model.specs.Library.{State, Version, state_of, after_change, is_live, same_piece}
+use Rattle.store_model.specs.Library.{State, Version, state_of, after_change, is_live, same_piece, after_changes}
 use Rattle.store_model.specs.Links.{Linked, links, links_at, reached, reaches, is_needed, is_reached, is_reached_by_needed, entries, is_entry}
 use Rattle.store_model.specs.Holders.{IsHeldRow, is_held_by, has_index, holder_is, has_name}
 use Rattle.store_model.specs.Commits.{MayRefer, FitsLink, FitsReleased, IsFresh, MayNameKey, newest_reaches}
@@ -77,7 +77,7 @@ may_not_release_others h client symbol other holder apart unnamed f = is_false (
 
 pub held_row_stays : (h : History) (x : Event) (holder : Holder) (r : SnapRow) → IsClaimed h x → (author x ≡ holder.client → ⊥) → has_name h holder ≡ false → IsHeldRow h holder r → IsHeldRow (x ∷ h) holder r
 held_row_stays h (events.Refer c s was entry list) holder r claim apart unnamed k = (
-  at_symbol s r.symbol (λ t. is_held_by (cond t (fold after_change (state_of h r.symbol) list) (state_of h r.symbol)) holder r.version ≡ true)
+  at_symbol s r.symbol (λ t. is_held_by (cond t (after_changes (state_of h r.symbol) list) (state_of h r.symbol)) holder r.version ≡ true)
       (λ same. let m : MayRefer h c r.symbol was entry list = subst (λ n. MayRefer h c n was entry list) same claim in
       holds_stay h c r.symbol m.row holder r.version list (state_of h r.symbol) m.fits (λ other f. may_not_release_others h c r.symbol other holder apart unnamed f) k.0)
       k.0,
@@ -184,13 +184,13 @@ dead_stays h (events.Refer c s was entry list) key client claim i apart dead = e
   | inl u ↦ inl (record {
     once = at_symbol s key.name (λ t. list_any (λ l. reaches l key) (cond t (links_at h entry ++ links h key.name) (links h key.name)) ≡ true)
         (λ e. list_any-append _ (links_at h entry) (links h key.name) ∙ or_right _ _ u.once) u.once;
-    no_more = at_symbol s key.name (λ t. list_any (λ l. is_needed (cond t (fold after_change (state_of h key.name) list) (state_of h key.name)) l && reaches l key) (cond t (links_at h entry ++ links h key.name) (links h key.name)) ≡ false)
+    no_more = at_symbol s key.name (λ t. list_any (λ l. is_needed (cond t (after_changes (state_of h key.name) list) (state_of h key.name)) l && reaches l key) (cond t (links_at h entry ++ links h key.name) (links h key.name)) ≡ false)
         (λ e. unneeded_stays h c was entry list key (may_at e) i u.once u.no_more) u.no_more;
   })
   | inr rest ↦ inr (elim rest [
     | inl p ↦ inl (record {
       staged = p.staged;
-      consumed = at_symbol s key.name (λ t. list_any (same_piece (record { client = key.client; serial = key.serial })) (cond t (fold after_change (state_of h key.name) list) (state_of h key.name)).consumed ≡ true)
+      consumed = at_symbol s key.name (λ t. list_any (same_piece (record { client = key.client; serial = key.serial })) (cond t (after_changes (state_of h key.name) list) (state_of h key.name)).consumed ≡ true)
           (λ e. consumed_grows list (state_of h key.name) (record { client = key.client; serial = key.serial }) p.consumed) p.consumed;
     })
     | inr o ↦ inr (record {

@@ -15,7 +15,7 @@ use Rattle.store_model.specs.declared.chain.ChainMark.{ChainMark}
 use Rattle.store_model.specs.declared.chain.ChainMark.TheVariants as marks
 use Rattle.store_model.specs.declared.chain.Entry.{Entry}
 use Rattle.store_model.specs.ChainText.{tomb_of}
-use Rattle.store_model.specs.Library.{State, Version, Hold, state_of, new_version, after_change}
+use Rattle.store_model.specs.Library.{State, Version, Hold, state_of, new_version, after_change, after_changes}
 use Rattle.store_model.specs.Links.{Linked, linked, links, links_at, links_of, links_in, entries, element}
 use Rattle.store_model.specs.Commits.{MayRefer, FitsLink, FitsChange, marks_of, IsCommit, making, marking, Buries, no_tombs, some_tombs, Consumes, no_pieces, some_pieces, is_version}
 use Rattle.store_model.specs.Law.{IsLawful}
@@ -174,9 +174,9 @@ walk_is_state (events.Refer c t was entry list ∷ h) lawful symbol =
     let old = walk_is_state h lawful.1 symbol in
     let all = at_symbol t symbol
     (λ b. (rows_in (cond b (cons_option (element h entry) (chain h symbol)) (chain h symbol)) ≡ map (λ (l : Linked). l.row) (cond b (links_at h entry ++ links h symbol) (links h symbol)))
-    × (tombs_in (cond b (cons_option (element h entry) (chain h symbol)) (chain h symbol)) ≡ (cond b (fold after_change (state_of h symbol) list) (state_of h symbol)).buried)
-    × (holds_in (cond b (cons_option (element h entry) (chain h symbol)) (chain h symbol)) ≡ (cond b (fold after_change (state_of h symbol) list) (state_of h symbol)).holds)
-    × (pieces_in (cond b (cons_option (element h entry) (chain h symbol)) (chain h symbol)) ≡ (cond b (fold after_change (state_of h symbol) list) (state_of h symbol)).consumed))
+    × (tombs_in (cond b (cons_option (element h entry) (chain h symbol)) (chain h symbol)) ≡ (cond b (after_changes (state_of h symbol) list) (state_of h symbol)).buried)
+    × (holds_in (cond b (cons_option (element h entry) (chain h symbol)) (chain h symbol)) ≡ (cond b (after_changes (state_of h symbol) list) (state_of h symbol)).holds)
+    × (pieces_in (cond b (cons_option (element h entry) (chain h symbol)) (chain h symbol)) ≡ (cond b (after_changes (state_of h symbol) list) (state_of h symbol)).consumed))
     (λ e. commit_walks h c symbol was entry list (subst (λ s. MayRefer h c s was entry list) e lawful.0.1) (chain h symbol) old.rows old.tombs old.holds old.pieces)
     (old.rows, old.tombs, old.holds, old.pieces) in
     record { rows = all.0; tombs = all.1; holds = all.2; pieces = all.3 }

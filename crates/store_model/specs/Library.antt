@@ -141,16 +141,15 @@ consumed_after st _ = st.consumed
 -- a change adds a version, buries, holds or releases, or consumes
 abbrev pub after_change : State → Change → State
 after_change st c = record st {
-  has_reference = true;
   versions = cons_option (new_version st c) st.versions;
   buried = buried_after st c;
   holds = holds_after st c;
   consumed = consumed_after st c;
 }
 
--- the changes of a Refer, one after another
+-- behind a Refer the symbol has a reference, and the changes are made one after another
 abbrev pub after_changes : State → List Change → State
-after_changes st list = fold after_change st list
+after_changes st list = record (fold after_change st list) { has_reference = true }
 
 -- ---- pieces
 

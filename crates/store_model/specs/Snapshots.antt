@@ -39,9 +39,9 @@ snap_body (events.Name c name body ∷ h) snap = if same_name name snap then rea
 snap_body (events.Unname c name ∷ h) snap = if same_name name snap then None else snap_body h snap
 snap_body (_ ∷ h) snap = snap_body h snap
 
--- the snapshots with one more, where the body spells one
+-- the snapshots with this one under its name, or with none under it where the body spells none
 abbrev pub with_snapshot : Name → Option SnapBody → List (Name × Snapshot) → List (Name × Snapshot)
-with_snapshot snap None standing = standing
+with_snapshot snap None standing = without_named snap standing
 with_snapshot snap (Some s) standing = insert_named snap (snapshot_from s) standing
 
 -- the standing snapshots, in order of their names
