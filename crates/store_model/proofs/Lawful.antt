@@ -16,7 +16,8 @@ use Rattle.bucket_core.specs.declared.event.PieceName.{PieceName}
 use Rattle.bucket_core.specs.declared.event.Change.{Change}
 use Rattle.bucket_core.specs.declared.event.Change.TheVariants as changes
 use Rattle.key_kind.specs.Names.{Name}
-use Rattle.store_model.specs.Intact.{IsIntact, IsAsPut, PiecesOnce, NamedOnce, ConsumesNew}
+use Rattle.store_model.specs.Intact.{IsIntact, IsAsPut}
+use Rattle.store_model.specs.Once.{PiecesOnce, NamedOnce, ConsumesNew}
 use Rattle.store_model.proofs.Dropping.{drop_keeps}
 use Rattle.store_model.proofs.Putting.{put_keeps}
 use Rattle.store_model.proofs.Naming.{name_keeps, unname_keeps}

@@ -15,7 +15,7 @@ use Rattle.bucket_core.specs.History.{History, stored, reference}
 use Rattle.store_model.specs.ChainText.{snap_of}
 use Rattle.store_model.specs.Snapshots.{snap_body}
 use Rattle.store_model.specs.Law.{IsLawful, IsDead}
-use Rattle.store_model.specs.Intact.{IsIntact, IsTableKey, IsShown, LawfulIsIntact}
+use Rattle.store_model.specs.Intact.{IsIntact, IsTableKey, IsShown}
 use Rattle.store_model.proofs.Dropping.{reached_is_table}
 use Rattle.store_model.proofs.Putting.{spelled_is_put}
 use Rattle.store_model.proofs.Lawful.{lawful_is_intact, lawful_as_put, pieces_once, named_once}
@@ -99,6 +99,3 @@ snapshot_stands (events.Drop c key ∷ h) lawful snap =
 
 pub lawful_is_shown : (h : History) → IsLawful h → IsShown h
 lawful_is_shown h lawful = record { references = reference_stands h lawful; snapshots = snapshot_stands h lawful }
-
-pub every_lawful_is_intact : LawfulIsIntact
-every_lawful_is_intact h lawful = (lawful_is_intact h lawful, lawful_as_put h lawful, lawful_is_shown h lawful, pieces_once h lawful, named_once h lawful)

@@ -1,8 +1,7 @@
 -- What holds of every lawful history: nothing that is needed was dropped, and the chains spell what was told.
 --     IsIntact            one record of facts, which each lawful event keeps
---     IsAsPut, IsShown    links, pieces and elements are what was put; what stands under references and snapshots
---     PiecesOnce, NamedOnce      no piece is consumed twice, no holder is named twice
---     LawfulIsIntact      all of it, of every lawful history
+--     IsAsPut             links, pieces and elements are still what was put, whatever was dropped since
+--     IsShown             what stands under references and snapshots
 use Rattle.std.specs.Prelude.{option_map, ◌≡◌, ◌⊎◌, ℕ, ◌<◌, true, false, List, [], ◌∷◌, Some, ⊤, Contains, length, is_some, Ok}
 use Rattle.std.specs.Bool.{OnTrue}
 use Rattle.std.specs.List.{AllZip, AllByRecursion, list_any}
@@ -54,19 +53,32 @@ IsChain (_ ∷ h) symbol = IsChain h symbol
 abbrev pub IsNumbered : History → Key → Type 0
 IsNumbered h key = (key.serial < puts_by key.client h) × (is_put key.kind ≡ true)
 
--- the facts that each lawful event keeps
+-- the facts that each lawful event keeps. What nobody may lose stands as it was put; the chains spell what was told; and some facts
+-- about numbers and holders, by which the others are kept
 pub record IsIntact (h : History) : Type 0 where
+  -- no key is put twice
   pub once : PutOnce h
-  pub numbered : (key : Key) (body : Bytes) → body_put h key ≡ Some body → IsNumbered h key
-  pub table_keys : (symbol : Name) (l : Linked) (key : Key) → Contains (links h symbol) l → Contains (reached l) key → IsTableKey symbol key
+  -- each key that a live or held link reaches stands as it was put
   pub needed : (symbol : Name) (l : Linked) (key : Key) → Contains (links h symbol) l → is_needed (state_of h symbol) l ≡ true → Contains (reached l) key → StandsAsPut h key
-  pub element_keys : (symbol : Name) (key : Key) → Contains (entries h symbol) key → (key.name ≡ symbol) × (key.kind ≡ kinds.Version)
+  -- so does each element of a chain
   pub elements : (symbol : Name) (key : Key) → Contains (entries h symbol) key → StandsAsPut h key
+  -- and each staged piece that is not consumed
   pub pieces : (symbol : Name) (p : Piece) → Contains (open_pieces (state_of h symbol)) p → StandsAsPut h (staged_key symbol p)
+  -- the links of a symbol are its versions, one for one, and their tiles are the versions' whole frames
   pub versions : (symbol : Name) → AllZip IsLinkOf (links h symbol) (state_of h symbol).versions
-  pub below : (symbol : Name) (l : Linked) → Contains (links h symbol) l → l.row.version < next_number (state_of h symbol)
+  -- the chain from the reference spells the symbol's changes
   pub chain : (symbol : Name) → IsChain h symbol
+  -- the versions of each standing snapshot are held under its holder
   pub held : (snap : Name) (body : SnapBody) → snap_body h snap ≡ Some body → AllByRecursion (IsHeldRow h body.holder) body.rows
+
+  -- a key that was put has a serial below its client's next one, and is of a kind that clients put
+  pub numbered : (key : Key) (body : Bytes) → body_put h key ≡ Some body → IsNumbered h key
+  -- links reach tiles and indexes of their own symbol, and entries are elements of it
+  pub table_keys : (symbol : Name) (l : Linked) (key : Key) → Contains (links h symbol) l → Contains (reached l) key → IsTableKey symbol key
+  pub element_keys : (symbol : Name) (key : Key) → Contains (entries h symbol) key → (key.name ≡ symbol) × (key.kind ≡ kinds.Version)
+  -- the versions of links lie below the next number
+  pub below : (symbol : Name) (l : Linked) → Contains (links h symbol) l → l.row.version < next_number (state_of h symbol)
+  -- no two standing snapshots have one holder, and the holder of a standing one was never unnamed
   pub one_name : (a b : Name) (x y : SnapBody) → snap_body h a ≡ Some x → snap_body h b ≡ Some y → same_holder x.holder y.holder ≡ true → a ≡ b
   pub unnamed : (snap : Name) (body : SnapBody) (client : ℕ) → snap_body h snap ≡ Some body → has_unnamed h client body.holder ≡ false
 
@@ -76,28 +88,7 @@ pub record IsAsPut (h : History) : Type 0 where
   pub pieces : (symbol : Name) (p : Piece) → Contains (state_of h symbol).staged p → frame_put h (staged_key symbol p) ≡ Some p.frame
   pub elements : (symbol : Name) (key : Key) → Contains (entries h symbol) key → is_some (element h key) ≡ true
 
--- each piece that a Refer consumes was staged, and no Refer before consumed it
-abbrev pub ConsumesNew : State → Change → Type 0
-ConsumesNew st (changes.Discarded pieces) = AllByRecursion (λ name. (is_consumed st name ≡ false) × (list_any (λ (p : Piece). same_piece name p.name) st.staged ≡ true)) pieces
-ConsumesNew st _ = ⊤
-
--- no piece is consumed a second time
-abbrev pub PiecesOnce : History → Type 0
-PiecesOnce [] = ⊤
-PiecesOnce (events.Refer c symbol was entry list ∷ h) = AllByRecursion (ConsumesNew (state_of h symbol)) list × PiecesOnce h
-PiecesOnce (_ ∷ h) = PiecesOnce h
-
--- a holder has at most one Name
-abbrev pub NamedOnce : History → Type 0
-NamedOnce [] = ⊤
-NamedOnce (events.Name c snap body ∷ h) = ((s : SnapBody) → snap_of body ≡ Ok s → has_name h s.holder ≡ false) × NamedOnce h
-NamedOnce (_ ∷ h) = NamedOnce h
-
 -- a reference stands as the spelling of its entry, and a snapshot as a spelling of its body
 pub record IsShown (h : History) : Type 0 where
   pub references : (symbol : Name) → stored h (reference_key symbol) ≡ option_map key_text (reference h symbol)
   pub snapshots : (snap : Name) → option_map (λ body. snap_of body) (stored h (snapshot_key snap)) ≡ option_map Ok (snap_body h snap)
-
--- every lawful history is intact, has its links and pieces as they were put, consumes each piece once and names each holder once
-abbrev pub LawfulIsIntact : Type 0
-LawfulIsIntact = (h : History) → IsLawful h → IsIntact h × IsAsPut h × IsShown h × PiecesOnce h × NamedOnce h

@@ -10,7 +10,10 @@ pub use base_types::{Items, Keep, NoMemory};
 pub use chain::{ChainMark, Entry, LinkRow};
 pub use hold::HoldRow;
 pub use snapshot::{SnapBody, SnapRow};
-pub use theorem::{claims_stay, nothing_needed_is_dropped, references_move_on, tests_tell, walks_give_the_state};
+pub use theorem::{
+    beginnings_are_lawful, claims_stay, each_event_keeps_what_is_needed, nothing_needed_is_dropped,
+    pieces_are_consumed_once, references_move_on, tests_tell, walks_give_the_state,
+};
 
 /// The marks of an element, seen as a list.
 pub type ChainMarks = Items<ChainMark>;
