@@ -2,7 +2,7 @@
 --     versions_answer         every version ever linked
 --     read_version            the version that a read takes
 --     ask                     the rows in the range, and of these the asked columns
-use Rattle.std.specs.Prelude.{ℕ, zero, suc, not, if◌then◌else◌, List, [], ◌∷◌, map, reverse, find, slice_get, Option, Some, None, Result, Ok, Err, nat_eq, int_le, count_by, option_map}
+use Rattle.std.specs.Prelude.{ℕ, zero, suc, not, if◌then◌else◌, List, [], map, reverse, find, slice_get, Option, Some, None, Result, Ok, Err, nat_eq, int_le, count_by, option_map}
 use Rattle.frame_core.specs.Ranges.{Range}
 use Rattle.frame_core.specs.declared.refusal.Asked.TheVariants as asks
 use Rattle.frame_core.specs.declared.refusal.Refusal.{Refusal}

@@ -19,3 +19,4 @@ pub mod WitnessShared
 pub mod WitnessPruned
 pub mod WitnessMet
 pub mod WitnessCleared
+pub mod Refuses

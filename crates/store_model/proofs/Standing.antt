@@ -18,7 +18,7 @@ use Rattle.store_model.specs.Law.{IsLawful, IsDead}
 use Rattle.store_model.specs.Intact.{IsIntact, IsTableKey, IsShown}
 use Rattle.store_model.proofs.Dropping.{reached_is_table}
 use Rattle.store_model.proofs.Putting.{spelled_is_put}
-use Rattle.store_model.proofs.Lawful.{lawful_is_intact, lawful_as_put, pieces_once, named_once}
+use Rattle.store_model.proofs.Lawful.{lawful_is_intact}
 use Rattle.store_model.proofs.Stability.{is_false}
 
 -- a key of a kind that clients put is neither a reference nor a snapshot

@@ -2,14 +2,14 @@
 --     chain               the elements of a symbol's chain as they were put, the newest first
 --     tombs_in, rows_in, pieces_in, holds_in      what a walk along the elements finds
 --     LawfulWalks         in each lawful history it finds the state
-use Rattle.std.specs.Prelude.{◌≡◌, not, Option, Some, None, List, [], ◌∷◌, ◌++◌, map, flat_map, filter, filter_map, fold, reverse, length, if◌then◌else◌, ℕ}
+use Rattle.std.specs.Prelude.{◌≡◌, not, Option, Some, None, List, [], ◌∷◌, ◌++◌, map, flat_map, filter, filter_map, fold, if◌then◌else◌, ℕ}
 use Rattle.std.specs.List.{AllZip, cons_option}
 use Rattle.key_kind.specs.declared.key.Key.{Key}
 use Rattle.key_kind.specs.Names.{Name, same_name}
 use Rattle.key_kind.specs.Keys.{same_holder}
 use Rattle.bucket_core.specs.declared.event.PieceName.{PieceName}
 use Rattle.bucket_core.specs.declared.event.Event.TheVariants as events
-use Rattle.bucket_core.specs.History.{History, reference}
+use Rattle.bucket_core.specs.History.{History}
 use Rattle.store_model.specs.declared.chain.LinkRow.{LinkRow}
 use Rattle.store_model.specs.declared.chain.ChainMark.{ChainMark}
 use Rattle.store_model.specs.declared.chain.ChainMark.TheVariants as marks
