@@ -1,4 +1,5 @@
 -- Honest replies are legal: a delete_range that clears a version, and a finalize of a staged piece.
+use Rattle.byte_fields.specs.Reading.{signed_text}
 use Rattle.std.proofs.Common.{pos, true, false, List, [], ◌∷◌, Some, None, refl, inr, lit≤}
 use Rattle.std.specs.Str.{is_utf8, chars}
 use lib.Utf8.{encode}
@@ -25,7 +26,7 @@ abbrev clear_puts : List (Key × Bytes)
 clear_puts = (cleared.index_key, index_text cleared.empty_index) ∷ (w.key kinds.Version 4, entry_text cleared.clear_entry) ∷ []
 
 clear_try : IsTry S true clear_puts (w.key kinds.Version 4)
-unfolding index_of entry_of key_at is_utf8 chars encode
+unfolding index_of entry_of key_at is_utf8 chars encode signed_text
 clear_try = record {
   first = (cleared.index_key, index_text cleared.empty_index) ∷ [];
   body = entry_text cleared.clear_entry;
@@ -60,7 +61,7 @@ abbrev final_puts : List (Key × Bytes)
 final_puts = (w.table_key kinds.TableData 1, segment_text w.table) ∷ (w.table_key kinds.TableIndex 2, index_text cleared.final_index) ∷ (w.key kinds.Version 3, entry_text cleared.final_entry) ∷ []
 
 final_try : IsTry S true final_puts (w.key kinds.Version 3)
-unfolding index_of entry_of key_at is_utf8 chars encode
+unfolding index_of entry_of key_at is_utf8 chars encode signed_text
 final_try = record {
   first = (w.table_key kinds.TableData 1, segment_text w.table) ∷ (w.table_key kinds.TableIndex 2, index_text cleared.final_index) ∷ [];
   body = entry_text cleared.final_entry;
@@ -74,7 +75,7 @@ final_try = record {
 
 pub finalize_is_legal : IsLegalSeen cleared.finalized (client 1 8) (commands.Finalize S false false None false)
     (record { place = 5; listed = Some 1; commits = 5 ∷ []; left = []; outcome = outcomes.Finalized 0 1 }) (window 1 5)
-unfolding segment_of is_utf8 chars encode
+unfolding segment_of is_utf8 chars encode signed_text
 finalize_is_legal = record {
   after = lit≤ tt;
   before = lit≤ tt;

@@ -1,4 +1,5 @@
 -- Honest replies are legal: a read whose version was buried, pruned and reclaimed under it, and the prune and the reclaim that did so.
+use Rattle.byte_fields.specs.Reading.{signed_text}
 use Rattle.std.proofs.Common.{◌≡◌, pos, true, false, List, [], ◌∷◌, Some, None, refl, sym, ◌∙◌, subst, inl, inr, lit≤, lit<}
 use Rattle.std.specs.Prelude.{◌&&◌, ◌||◌, Contains}
 use Rattle.std.specs.List.{list_any}
@@ -37,11 +38,11 @@ abbrev old_link : Linked
 old_link = record { row = w.row; index = w.index; tiles = (w.part, w.table) ∷ [] }
 
 links_pruned : links pruned.pruned S ≡ new_link ∷ old_link ∷ []
-unfolding segment_of index_of entry_of key_at is_utf8 chars encode
+unfolding segment_of index_of entry_of key_at is_utf8 chars encode signed_text
 links_pruned = refl
 
 links_dropped : links pruned.dropped S ≡ new_link ∷ old_link ∷ []
-unfolding segment_of index_of entry_of key_at is_utf8 chars encode
+unfolding segment_of index_of entry_of key_at is_utf8 chars encode signed_text
 links_dropped = refl
 
 -- ---- the read
@@ -79,7 +80,7 @@ abbrev puts : List (Key × Bytes)
 puts = (pruned.key kinds.TableData 0, segment_text w.table) ∷ (pruned.key kinds.TableIndex 1, index_text pruned.index) ∷ (pruned.element_key, entry_text pruned.entry) ∷ []
 
 is_try : IsTry S true puts pruned.element_key
-unfolding index_of entry_of key_at is_utf8 chars encode
+unfolding index_of entry_of key_at is_utf8 chars encode signed_text
 is_try = record {
   first = (pruned.key kinds.TableData 0, segment_text w.table) ∷ (pruned.key kinds.TableIndex 1, index_text pruned.index) ∷ [];
   body = entry_text pruned.entry;
@@ -134,11 +135,11 @@ both_gone key n u = elim (or_cases (reaches new_link key) (reaches old_link key 
         (subst (λ m. list_any (λ l. is_needed (state_of pruned.pruned m) l && reaches l key) (links pruned.pruned m) ≡ false) n u.no_more)
 
 tile_dead : IsUnneeded pruned.pruned (w.table_key kinds.TableData 0)
-unfolding segment_of index_of entry_of key_at is_utf8 chars encode
+unfolding segment_of index_of entry_of key_at is_utf8 chars encode signed_text
 tile_dead = record { once = refl; no_more = refl }
 
 index_dead : IsUnneeded pruned.pruned (w.table_key kinds.TableIndex 1)
-unfolding segment_of index_of entry_of key_at is_utf8 chars encode
+unfolding segment_of index_of entry_of key_at is_utf8 chars encode signed_text
 index_dead = record { once = refl; no_more = refl }
 
 index_drops : IsDeadIndex pruned.pruned S (w.table_key kinds.TableIndex 1)

@@ -1,4 +1,5 @@
 -- Small histories, computed: what is answered in the library of each history.
+use Rattle.byte_fields.specs.Reading.{signed_text}
 use Rattle.std.specs.Prelude.{◌≡◌, ℕ, pos, Bool, true, false, List, [], ◌∷◌, Option, Some, None, Ok, Err, refl}
 use Rattle.std.specs.Str.{is_utf8, chars}
 use lib.Utf8.{encode}
@@ -64,7 +65,7 @@ abbrev finalizes : History → Bool → Option Answer
 finalizes h sorted = answer plain (library_of h) (library_of h) 3 (commands.Finalize S false sorted None false)
 
 after_finalize-overlap : finalizes after_stages false ≡ Some (refused (refusals.StagedOverlap 2))
-unfolding segment_of is_utf8 chars encode
+unfolding segment_of is_utf8 chars encode signed_text
 after_finalize-overlap = refl
 
 after_finalize-sorted : finalizes after_stages true ≡ Some (record {
@@ -72,11 +73,11 @@ after_finalize-sorted : finalizes after_stages true ≡ Some (record {
   marks = changes.Wrote (frame ((10, 1) ∷ (15, 3) ∷ (20, 2) ∷ (30, 4) ∷ (40, 5) ∷ [])) (pos 7)
       ∷ changes.Discarded (record { client = 1; serial = 0 } ∷ record { client = 1; serial = 1 } ∷ record { client = 1; serial = 2 } ∷ []) ∷ [];
 })
-unfolding segment_of is_utf8 chars encode
+unfolding segment_of is_utf8 chars encode signed_text
 after_finalize-sorted = refl
 
 after_finalize-none : finalizes after_finalize true ≡ Some (refused refusals.NoStaged)
-unfolding segment_of is_utf8 chars encode
+unfolding segment_of is_utf8 chars encode signed_text
 after_finalize-none = refl
 
 -- the versions after both are buried
@@ -94,11 +95,11 @@ after_prune-prune = refl
 
 -- a buried version is read through a snapshot alone
 after_delete-snap : reads after_delete (moments.Snapshot k) ≡ whole 0 ((1, 1) ∷ [])
-unfolding snap_of key_at
+unfolding snap_of key_at signed_text
 after_delete-snap = refl
 
 after_release-gone : reads after_release (moments.Snapshot k) ≡ Some (refused refusals.NoSuchSnapshot)
-unfolding snap_of key_at
+unfolding snap_of key_at signed_text
 after_release-gone = refl
 
 -- ---- snapshots in one step
@@ -114,16 +115,16 @@ snapshot-nothing : snapshot_answer (library_of after_prune) (holder 1 6) k [] �
 snapshot-nothing = refl
 
 snapshot-taken : snapshot_answer (library_of after_snapshot) (holder 1 9) k [] ≡ Err refusals.SnapshotExists
-unfolding snap_of key_at
+unfolding snap_of key_at signed_text
 snapshot-taken = refl
 
 -- the end of a snapshot, and of one that does not stand
 snapshot-ends : delete_snapshot_answer (library_of after_delete) k ≡ Ok (record { picks = []; marks = (S, changes.Released (holder 1 3)) ∷ [] })
-unfolding snap_of key_at
+unfolding snap_of key_at signed_text
 snapshot-ends = refl
 
 snapshot-gone : delete_snapshot_answer (library_of after_release) k ≡ Err refusals.NoSuchSnapshot
-unfolding snap_of key_at
+unfolding snap_of key_at signed_text
 snapshot-gone = refl
 
 -- ---- edges

@@ -8,7 +8,7 @@ use Rattle.std.specs.Option.{option_map_or}
 use Rattle.std.specs.Int.{w8, w16, w32, to_be_bytes}
 use Rattle.std.specs.Str.{is_utf8}
 use Rattle.std.specs.Cmp.Lexicographic.{pointwise}
-use Rattle.byte_fields.specs.Reading.{Reading, ◌>>=◌, wanted, whole, number_at, signed_at, bytes_at, list_at, signed_text}
+use Rattle.byte_fields.specs.Reading.{Reading, ◌>>=◌, wanted, whole, number_at, signed_at, bytes_at, list_at, magic_at, signed_text}
 use Rattle.frame_core.specs.declared.cell.ColType.{ColType}
 use Rattle.frame_core.specs.declared.cell.ColType.TheVariants as types
 use Rattle.frame_core.specs.declared.cell.Cell.{Cell}
@@ -70,12 +70,6 @@ segment_text f =
     ++ flat_map (λ r. signed_text r.stamp) f.rows ++ columns_text 0 f.schema.columns f.rows
 
 -- ---- the reading
-
--- the next magic
-abbrev pub magic_at : List ℕ → List ℕ → Reading (List ℕ)
-magic_at magic bytes = do
-  m ← bytes_at (length magic) bytes
-  wanted (pointwise nat_eq m.0 magic) bytes (Ok m)
 
 -- the type of a number
 abbrev pub type_at : List ℕ → Reading ColType

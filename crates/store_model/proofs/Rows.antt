@@ -1,4 +1,5 @@
 -- Small histories, computed: what the library of each history is.
+use Rattle.byte_fields.specs.Reading.{signed_text}
 use Rattle.std.specs.Prelude.{◌≡◌, ℕ, ◌<◌, ◌^◌, ℤ, pos, true, false, List, [], ◌∷◌, map, Some, None, refl}
 use Rattle.std.specs.Int.{w64}
 use Rattle.std.proofs.Common.{lit≤}
@@ -100,7 +101,7 @@ abbrev pub after_snapshot : History
 after_snapshot = events.Name 1 k (snap_text (snap 1 3)) ∷ commit 1 3 (changes.Held (holder 1 3) 0 ∷ []) ∷ commit 1 2 (changes.Wrote (frame ((1, 1) ∷ [])) (pos 7) ∷ []) ∷ []
 
 after_snapshot-names : snapshots_of after_snapshot ≡ (k, record { holder = holder 1 3; picks = (S, 0) ∷ [] }) ∷ []
-unfolding snap_of key_at
+unfolding snap_of key_at signed_text
 after_snapshot-names = refl
 
 abbrev pub after_delete : History
@@ -119,7 +120,7 @@ after_release-held : is_held (state_of after_release S) 0 ≡ false
 after_release-held = refl
 
 after_release-names : snapshots_of after_release ≡ []
-unfolding snap_of key_at
+unfolding snap_of key_at signed_text
 after_release-names = refl
 
 -- the snapshots of two clients under one name, of which the first stands
@@ -138,7 +139,7 @@ abbrev pub after_stages : History
 after_stages = stage 2 ((40, 5) ∷ []) ∷ stage 1 ((15, 3) ∷ (30, 4) ∷ []) ∷ stage 0 ((10, 1) ∷ (20, 2) ∷ []) ∷ []
 
 after_finalize-staged : map (λ p. p.frame) (open_pieces (state_of after_stages S)) ≡ frame ((40, 5) ∷ []) ∷ frame ((15, 3) ∷ (30, 4) ∷ []) ∷ frame ((10, 1) ∷ (20, 2) ∷ []) ∷ []
-unfolding segment_of is_utf8 chars encode
+unfolding segment_of is_utf8 chars encode signed_text
 after_finalize-staged = refl
 
 abbrev pub after_finalize : History
@@ -146,7 +147,7 @@ after_finalize = commit 1 5 (changes.Wrote (frame ((10, 1) ∷ (15, 3) ∷ (20, 
     ∷ changes.Discarded (record { client = 1; serial = 0 } ∷ record { client = 1; serial = 1 } ∷ record { client = 1; serial = 2 } ∷ []) ∷ []) ∷ after_stages
 
 after_finalize-open : open_pieces (state_of after_finalize S) ≡ []
-unfolding segment_of is_utf8 chars encode
+unfolding segment_of is_utf8 chars encode signed_text
 after_finalize-open = refl
 
 -- two writes, the second with prune, and delete

@@ -1,4 +1,5 @@
 -- Lawful histories with real bodies: an update that clears a range, and a finalize of a staged piece.
+use Rattle.byte_fields.specs.Reading.{signed_text}
 use Rattle.std.proofs.Common.{pos, [], ◌∷◌, refl, inl, Some, lit<}
 use Rattle.std.specs.Int.{w64}
 use Rattle.std.proofs.lemmas.Int.{fits_signed_from_abs}
@@ -62,7 +63,7 @@ abbrev pub cleared : History
 cleared = events.Refer 1 S (Some (w.key kinds.Version 2)) (w.key kinds.Version 4) (changes.Updated nothing range (pos 60) ∷ []) ∷ put_clear ∷ put_empty ∷ w.written
 
 empty_claim : MayPut w.written 1 index_key (index_text empty_index)
-unfolding index_of key_at is_utf8 chars encode
+unfolding index_of key_at is_utf8 chars encode signed_text
 empty_claim = record {
   key_is = record { name = w.name_S; made = λ e. absurd cc; version = λ e. absurd cc; stamps = λ e. absurd cc };
   fits = record { client = lit< tt; serial = lit< tt; version = lit< tt; first = fits_signed_from_abs w64 (pos 0) (lit< tt); last = fits_signed_from_abs w64 (pos 0) (lit< tt) };
@@ -72,7 +73,7 @@ empty_claim = record {
 }
 
 clear_put_claim : MayPut (put_empty ∷ w.written) 1 (w.key kinds.Version 4) (entry_text clear_entry)
-unfolding entry_of key_at
+unfolding entry_of key_at signed_text
 clear_put_claim = record { key_is = w.version_key_rules 4; fits = w.version_fits 4 (lit< tt); own = refl; next = refl; spelled = refl }
 
 nothing_storable : IsStorable nothing
@@ -82,7 +83,7 @@ nothing_tiled : Tiled nothing []
 nothing_tiled = record { inside = tt; parts = tt; cells = λ r c below k. absurd (omega (arith, below)); rows = λ r below. absurd (omega (arith, below)) }
 
 clear_fits : FitsLink (put_clear ∷ put_empty ∷ w.written) 1 S empty_row (record { number = 1; stamp = pos 60; frame = nothing })
-unfolding segment_of index_of entry_of key_at is_utf8 chars encode
+unfolding segment_of index_of entry_of key_at is_utf8 chars encode signed_text
 clear_fits = record {
   number = refl;
   stamp = refl;
@@ -105,7 +106,7 @@ in_order : pos 1 ≤ℤ pos 1
 in_order = omega arith
 
 clear_claim : MayRefer (put_clear ∷ put_empty ∷ w.written) 1 S (Some (w.key kinds.Version 2)) (w.key kinds.Version 4) (changes.Updated nothing range (pos 60) ∷ [])
-unfolding entry_of key_at
+unfolding entry_of key_at signed_text
 clear_claim = record {
   kind = refl;
   name = refl;
@@ -159,7 +160,7 @@ abbrev pub finalized : History
 finalized = events.Refer 1 S None (w.key kinds.Version 3) (changes.Wrote w.table (pos 60) ∷ changes.Discarded (piece ∷ []) ∷ []) ∷ prepared
 
 piece_claim : MayPut [] 1 piece_key (segment_text w.table)
-unfolding segment_of is_utf8 chars encode
+unfolding segment_of is_utf8 chars encode signed_text
 piece_claim = record {
   key_is = record { name = w.name_S; made = λ e. absurd cc; version = λ e. refl; stamps = λ e. absurd cc };
   fits = record { client = lit< tt; serial = lit< tt; version = lit< tt; first = fits_signed_from_abs w64 (pos 1) (lit< tt); last = fits_signed_from_abs w64 (pos 1) (lit< tt) };
@@ -169,19 +170,19 @@ piece_claim = record {
 }
 
 tile_claim : MayPut (put_piece ∷ []) 1 (w.table_key kinds.TableData 1) (segment_text w.table)
-unfolding segment_of is_utf8 chars encode
+unfolding segment_of is_utf8 chars encode signed_text
 tile_claim = record { key_is = (w.table_key_rules kinds.TableData 1).0; fits = w.table_fits kinds.TableData 1 (lit< tt); own = refl; next = refl; spelled = refl }
 
 index_claim : MayPut (put_tile ∷ put_piece ∷ []) 1 (w.table_key kinds.TableIndex 2) (index_text final_index)
-unfolding index_of key_at is_utf8 chars encode
+unfolding index_of key_at is_utf8 chars encode signed_text
 index_claim = record { key_is = (w.table_key_rules kinds.TableIndex 2).1; fits = w.table_fits kinds.TableIndex 2 (lit< tt); own = refl; next = refl; spelled = refl }
 
 final_put_claim : MayPut (put_index ∷ put_tile ∷ put_piece ∷ []) 1 (w.key kinds.Version 3) (entry_text final_entry)
-unfolding entry_of key_at
+unfolding entry_of key_at signed_text
 final_put_claim = record { key_is = w.version_key_rules 3; fits = w.version_fits 3 (lit< tt); own = refl; next = refl; spelled = refl }
 
 final_fits : FitsLink prepared 1 S final_row (record { number = 0; stamp = pos 60; frame = w.table })
-unfolding segment_of index_of entry_of key_at is_utf8 chars encode
+unfolding segment_of index_of entry_of key_at is_utf8 chars encode signed_text
 final_fits = record {
   number = refl;
   stamp = refl;
@@ -201,7 +202,7 @@ final_fits = record {
 }
 
 final_claim : MayRefer prepared 1 S None (w.key kinds.Version 3) (changes.Wrote w.table (pos 60) ∷ changes.Discarded (piece ∷ []) ∷ [])
-unfolding segment_of entry_of key_at is_utf8 chars encode
+unfolding segment_of entry_of key_at is_utf8 chars encode signed_text
 final_claim = record {
   kind = refl;
   name = refl;

@@ -1,4 +1,5 @@
 -- A lawful history with real bodies: a write, a second client's write that buries it, and the drops of the first write's keys.
+use Rattle.byte_fields.specs.Reading.{signed_text}
 use Rattle.std.proofs.Common.{ℕ, ◌<◌, pos, [], ◌∷◌, refl, inl, Some, lit<}
 use Rattle.std.specs.Int.{w64}
 use Rattle.std.proofs.lemmas.Int.{fits_signed_from_abs}
@@ -63,15 +64,15 @@ key_fits : (kind : KeyKind) (serial : ℕ) → serial < 18446744073709551616 →
 key_fits kind serial below = record { client = lit< tt; serial = below; version = lit< tt; first = fits_signed_from_abs w64 (pos 1) (lit< tt); last = fits_signed_from_abs w64 (pos 1) (lit< tt) }
 
 tile_claim : MayPut w.written 3 (key kinds.TableData 0) (segment_text w.table)
-unfolding segment_of is_utf8 chars encode
+unfolding segment_of is_utf8 chars encode signed_text
 tile_claim = record { key_is = record { name = w.name_S; made = λ e. absurd cc; version = λ e. absurd cc; stamps = λ e. absurd cc }; fits = key_fits kinds.TableData 0 (lit< tt); own = refl; next = refl; spelled = refl }
 
 index_claim : MayPut (put_tile ∷ w.written) 3 (key kinds.TableIndex 1) (index_text index)
-unfolding index_of key_at is_utf8 chars encode
+unfolding index_of key_at is_utf8 chars encode signed_text
 index_claim = record { key_is = record { name = w.name_S; made = λ e. absurd cc; version = λ e. absurd cc; stamps = λ e. absurd cc }; fits = key_fits kinds.TableIndex 1 (lit< tt); own = refl; next = refl; spelled = refl }
 
 element_claim : MayPut (put_index ∷ put_tile ∷ w.written) 3 element_key (entry_text entry)
-unfolding entry_of key_at
+unfolding entry_of key_at signed_text
 element_claim = record {
   key_is = record { name = w.name_S; made = λ e. absurd cc; version = λ e. refl; stamps = λ e. (refl, refl) };
   fits = record { client = lit< tt; serial = lit< tt; version = lit< tt; first = fits_signed_from_abs w64 (pos 0) (lit< tt); last = fits_signed_from_abs w64 (pos 0) (lit< tt) };
@@ -81,7 +82,7 @@ element_claim = record {
 }
 
 link_fits : FitsLink prepared 3 S row (record { number = 1; stamp = pos 60; frame = w.table })
-unfolding segment_of index_of entry_of key_at is_utf8 chars encode
+unfolding segment_of index_of entry_of key_at is_utf8 chars encode signed_text
 link_fits = record {
   number = refl;
   stamp = refl;
@@ -101,7 +102,7 @@ link_fits = record {
 }
 
 prune_claim : MayRefer prepared 3 S (Some (w.key kinds.Version 2)) element_key (changes.Wrote w.table (pos 60) ∷ changes.Removed (0 ∷ []) ∷ [])
-unfolding entry_of key_at
+unfolding entry_of key_at signed_text
 prune_claim = record {
   kind = refl;
   name = refl;
@@ -116,11 +117,11 @@ prune_claim = record {
 }
 
 tile_dead : IsUnneeded pruned (w.table_key kinds.TableData 0)
-unfolding segment_of index_of entry_of key_at is_utf8 chars encode
+unfolding segment_of index_of entry_of key_at is_utf8 chars encode signed_text
 tile_dead = record { once = refl; no_more = refl }
 
 index_dead : IsUnneeded (events.Drop 3 (w.table_key kinds.TableData 0) ∷ pruned) (w.table_key kinds.TableIndex 1)
-unfolding segment_of index_of entry_of key_at is_utf8 chars encode
+unfolding segment_of index_of entry_of key_at is_utf8 chars encode signed_text
 index_dead = record { once = refl; no_more = refl }
 
 -- ten events of two clients

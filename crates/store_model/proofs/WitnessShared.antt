@@ -1,4 +1,5 @@
 -- Lawful histories with real bodies: an append that shares the tile of its base; and a staged piece that is consumed and dropped.
+use Rattle.byte_fields.specs.Reading.{signed_text}
 use Rattle.std.proofs.Common.{◌≡◌, ℕ, zero, suc, ◌<◌, ◌≤◌, pos, [], ◌∷◌, refl, inl, inr, Some, None, arith, lit≤, lit<}
 use Rattle.std.specs.Prelude.{count_by, List, ◌≤ℤ◌}
 use Rattle.std.specs.Int.{w64}
@@ -98,15 +99,15 @@ element_fits : FitsFields (element_key 2 2)
 element_fits = record { client = lit< tt; serial = lit< tt; version = lit< tt; first = fits_signed_from_abs w64 (pos 0) (lit< tt); last = fits_signed_from_abs w64 (pos 0) (lit< tt) }
 
 tile_claim : MayPut w.written 2 (tile_key 2 0) (segment_text added)
-unfolding segment_of is_utf8 chars encode
+unfolding segment_of is_utf8 chars encode signed_text
 tile_claim = record { key_is = tile_rules; fits = tile_fits; own = refl; next = refl; spelled = refl }
 
 index_claim : MayPut (put_tile 2 0 ∷ w.written) 2 (index_key 2 1) (index_text (index 2 0))
-unfolding index_of key_at is_utf8 chars encode
+unfolding index_of key_at is_utf8 chars encode signed_text
 index_claim = record { key_is = index_rules; fits = index_fits; own = refl; next = refl; spelled = refl }
 
 element_claim : MayPut (put_index 2 1 0 ∷ put_tile 2 0 ∷ w.written) 2 (element_key 2 2) (entry_text (entry 2 1))
-unfolding entry_of key_at
+unfolding entry_of key_at signed_text
 element_claim = record { key_is = element_rules; fits = element_fits; own = refl; next = refl; spelled = refl }
 
 rises : pos 1 ≤ℤ pos 2
@@ -134,7 +135,7 @@ tiled = record { inside = ((lit≤ tt, lit≤ tt), ((lit≤ tt, lit≤ tt), tt))
     one_row (suc (suc r)) h = absurd (omega (arith, h))
 
 link_fits : FitsLink prepared 2 S (row 2 1) (record { number = 1; stamp = pos 60; frame = both })
-unfolding segment_of index_of entry_of key_at is_utf8 chars encode
+unfolding segment_of index_of entry_of key_at is_utf8 chars encode signed_text
 link_fits = record {
   number = refl;
   stamp = refl;
@@ -157,7 +158,7 @@ link_fits = record {
 }
 
 append_claim : MayRefer prepared 2 S (Some (w.key kinds.Version 2)) (element_key 2 2) (changes.Appended added (pos 60) ∷ [])
-unfolding entry_of key_at
+unfolding entry_of key_at signed_text
 append_claim = record {
   kind = refl;
   name = refl;
@@ -196,7 +197,7 @@ abbrev pub discarded : History
 discarded = events.Refer 1 S None (w.key kinds.Version 1) (changes.Discarded (piece ∷ []) ∷ []) ∷ put_discard ∷ staged
 
 piece_claim : MayPut [] 1 piece_key (segment_text w.table)
-unfolding segment_of is_utf8 chars encode
+unfolding segment_of is_utf8 chars encode signed_text
 piece_claim = record {
   key_is = record { name = w.name_S; made = λ e. absurd cc; version = λ e. refl; stamps = λ e. absurd cc };
   fits = record { client = lit< tt; serial = lit< tt; version = lit< tt; first = fits_signed_from_abs w64 (pos 1) (lit< tt); last = fits_signed_from_abs w64 (pos 1) (lit< tt) };
@@ -206,11 +207,11 @@ piece_claim = record {
 }
 
 put_discard_claim : MayPut staged 1 (w.key kinds.Version 1) (entry_text discard_entry)
-unfolding entry_of key_at
+unfolding entry_of key_at signed_text
 put_discard_claim = record { key_is = w.version_key_rules 1; fits = w.version_fits 1 (lit< tt); own = refl; next = refl; spelled = refl }
 
 discard_claim : MayRefer (put_discard ∷ staged) 1 S None (w.key kinds.Version 1) (changes.Discarded (piece ∷ []) ∷ [])
-unfolding segment_of entry_of key_at is_utf8 chars encode
+unfolding segment_of entry_of key_at is_utf8 chars encode signed_text
 discard_claim = record {
   kind = refl;
   name = refl;

@@ -5,8 +5,7 @@
 use Rattle.std.specs.Prelude.{ℕ, suc, zero, Bool, true, ◌||◌, ◌&&◌, List, [], ◌∷◌, ◌++◌, length, drop, flat_map, Result, Ok, Err, Option, Some, None, nat_le, nat_lt, nat_eq, if◌then◌else◌}
 use Rattle.std.specs.Option.{option_map_or}
 use Rattle.std.specs.Int.{w8, w32, w64, to_be_bytes}
-use Rattle.byte_fields.specs.Reading.{Reading, ◌>>=◌, wanted, whole, number_at, signed_at, signed_text}
-use Rattle.segment_bytes.specs.SegmentText.{magic_at}
+use Rattle.byte_fields.specs.Reading.{Reading, ◌>>=◌, wanted, whole, number_at, signed_at, magic_at, signed_text}
 use Rattle.key_kind.specs.declared.key.KeyKind.TheVariants as kinds
 use Rattle.key_kind.specs.declared.key.Key.{Key}
 use Rattle.key_kind.specs.declared.key.Holder.{Holder}
