@@ -3,12 +3,12 @@
 --     IsRefused, IsAccepted      a try that drops its keys again; a try that ends with its Refer
 --     IsTurn               refused tries, and an accepted one or none
 --     Turn, AreTurns       turns over symbols in ascending order, each with one change
-use Rattle.std.specs.Prelude.{◌≡◌, ℕ, ◌+◌, ◌≤◌, Bool, true, false, if◌then◌else◌, List, [], ◌∷◌, ◌++◌, map, length, filter, Option, Some, None, Ok, ⊤, MatchBool, is_some}
+use Rattle.std.specs.Prelude.{◌≡◌, ℕ, ◌+◌, ◌≤◌, Bool, true, false, if◌then◌else◌, List, [], ◌∷◌, ◌++◌, map, length, filter, Option, Some, None, Ok, MatchBool, is_some}
 use Rattle.std.specs.List.{list_any, flat_map, AllByRecursion}
 use Rattle.key_kind.specs.declared.key.KeyKind.{KeyKind}
 use Rattle.key_kind.specs.declared.key.KeyKind.TheVariants as kinds
 use Rattle.key_kind.specs.declared.key.Key.{Key}
-use Rattle.key_kind.specs.Names.{Name, same_name, name_before}
+use Rattle.key_kind.specs.Names.{Name, same_name}
 use Rattle.key_kind.specs.Keys.{same_key}
 use Rattle.bucket_core.specs.declared.event.Change.{Change}
 use Rattle.bucket_core.specs.declared.event.Event.{Event}
@@ -23,6 +23,7 @@ use Rattle.store_model.specs.declared.chain.ChainMark.{ChainMark}
 use Rattle.store_model.specs.declared.chain.ChainMark.TheVariants as marks
 use Rattle.store_model.specs.declared.chain.Entry.{Entry}
 use Rattle.store_model.specs.ChainText.{entry_of}
+use Rattle.store_model.specs.Listings.{NamesRise}
 use Rattle.reply_model.specs.Windows.{Window, refers_by_others}
 
 -- the event of a put, and of the drop of its key
@@ -98,12 +99,6 @@ pub record Turn (h : History) (s : Session) (w : Window) (Mark : Change → Type
   pub done : Bool
   pub own : List Event
   pub is : IsTurn h s w symbol false done (λ list. (c : Change) × Mark c × (list ≡ c ∷ [])) own
-
--- the names rise
-abbrev pub NamesRise : List Name → Type 0
-NamesRise [] = ⊤
-NamesRise (a ∷ []) = ⊤
-NamesRise (a ∷ b ∷ more) = (name_before a b ≡ true) × NamesRise (b ∷ more)
 
 -- the symbol is among those that were asked, or all were
 abbrev pub is_asked : List Pick → Name → Bool

@@ -20,3 +20,4 @@ pub mod WitnessPruned
 pub mod WitnessMet
 pub mod WitnessCleared
 pub mod Refuses
+pub mod Listing

@@ -5,6 +5,7 @@ ghost use Rattle.store_model.specs.Intact.{IsIntact, IsAsPut, IsShown};
 ghost use Rattle.store_model.specs.Once.{PiecesOnce, NamedOnce};
 ghost use Rattle.store_model.specs.Promises.{InEachLawful, EventsKeep, BeginningsAreLawful};
 ghost use Rattle.store_model.specs.Walks.{LawfulWalks};
+ghost use Rattle.store_model.specs.Listings.{AllListsAgree};
 
 /// In every lawful history nothing that is needed was dropped: what live and held versions reach, the elements of chains and the
 /// staged pieces that are not consumed stand as they were put, and the tiles of each version are its whole frame.
@@ -48,4 +49,10 @@ pub fn references_move_on()
 /// A walk along the elements of a lawful history finds the symbol's state.
 pub fn walks_give_the_state()
     ensures { LawfulWalks }
+{}
+
+/// In every history the lists of the library name, in ascending order, exactly the symbols that have a reference and the
+/// snapshots that stand.
+pub fn library_lists_agree()
+    ensures { AllListsAgree }
 {}
