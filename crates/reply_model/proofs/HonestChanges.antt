@@ -10,7 +10,7 @@ use Rattle.key_kind.specs.declared.key.KeyKind.TheVariants as kinds
 use Rattle.key_kind.specs.KeyText.{key_at}
 use Rattle.segment_bytes.specs.SegmentText.{segment_text, segment_of}
 use Rattle.store_model.specs.ChainText.{entry_of, entry_text}
-use Rattle.store_model.proofs.Rows.{S}
+use Rattle.store_model.proofs.SmallFrames.{S}
 use Rattle.store_model.proofs.Witness as w
 use Rattle.reply_model.specs.declared.command.Command.TheVariants as commands
 use Rattle.reply_model.specs.declared.outcome.Outcome.TheVariants as outcomes

@@ -22,7 +22,8 @@ use Rattle.key_kind.proofs.KeyTests.{same_key_is}
 use Rattle.segment_bytes.specs.SegmentText.{segment_text, segment_of}
 use Rattle.store_model.specs.ChainText.{entry_of, entry_text}
 use Rattle.store_model.specs.Links.{Linked, links, reaches, IsUnneeded}
-use Rattle.store_model.proofs.Rows.{S, commit}
+use Rattle.store_model.proofs.SmallFrames.{S}
+use Rattle.store_model.proofs.WorkedHistories.{commit}
 use Rattle.store_model.proofs.Witness as w
 use Rattle.store_model.proofs.WitnessShared as shared
 use Rattle.reply_model.specs.declared.command.Command.TheVariants as commands

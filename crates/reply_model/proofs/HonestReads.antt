@@ -19,7 +19,7 @@ use Rattle.index_tree.specs.IndexText.{index_text, index_of}
 use Rattle.store_model.specs.ChainText.{entry_of, entry_text}
 use Rattle.store_model.specs.Library.{state_of}
 use Rattle.store_model.specs.Links.{Linked, links, reaches, is_needed, IsUnneeded}
-use Rattle.store_model.proofs.Rows.{S}
+use Rattle.store_model.proofs.SmallFrames.{S}
 use Rattle.store_model.proofs.Witness as w
 use Rattle.store_model.proofs.WitnessPruned as pruned
 use Rattle.reply_model.specs.declared.command.Command.TheVariants as commands

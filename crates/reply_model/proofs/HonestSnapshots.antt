@@ -25,7 +25,7 @@ use Rattle.store_model.specs.declared.chain.ChainMark.TheVariants as marks
 use Rattle.store_model.specs.ChainText.{entry_of, entry_text, snap_of, snap_text}
 use Rattle.store_model.specs.Library.{state_of, after_changes, is_consumed, same_piece}
 use Rattle.store_model.specs.Links.{Linked, links, reaches, is_needed, IsUnneeded, IsConsumedPiece}
-use Rattle.store_model.proofs.Rows.{S, k}
+use Rattle.store_model.proofs.SmallFrames.{S, k}
 use Rattle.store_model.proofs.Witness as w
 use Rattle.store_model.proofs.WitnessKept as kept
 use Rattle.reply_model.specs.declared.command.AsOf.TheVariants as moments

@@ -18,7 +18,7 @@ use Rattle.store_model.specs.declared.chain.ChainMark.TheVariants as marks
 use Rattle.store_model.specs.declared.chain.Entry.{Entry}
 use Rattle.store_model.specs.declared.snapshot.SnapBody.{SnapBody}
 use Rattle.store_model.specs.ChainText.{entry_of, entry_text, snap_of, snap_text}
-use Rattle.store_model.proofs.Rows.{S, k}
+use Rattle.store_model.proofs.SmallFrames.{S, k}
 use Rattle.store_model.proofs.Witness as w
 use Rattle.store_model.proofs.WitnessKept as kept
 use Rattle.store_model.proofs.WitnessShared.{element_key}

@@ -21,7 +21,7 @@ use Rattle.store_model.specs.declared.chain.LinkRow.{LinkRow}
 use Rattle.store_model.specs.declared.chain.ChainMark.TheVariants as marks
 use Rattle.store_model.specs.declared.chain.Entry.{Entry}
 use Rattle.store_model.specs.ChainText.{entry_of, entry_text}
-use Rattle.store_model.proofs.Rows.{S}
+use Rattle.store_model.proofs.SmallFrames.{S}
 use Rattle.store_model.proofs.Witness as w
 use Rattle.store_model.proofs.WitnessShared as shared
 use Rattle.reply_model.specs.declared.command.AsOf.TheVariants as moments

@@ -17,7 +17,8 @@ use Rattle.base_types.proofs.Lists.{all_weaker}
 use Rattle.key_kind.specs.declared.key.Key.{Key}
 use Rattle.key_kind.specs.declared.key.KeyKind.TheVariants as kinds
 use Rattle.key_kind.specs.KeyText.{key_at, key_text}
-use Rattle.store_model.proofs.Rows.{S, k, frame, key, commit, snap, holder, after_snapshot}
+use Rattle.store_model.proofs.SmallFrames.{S, k, frame}
+use Rattle.store_model.proofs.WorkedHistories.{key, commit, snap, holder, after_snapshot}
 use Rattle.store_model.proofs.Witness as w
 use Rattle.store_model.proofs.WitnessKept as kept
 use Rattle.reply_model.proofs.HonestSnapshots.{index_drops}

@@ -12,7 +12,8 @@ pub mod Stable
 pub mod Standing
 pub mod MovesOn
 pub mod Walking
-pub mod Rows
+pub mod SmallFrames
+pub mod WorkedHistories
 pub mod Witness
 pub mod WitnessKept
 pub mod WitnessShared

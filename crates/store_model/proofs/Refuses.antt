@@ -32,7 +32,7 @@ use Rattle.store_model.specs.declared.chain.Entry.{Entry}
 use Rattle.store_model.specs.Links.{Linked, linked}
 use Rattle.store_model.specs.Commits.{FitsLink}
 use Rattle.store_model.specs.Law.{IsClaimed}
-use Rattle.store_model.proofs.Rows.{S, k, frame}
+use Rattle.store_model.proofs.SmallFrames.{S, k, frame}
 use Rattle.store_model.proofs.Witness as w
 use Rattle.store_model.proofs.WitnessKept as kept
 use Rattle.store_model.proofs.WitnessShared as shared

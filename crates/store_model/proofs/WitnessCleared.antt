@@ -21,7 +21,7 @@ use Rattle.store_model.specs.declared.chain.Entry.{Entry}
 use Rattle.store_model.specs.ChainText.{entry_text, entry_of}
 use Rattle.store_model.specs.Commits.{MayRefer, FitsLink, making, no_pieces}
 use Rattle.store_model.specs.Law.{IsLawful, MayPut}
-use Rattle.store_model.proofs.Rows.{column_rules, S}
+use Rattle.store_model.proofs.SmallFrames.{column_rules, S}
 use Rattle.store_model.proofs.Witness as w
 use Rattle.std.specs.Prelude.{◌≤ℤ◌}
 use Rattle.std.proofs.Common.{None, arith}
@@ -31,7 +31,7 @@ use Rattle.frame_core.specs.Limits.{IsStorable}
 use Rattle.segment_cut.specs.Tiles.{Tiled}
 use Rattle.bucket_core.specs.declared.event.PieceName.{PieceName}
 use Rattle.store_model.specs.Commits.{no_tombs, some_pieces}
-use Rattle.store_model.proofs.Rows.{column_rules, frame}
+use Rattle.store_model.proofs.SmallFrames.{column_rules, frame}
 
 -- ---- a range is cleared
 

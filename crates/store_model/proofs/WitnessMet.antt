@@ -16,7 +16,7 @@ use Rattle.bucket_core.specs.History.{History}
 use Rattle.store_model.specs.ChainText.{entry_text, entry_of}
 use Rattle.store_model.specs.Commits.{MayRefer, FitsLink, making, no_tombs, no_pieces}
 use Rattle.store_model.specs.Law.{IsLawful, MayPut}
-use Rattle.store_model.proofs.Rows.{S}
+use Rattle.store_model.proofs.SmallFrames.{S}
 use Rattle.store_model.proofs.Witness as w
 use Rattle.store_model.specs.Links.{IsOwnUnlinked}
 use Rattle.store_model.proofs.WitnessShared as shared

@@ -24,7 +24,7 @@ use Rattle.store_model.specs.ChainText.{entry_text, entry_of}
 use Rattle.store_model.specs.Links.{IsUnneeded}
 use Rattle.store_model.specs.Commits.{MayRefer, FitsLink, making, some_tombs, no_pieces}
 use Rattle.store_model.specs.Law.{IsLawful, MayPut}
-use Rattle.store_model.proofs.Rows.{S}
+use Rattle.store_model.proofs.SmallFrames.{S}
 use Rattle.store_model.proofs.Witness as w
 
 abbrev pub key : KeyKind → ℕ → Key
