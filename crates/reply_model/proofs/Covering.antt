@@ -13,12 +13,12 @@ use Rattle.reply_model.proofs.Later.{history_at_later}
 use Rattle.reply_model.proofs.HonestWrites.{client, window, reply, writes, appends, met, write_is_legal, first_append_is_legal, second_append_is_moved}
 
 -- the event of a place stays what it is, and the newest one is that of the last place
-event_at_later : (x : Event) (h : History) (n : ℕ) → n ≤ length h → event_at (x ∷ h) n ≡ event_at h n
+pub event_at_later : (x : Event) (h : History) (n : ℕ) → n ≤ length h → event_at (x ∷ h) n ≡ event_at h n
 event_at_later x h n le =
     ap (λ b. cond b (newest (history_at (x ∷ h) n)) None) (le-leb n (suc (length h)) (omega (arith, le)))
     ∙ (ap newest (history_at_later h (x ∷ []) n le) ∙ sym (ap (λ b. cond b (newest (history_at h n)) None) (le-leb n (length h) le)))
 
-event_at_end : (x : Event) (h : History) → event_at (x ∷ h) (suc (length h)) ≡ Some x
+pub event_at_end : (x : Event) (h : History) → event_at (x ∷ h) (suc (length h)) ≡ Some x
 event_at_end x h =
     let none : suc (length h) - suc (length h) ≡ 0 = omega arith in
     ap (λ b. cond b (newest (history_at (x ∷ h) (suc (length h)))) None) (le-leb (suc (length h)) (suc (length h)) (omega arith))
@@ -39,7 +39,7 @@ covers_from talks n e t =
     let both = and_parts (nat_eq r.0.client.session.client (author e)) (is_covered r.0.windows n) r.2 in
     (r.1.0, r.0, r.1.1, r.1.2, (eqb-true r.0.client.session.client (author e) both.0, both.1))
 
-some_is : (a b : Event) → Some a ≡ Some b → a ≡ b
+pub some_is : (a b : Event) → Some a ≡ Some b → a ≡ b
 some_is a b e = cc
 
 -- the test shows that all events are covered

@@ -55,7 +55,7 @@ before_harms_nothing c symbol (Some of_index) first (of_version tiles own body i
     puts_harm_nothing c tiles ((of_index, body) ∷ []) (tiles_harm_nothing c symbol tiles tile_are)
     (or_from (harms (events.Put c of_index body)) false (put_harms_nothing c of_index body kinds.TableIndex is.0 refl) refl)
 
-try_harms_nothing : (c : ℕ) (symbol : Name) (makes : Bool) (puts : List (Key × Bytes)) (entry : Key) → IsTry symbol makes puts entry → list_any harms (map (put_of c) puts) ≡ false
+pub try_harms_nothing : (c : ℕ) (symbol : Name) (makes : Bool) (puts : List (Key × Bytes)) (entry : Key) → IsTry symbol makes puts entry → list_any harms (map (put_of c) puts) ≡ false
 try_harms_nothing c symbol makes puts entry t = ap (λ (ps : List (Key × Bytes)). list_any harms (map (put_of c) ps)) t.is
     ∙ puts_harm_nothing c t.first ((entry, t.body) ∷ []) (before_harms_nothing c symbol _ t.first t.before)
     (or_from (harms (events.Put c entry t.body)) false (put_harms_nothing c entry t.body kinds.Version t.entry_is.0 refl) refl)
