@@ -1,9 +1,12 @@
 -- A command that is alone on its symbol answers what the one-thread library answers where its window begins.
 use Rattle.std.proofs.Common.{◌≡◌, ℕ, ℤ, zero, suc, ◌-◌, ◌≤◌, ◌<◌, Bool, true, false, List, [], ◌∷◌, ◌++◌, map, length, Option, Some, None, Result, Ok, Err, refl, sym, ◌∙◌, ap, subst, inl, inr, arith, cond, fold}
-use Rattle.std.specs.Prelude.{◌⊎◌, ◌&&◌, not, filter, find, Contains, MatchBool, nat_eq, slice_get, unwrap_or}
+use Rattle.std.specs.Prelude.{◌⊎◌, ◌&&◌, not, filter, find, Contains, MatchBool, nat_eq, slice_get, unwrap_or, int_le}
 use Rattle.std.specs.List.{list_any, flat_map}
 use Rattle.std.proofs.lemmas.Bool.{true≢false, not-true, or_parts, or_from, and_parts, eqb-true, eq-eqb}
+use Rattle.frame_core.specs.Ranges.{Range}
+use Rattle.frame_core.specs.Texts.{Text}
 use Rattle.frame_core.specs.declared.refusal.Asked.{Asked}
+use Rattle.frame_core.specs.declared.refusal.Asked.TheVariants as asks
 use Rattle.frame_core.specs.declared.refusal.Refusal.{Refusal}
 use Rattle.frame_core.specs.declared.refusal.Refusal.TheVariants as refusals
 use Rattle.base_types.proofs.Lists.{contains_first, contains_later, contains_none, contains_cases, filter_in, none_passes}
@@ -14,6 +17,7 @@ use Rattle.key_kind.specs.declared.key.Key.{Key}
 use Rattle.key_kind.specs.Names.{Name, same_name}
 use Rattle.key_kind.specs.Keys.{same_kind}
 use Rattle.bucket_core.specs.declared.event.Change.{Change}
+use Rattle.bucket_core.specs.declared.event.Change.TheVariants as changes
 use Rattle.bucket_core.specs.declared.event.Event.{Event}
 use Rattle.bucket_core.specs.declared.event.Event.TheVariants as events
 use Rattle.bucket_core.specs.History.{History, Bytes, author, event_at, history_at, events_within}
@@ -27,9 +31,10 @@ use Rattle.reply_model.specs.declared.command.Command.TheVariants as commands
 use Rattle.reply_model.specs.declared.outcome.Outcome.{Outcome}
 use Rattle.reply_model.specs.declared.outcome.Outcome.TheVariants as outcomes
 use Rattle.reply_model.specs.declared.reply.Reply.{Reply}
-use Rattle.reply_model.specs.Answering.{Session, Answer, version_or}
+use Rattle.reply_model.specs.CommitAnswers.{append_answer, update_answer, delete_answer, prune_answer}
+use Rattle.reply_model.specs.Answering.{Session, Answer, ◌then◌, answered, with_frame, stamp_of, committed, base_or, version_or}
 use Rattle.reply_model.specs.Answers.{answer}
-use Rattle.reply_model.specs.ReadAnswers.{read_version, back}
+use Rattle.reply_model.specs.ReadAnswers.{versions_answer, read_version, back, ask}
 use Rattle.reply_model.specs.PieceAnswers.{finalize_answer, discard_answer}
 use Rattle.reply_model.specs.Windows.{Window, Client, library_at, own_events, symbol_of, is_cut, is_store_fault, listed_at, refer_places, AreCommits}
 use Rattle.reply_model.specs.Tries.{put_of, IsAccepted, IsTurn}
@@ -219,3 +224,97 @@ own_stages_nothing h s w (commands.Snapshot snap picks) reply done es p o = absu
 own_stages_nothing h s w (commands.DeleteSnapshot snap) reply done es p o = absurd (true≢false (sym p))
 own_stages_nothing h s w commands.Symbols reply done es p o = absurd (true≢false (sym p))
 own_stages_nothing h s w commands.Snapshots reply done es p o = absurd (true≢false (sym p))
+
+-- ---- answers by the state alone
+
+-- what a read answers of a version
+abbrev whole : Version → Range → Option (List Text) → Result Answer Refusal
+whole v range columns = ask v.frame range columns then λ f. Ok (record { outcome = outcomes.Whole v.number f; marks = [] })
+
+some_name : (a b : Name) → Some a ≡ Some b → a ≡ b
+some_name a b e = cc
+
+-- a value of the named state
+same_state : (l m : Library) (a symbol : Name) → Some a ≡ Some symbol → l.state symbol ≡ m.state symbol → l.state a ≡ m.state a
+same_state l m a symbol named e = subst (λ n. l.state n ≡ m.state n) (sym (some_name a symbol named)) e
+
+same_pieces : (l m : Library) (a symbol : Name) → Some a ≡ Some symbol → (l.state symbol).staged ≡ (m.state symbol).staged → (l.state a).staged ≡ (m.state a).staged
+same_pieces l m a symbol named e = subst (λ n. (l.state n).staged ≡ (m.state n).staged) (sym (some_name a symbol named)) e
+
+-- an answer goes by the state of its symbol, and by the pieces that were staged at its list
+answer_same : (s : Session) (list other : Library) (l m : Library) (p q : ℕ) (c : Command) (symbol : Name) → is_plain c ≡ true → symbol_of c ≡ Some symbol → reads_snapshot c ≡ false
+    → (list.state symbol).staged ≡ (other.state symbol).staged → l.state symbol ≡ m.state symbol → answer s list l p c ≡ answer s other m q c
+answer_same s list other l m p q (commands.Write a frame at prune) symbol plain named snap listed same = ap (λ (st : State). with_frame s frame (λ f. Ok (committed st prune (changes.Wrote f (stamp_of s at))))) (same_state l m a symbol named same)
+answer_same s list other l m p q (commands.Append a frame at prune) symbol plain named snap listed same = ap (λ (st : State). with_frame s frame (λ f. append_answer st prune (stamp_of s at) f)) (same_state l m a symbol named same)
+answer_same s list other l m p q (commands.Update a frame range upsert at prune) symbol plain named snap listed same =
+    ap (λ (st : State). with_frame s frame (λ f. update_answer st upsert prune (stamp_of s at) range f)) (same_state l m a symbol named same)
+answer_same s list other l m p q (commands.DeleteRange a range at prune) symbol plain named snap listed same =
+    ap (λ (st : State). Some (answered (base_or st then λ v. update_answer st false prune (stamp_of s at) (Some range) (record v.frame { rows = [] })))) (same_state l m a symbol named same)
+answer_same s list other l m p q (commands.Finalize a append sorted at prune) symbol plain named snap listed same =
+    ap (λ (ps : List Piece). Some (answered (finalize_answer (record unknown { staged = ps }) (l.state a) append sorted prune (stamp_of s at)))) (same_pieces list other a symbol named listed)
+    ∙ ap (λ (st : State). Some (answered (finalize_answer (other.state a) st append sorted prune (stamp_of s at)))) (same_state l m a symbol named same)
+answer_same s list other l m p q (commands.Discard a) symbol plain named snap listed same =
+    ap (λ (ps : List Piece). Some (answered (discard_answer (record unknown { staged = ps }) (l.state a)))) (same_pieces list other a symbol named listed)
+    ∙ ap (λ (st : State). Some (answered (discard_answer (other.state a) st))) (same_state l m a symbol named same)
+answer_same s list other l m p q (commands.Delete a versions) symbol plain named snap listed same = ap (λ (st : State). Some (answered (delete_answer st versions))) (same_state l m a symbol named same)
+answer_same s list other l m p q (commands.Prune a) symbol plain named snap listed same = ap (λ (st : State). Some (answered (prune_answer st))) (same_state l m a symbol named same)
+answer_same s list other l m p q (commands.Versions a) symbol plain named snap listed same = ap (λ (st : State). Some (answered (versions_answer st))) (same_state l m a symbol named same)
+answer_same s list other l m p q (commands.Read a (moments.Back k) range columns) symbol plain named snap listed same =
+    ap (λ (st : State). Some (answered (version_or st (asks.Back k) (back (live_versions st) k) then λ v. whole v range columns))) (same_state l m a symbol named same)
+answer_same s list other l m p q (commands.Read a (moments.Number n) range columns) symbol plain named snap listed same =
+    ap (λ (st : State). Some (answered (version_or st (asks.Number n) (find (λ v. nat_eq v.number n) (live_versions st)) then λ v. whole v range columns))) (same_state l m a symbol named same)
+answer_same s list other l m p q (commands.Read a (moments.Moment t) range columns) symbol plain named snap listed same =
+    ap (λ (st : State). Some (answered (version_or st (asks.Moment t) (find (λ v. int_le v.stamp t) (live_versions st)) then λ v. whole v range columns))) (same_state l m a symbol named same)
+answer_same s list other l m p q (commands.Read a (moments.Snapshot name) range columns) symbol plain named snap listed same = absurd (true≢false snap)
+answer_same s list other l m p q (commands.Stage a frame) symbol plain named snap listed same = absurd (true≢false (sym plain))
+answer_same s list other l m p q (commands.Reclaim a) symbol plain named snap listed same = absurd (true≢false (sym plain))
+answer_same s list other l m p q (commands.Keys a) symbol plain named snap listed same = absurd (true≢false (sym plain))
+answer_same s list other l m p q (commands.Snapshot name picks) symbol plain named snap listed same = absurd (true≢false (sym plain))
+answer_same s list other l m p q (commands.DeleteSnapshot name) symbol plain named snap listed same = absurd (true≢false (sym plain))
+answer_same s list other l m p q commands.Symbols symbol plain named snap listed same = absurd (true≢false (sym plain))
+answer_same s list other l m p q commands.Snapshots symbol plain named snap listed same = absurd (true≢false (sym plain))
+
+-- ---- the clauses of a plain command
+
+-- a try met another's Refer
+abbrev Met : History → Client → Command → Reply → Window → Type 0
+Met h client c reply w = (symbol : Name) × (now : ℕ) × MeetsOn h c reply symbol × IsMoved h client.session symbol now reply.place w
+
+-- a version that was read is gone
+abbrev Gone : History → Command → Reply → Window → Type 0
+Gone h (commands.Read symbol as_of range columns) reply w = (number : ℕ) × IsVersionGone h symbol as_of number reply.place w
+Gone h c reply w = ⊥
+
+plain_refusal : (h : History) (client : Client) (c : Command) (reply : Reply) (w : Window) (why : Refusal) → is_plain c ≡ true → is_cut (outcomes.Refused why) ≡ false → IsLegalRefusal h client c reply w why
+    → Met h client c reply w ⊎ Gone h c reply w ⊎ IsAnswer h client c reply
+plain_refusal h client c reply w refusals.NoMemory plain cut l = absurd (true≢false cut)
+plain_refusal h client c reply w refusals.StoreFault plain cut l = absurd (true≢false cut)
+plain_refusal h client c reply w (refusals.Spent count) plain cut l = absurd (true≢false cut)
+plain_refusal h client c reply w (refusals.Moved now) plain cut l = inl (l.0, now, l.1, l.2)
+plain_refusal h client (commands.Read symbol as_of range columns) reply w (refusals.VersionGone number) plain cut l = inr (inl (number, l))
+plain_refusal h client (commands.Reclaim symbol) reply w why plain cut l = absurd (true≢false (sym plain))
+plain_refusal h client (commands.DeleteSnapshot snap) reply w why plain cut l = absurd (true≢false (sym plain))
+plain_refusal h client (commands.Snapshot snap picks) reply w why plain cut l = absurd (true≢false (sym plain))
+plain_refusal h client c reply w (refusals.VersionGone number) plain cut l = absurd l
+plain_refusal h client c reply w why plain cut l = inr (inr l)
+
+plain_ok : (h : History) (client : Client) (c : Command) (reply : Reply) (w : Window) (o : Outcome) → is_plain c ≡ true → IsLegalOk h client c reply w o → IsAnswer h client c reply
+plain_ok h client (commands.Stage symbol frame) reply w o plain l = absurd (true≢false (sym plain))
+plain_ok h client (commands.Reclaim symbol) reply w o plain l = absurd (true≢false (sym plain))
+plain_ok h client (commands.Keys symbol) reply w o plain l = absurd (true≢false (sym plain))
+plain_ok h client (commands.Snapshot snap picks) reply w o plain l = absurd (true≢false (sym plain))
+plain_ok h client (commands.DeleteSnapshot snap) reply w o plain l = absurd (true≢false (sym plain))
+plain_ok h client commands.Symbols reply w o plain l = absurd (true≢false (sym plain))
+plain_ok h client commands.Snapshots reply w o plain l = absurd (true≢false (sym plain))
+plain_ok h client c reply w o plain l = l
+
+plain_outcome : (h : History) (client : Client) (c : Command) (reply : Reply) (w : Window) (o : Outcome) → is_plain c ≡ true → is_cut o ≡ false → IsLegalOutcome h client c reply w o
+    → Met h client c reply w ⊎ Gone h c reply w ⊎ IsAnswer h client c reply
+plain_outcome h client c reply w (outcomes.Refused why) plain cut l = plain_refusal h client c reply w why plain cut l
+plain_outcome h client c reply w o plain cut l = inr (inr (plain_ok h client c reply w o plain l))
+
+-- what is not cut is no failure of the store
+uncut_is_no_fault : (o : Outcome) → is_cut o ≡ false → is_store_fault o ≡ false
+uncut_is_no_fault (outcomes.Refused refusals.StoreFault) cut = absurd (true≢false cut)
+uncut_is_no_fault (outcomes.Refused why) cut = refl
+uncut_is_no_fault o cut = refl
