@@ -1,28 +1,24 @@
 -- A command that is alone on its symbol answers what the one-thread library answers where its window begins.
-use Rattle.std.proofs.Common.{◌≡◌, ℕ, ℤ, zero, suc, ◌-◌, ◌≤◌, ◌<◌, Bool, true, false, List, [], ◌∷◌, ◌++◌, map, length, Option, Some, None, Result, Ok, Err, refl, sym, ◌∙◌, ap, subst, inl, inr, arith, cond, fold}
-use Rattle.std.specs.Prelude.{◌⊎◌, ◌&&◌, not, filter, find, Contains, MatchBool, nat_eq, slice_get, unwrap_or, int_le}
-use Rattle.std.specs.List.{list_any, flat_map}
-use Rattle.std.proofs.lemmas.Bool.{true≢false, not-true, or_parts, or_from, and_parts, eqb-true, eq-eqb}
+use Rattle.std.proofs.Common.{◌≡◌, ℕ, zero, suc, ◌-◌, ◌≤◌, ◌<◌, Bool, true, false, List, [], ◌∷◌, length, Option, Some, None, Result, Ok, refl, sym, ◌∙◌, ap, subst, inl, inr, arith, cond}
+use Rattle.std.specs.Prelude.{◌⊎◌, ◌≢◌, not, find, Contains, MatchBool, nat_eq, slice_get, unwrap_or, int_le, option_map}
+use Rattle.std.specs.List.{list_any}
+use Rattle.std.proofs.lemmas.List.{length-drop}
+use Rattle.std.proofs.lemmas.Bool.{true≢false, not-true, eqb-true, eq-eqb}
 use Rattle.frame_core.specs.Ranges.{Range}
+use Rattle.frame_core.specs.Frames.{Frame}
 use Rattle.frame_core.specs.Texts.{Text}
 use Rattle.frame_core.specs.declared.refusal.Asked.{Asked}
 use Rattle.frame_core.specs.declared.refusal.Asked.TheVariants as asks
 use Rattle.frame_core.specs.declared.refusal.Refusal.{Refusal}
 use Rattle.frame_core.specs.declared.refusal.Refusal.TheVariants as refusals
-use Rattle.base_types.proofs.Lists.{contains_first, contains_later, contains_none, contains_cases, filter_in, none_passes}
-use Rattle.byte_fields.specs.Reading.{read_of}
-use Rattle.segment_bytes.specs.SegmentText.{segment_of}
-use Rattle.key_kind.specs.declared.key.KeyKind.TheVariants as kinds
-use Rattle.key_kind.specs.declared.key.Key.{Key}
-use Rattle.key_kind.specs.Names.{Name, same_name}
-use Rattle.key_kind.specs.Keys.{same_kind}
-use Rattle.bucket_core.specs.declared.event.Change.{Change}
+use Rattle.base_types.proofs.Lists.{contains_first, contains_later, contains_none, contains_cases, filter_in}
+use Rattle.key_kind.specs.Names.{Name}
 use Rattle.bucket_core.specs.declared.event.Change.TheVariants as changes
 use Rattle.bucket_core.specs.declared.event.Event.{Event}
 use Rattle.bucket_core.specs.declared.event.Event.TheVariants as events
-use Rattle.bucket_core.specs.History.{History, Bytes, author, event_at, history_at, events_within}
+use Rattle.bucket_core.specs.History.{History, author, event_at, history_at}
 use Rattle.bucket_core.specs.Laws.{refers}
-use Rattle.store_model.specs.Library.{State, Version, Piece, state_of, after_change, after_changes, piece_of, is_buried, live_versions, unknown}
+use Rattle.store_model.specs.Library.{State, Version, Piece, state_of, is_buried, live_versions, unknown}
 use Rattle.store_model.specs.Snapshots.{Library}
 use Rattle.reply_model.specs.declared.command.AsOf.{AsOf}
 use Rattle.reply_model.specs.declared.command.AsOf.TheVariants as moments
@@ -32,198 +28,18 @@ use Rattle.reply_model.specs.declared.outcome.Outcome.{Outcome}
 use Rattle.reply_model.specs.declared.outcome.Outcome.TheVariants as outcomes
 use Rattle.reply_model.specs.declared.reply.Reply.{Reply}
 use Rattle.reply_model.specs.CommitAnswers.{append_answer, update_answer, delete_answer, prune_answer}
-use Rattle.reply_model.specs.Answering.{Session, Answer, ◌then◌, answered, with_frame, stamp_of, committed, base_or, version_or}
+use Rattle.reply_model.specs.Answering.{Session, Answer, ◌then◌, answered, with_frame, stamp_of, committed, base_or, version_or, refuse_if, or_refuse}
 use Rattle.reply_model.specs.Answers.{answer}
 use Rattle.reply_model.specs.ReadAnswers.{versions_answer, read_version, back, ask}
 use Rattle.reply_model.specs.PieceAnswers.{finalize_answer, discard_answer}
 use Rattle.reply_model.specs.Windows.{Window, Client, library_at, own_events, symbol_of, is_cut, is_store_fault, listed_at, refer_places, AreCommits}
-use Rattle.reply_model.specs.Tries.{put_of, IsAccepted, IsTurn}
-use Rattle.reply_model.specs.OwnEvents.{AnyMarks, IsOwn, is_done}
+use Rattle.reply_model.specs.OwnEvents.{IsStaging, IsOwn, is_done, IsBeginning, HasOwnEvents}
 use Rattle.reply_model.specs.Causes.{MeetsOn, IsMoved, IsVersionGone}
 use Rattle.reply_model.specs.Rows.{IsAnswer}
 use Rattle.reply_model.specs.Legal.{IsLegalRefusal, IsLegalOk, IsLegalOutcome, IsLegalSeen, IsListedWithin}
-use Rattle.reply_model.specs.Runs.{names_symbol, harms, reads_snapshot, IsAlone, IsIsolated}
-use Rattle.reply_model.proofs.Harmless.{tries_harm_nothing, try_harms_nothing}
-use Rattle.reply_model.proofs.Places.{same_between, behind, within_is_behind, none_at, is_refer_of, refer_listed, listed_after, none_own_at}
-
--- ---- which events change a symbol's state
-
--- the Put of a piece, of any symbol, and of this one
-abbrev stages : Event → Bool
-stages (events.Put client key body) = same_kind key.kind kinds.Staged
-stages e = false
-
-abbrev stages_of : Name → Event → Bool
-stages_of symbol (events.Put client key body) = same_kind key.kind kinds.Staged && same_name key.name symbol
-stages_of symbol e = false
-
--- an event that changes the symbol's state
-abbrev touches : Name → Event → Bool
-touches symbol (events.Put client key body) = same_kind key.kind kinds.Staged && same_name key.name symbol
-touches symbol (events.Refer client s was entry list) = same_name s symbol
-touches symbol e = false
-
-untouched : (symbol : Name) (e : Event) (h : History) → touches symbol e ≡ false → state_of (e ∷ h) symbol ≡ state_of h symbol
-untouched symbol (events.Put client key body) h still =
-    ap (λ b. record (state_of h symbol) { staged = cond b (piece_of key (read_of (segment_of body))) [] ++ (state_of h symbol).staged }) still
-untouched symbol (events.Refer client s was entry list) h still = ap (λ b. cond b (after_changes (state_of h symbol) list) (state_of h symbol)) still
-untouched symbol (events.Name client snap body) h still = refl
-untouched symbol (events.Unname client snap) h still = refl
-untouched symbol (events.Drop client key) h still = refl
-
--- a Refer stages nothing
-staged_same : (list : List Change) (st : State) → (fold after_change st list).staged ≡ st.staged
-staged_same [] st = refl
-staged_same (c ∷ list) st = staged_same list (after_change st c)
-
-unstaged : (symbol : Name) (e : Event) (h : History) → stages_of symbol e ≡ false → (state_of (e ∷ h) symbol).staged ≡ (state_of h symbol).staged
-unstaged symbol (events.Put client key body) h still = ap (λ b. cond b (piece_of key (read_of (segment_of body))) [] ++ (state_of h symbol).staged) still
-unstaged symbol (events.Refer client s was entry list) h still =
-    elim (same_name s symbol) as (λ b. (cond b (after_changes (state_of h symbol) list) (state_of h symbol)).staged ≡ (state_of h symbol).staged) [
-      | true ↦ staged_same list (state_of h symbol)
-      | false ↦ refl
-    ]
-unstaged symbol (events.Name client snap body) h still = refl
-unstaged symbol (events.Unname client snap) h still = refl
-unstaged symbol (events.Drop client key) h still = refl
-
--- a test that does not pass does not pass with another
-not_with : (a b : Bool) → b ≡ false → (a && b) ≡ false
-not_with true b e = e
-not_with false b e = refl
-
-not_first : (a b : Bool) → a ≡ false → (a && b) ≡ false
-not_first a b e = ap (λ x. x && b) e
-
--- an event that does not name the symbol does not change its state
-unnamed_untouched : (symbol : Name) (e : Event) → names_symbol symbol e ≡ false → touches symbol e ≡ false
-unnamed_untouched symbol (events.Put client key body) u = not_with (same_kind key.kind kinds.Staged) (same_name key.name symbol) u
-unnamed_untouched symbol (events.Refer client s was entry list) u = u
-unnamed_untouched symbol (events.Name client snap body) u = refl
-unnamed_untouched symbol (events.Unname client snap) u = refl
-unnamed_untouched symbol (events.Drop client key) u = refl
-
-unnamed_unstaged : (symbol : Name) (e : Event) → names_symbol symbol e ≡ false → stages_of symbol e ≡ false
-unnamed_unstaged symbol (events.Put client key body) u = not_with (same_kind key.kind kinds.Staged) (same_name key.name symbol) u
-unnamed_unstaged symbol (events.Refer client s was entry list) u = refl
-unnamed_unstaged symbol (events.Name client snap body) u = refl
-unnamed_unstaged symbol (events.Unname client snap) u = refl
-unnamed_unstaged symbol (events.Drop client key) u = refl
-
--- nor does one that neither refers the symbol nor stages
-quiet_untouched : (symbol : Name) (e : Event) → refers symbol e ≡ false → stages e ≡ false → touches symbol e ≡ false
-quiet_untouched symbol (events.Put client key body) r q = not_first (same_kind key.kind kinds.Staged) (same_name key.name symbol) q
-quiet_untouched symbol (events.Refer client s was entry list) r q = r
-quiet_untouched symbol (events.Name client snap body) r q = refl
-quiet_untouched symbol (events.Unname client snap) r q = refl
-quiet_untouched symbol (events.Drop client key) r q = refl
-
-quiet_unstaged : (symbol : Name) (e : Event) → stages e ≡ false → stages_of symbol e ≡ false
-quiet_unstaged symbol (events.Put client key body) q = not_first (same_kind key.kind kinds.Staged) (same_name key.name symbol) q
-quiet_unstaged symbol (events.Refer client s was entry list) q = refl
-quiet_unstaged symbol (events.Name client snap body) q = refl
-quiet_unstaged symbol (events.Unname client snap) q = refl
-quiet_unstaged symbol (events.Drop client key) q = refl
-
--- ---- the state between two places of a window
-
--- what is known of a window that ends with the history: others do not name the symbol, and own events stage nothing
-record Quiet (h : History) (client : ℕ) (symbol : Name) (w : Window) : Type 0 where
-  ends : w.stop ≡ length h
-  alone : IsAlone h client symbol w
-  own : list_any stages (own_events h client w) ≡ false
-
--- an event of another does not name the symbol
-others_unnamed : (h : History) (client : ℕ) (symbol : Name) (w : Window) → w.stop ≡ length h → IsAlone h client symbol w → (n : ℕ) (e : Event) → w.start < n → n ≤ length h → event_at h n ≡ Some e
-    → nat_eq (author e) client ≡ false → names_symbol symbol e ≡ false
-others_unnamed h client symbol w ends alone n e after before at other =
-    let none : list_any (λ x. names_symbol symbol x && not (nat_eq (author x) client)) (behind w.start h) ≡ false =
-        subst (λ xs. list_any (λ x. names_symbol symbol x && not (nat_eq (author x) client)) xs ≡ false) (ap (events_within h w.start) ends ∙ within_is_behind h w.start) alone in
-    let both = none_at (λ x. names_symbol symbol x && not (nat_eq (author x) client)) h w.start n e none after before at in
-    elim (names_symbol symbol e) as (λ b. (b && not (nat_eq (author e) client)) ≡ false → b ≡ false) [
-      | true ↦ λ f. absurd (true≢false (sym (ap not other) ∙ f))
-      | false ↦ λ f. refl
-    ] both
-
--- where no own event up to a place refers the symbol, its state is that of the window's beginning
-state_kept : (h : History) (client : ℕ) (symbol : Name) (w : Window) (q : ℕ) → Quiet h client symbol w → w.start ≤ q → q ≤ length h
-    → ((n : ℕ) (e : Event) → w.start < n → n ≤ q → event_at h n ≡ Some e → author e ≡ client → refers symbol e ≡ false)
-    → state_of (history_at h q) symbol ≡ state_of (history_at h w.start) symbol
-state_kept h client symbol w q quiet first last own_refers =
-    same_between (λ g. state_of g symbol) (touches symbol) (untouched symbol) h w.start q first last (λ n e after before at.
-    elim (nat_eq (author e) client) as (λ b. nat_eq (author e) client ≡ b → touches symbol e ≡ false) [
-      | true ↦ λ own. quiet_untouched symbol e (own_refers n e after before at (eqb-true (author e) client own))
-          (none_own_at stages h client w n e quiet.ends quiet.own (eqb-true (author e) client own) after (omega (arith, before, last)) at)
-      | false ↦ λ other. unnamed_untouched symbol e (others_unnamed h client symbol w quiet.ends quiet.alone n e after (omega (arith, before, last)) at other)
-    ] refl)
-
--- its staged pieces are those of the window's beginning
-staged_kept : (h : History) (client : ℕ) (symbol : Name) (w : Window) (q : ℕ) → Quiet h client symbol w → w.start ≤ q → q ≤ length h
-    → (state_of (history_at h q) symbol).staged ≡ (state_of (history_at h w.start) symbol).staged
-staged_kept h client symbol w q quiet first last =
-    same_between (λ g. (state_of g symbol).staged) (stages_of symbol) (unstaged symbol) h w.start q first last (λ n e after before at.
-    elim (nat_eq (author e) client) as (λ b. nat_eq (author e) client ≡ b → stages_of symbol e ≡ false) [
-      | true ↦ λ own. quiet_unstaged symbol e (none_own_at stages h client w n e quiet.ends quiet.own (eqb-true (author e) client own) after (omega (arith, before, last)) at)
-      | false ↦ λ other. unnamed_unstaged symbol e (others_unnamed h client symbol w quiet.ends quiet.alone n e after (omega (arith, before, last)) at other)
-    ] refl)
-
--- ---- own events
-
--- what changes nothing stages nothing
-harmless_stages : (xs : List Event) → list_any harms xs ≡ false → list_any stages xs ≡ false
-harmless_stages [] e = refl
-harmless_stages (x ∷ xs) e = let r = or_parts (harms x) (list_any harms xs) e in or_from (stages x) (list_any stages xs) (of_one x r.0) (harmless_stages xs r.1)
-  where
-    of_one : (x : Event) → harms x ≡ false → stages x ≡ false
-    of_one (events.Put client key body) f = f
-    of_one (events.Refer client s was entry list) f = refl
-    of_one (events.Name client snap body) f = refl
-    of_one (events.Unname client snap) f = refl
-    of_one (events.Drop client key) f = refl
-
-none_of_both : (xs ys : List Event) → list_any stages xs ≡ false → list_any stages ys ≡ false → list_any stages (xs ++ ys) ≡ false
-none_of_both [] ys e f = f
-none_of_both (x ∷ xs) ys e f = let r = or_parts (stages x) (list_any stages xs) e in or_from (stages x) (list_any stages (xs ++ ys)) r.0 (none_of_both xs ys r.1 f)
-
--- a turn stages nothing
-turn_stages_nothing : (h : History) (s : Session) (w : Window) (symbol : Name) (makes done : Bool) (es : List Event) → IsTurn h s w symbol makes done AnyMarks es → list_any stages es ≡ false
-turn_stages_nothing h s w symbol makes done es t = ap (list_any stages) t.is
-    ∙ none_of_both (flat_map (λ u. u) t.tries) t.last (harmless_stages (flat_map (λ u. u) t.tries) (tries_harm_nothing s.client symbol makes t.tries t.refused)) (last_stages done t.last t.ends)
-  where
-    last_stages : (d : Bool) (last : List Event) → MatchBool d (IsAccepted s.client symbol makes AnyMarks last) (last ≡ []) → list_any stages last ≡ false
-    last_stages false last e = ap (list_any stages) e
-    last_stages true last a = ap (list_any stages) a.6
-        ∙ none_of_both (map (put_of s.client) a.0) (events.Refer s.client symbol a.1 a.2 a.3 ∷ []) (harmless_stages (map (put_of s.client) a.0) (try_harms_nothing s.client symbol makes a.0 a.2 a.4)) refl
-
--- the commands whose answer is a function of the symbol's state, but for stage
-abbrev is_plain : Command → Bool
-is_plain (commands.Stage symbol frame) = false
-is_plain (commands.Reclaim symbol) = false
-is_plain (commands.Keys symbol) = false
-is_plain (commands.Snapshot snap picks) = false
-is_plain (commands.DeleteSnapshot snap) = false
-is_plain commands.Symbols = false
-is_plain commands.Snapshots = false
-is_plain c = true
-
-own_stages_nothing : (h : History) (s : Session) (w : Window) (c : Command) (reply : Reply) (done : Bool) (es : List Event) → is_plain c ≡ true → IsOwn h s w c reply done es → list_any stages es ≡ false
-own_stages_nothing h s w (commands.Write symbol frame at prune) reply done es p o = turn_stages_nothing h s w symbol true done es o
-own_stages_nothing h s w (commands.Append symbol frame at prune) reply done es p o = turn_stages_nothing h s w symbol true done es o
-own_stages_nothing h s w (commands.Update symbol frame range upsert at prune) reply done es p o = turn_stages_nothing h s w symbol true done es o
-own_stages_nothing h s w (commands.DeleteRange symbol range at prune) reply done es p o = turn_stages_nothing h s w symbol true done es o
-own_stages_nothing h s w (commands.Finalize symbol append sorted at prune) reply done es p o = turn_stages_nothing h s w symbol true done es o
-own_stages_nothing h s w (commands.Discard symbol) reply done es p o = turn_stages_nothing h s w symbol false done es o
-own_stages_nothing h s w (commands.Delete symbol versions) reply done es p o = turn_stages_nothing h s w symbol false done es o
-own_stages_nothing h s w (commands.Prune symbol) reply done es p o = turn_stages_nothing h s w symbol false done es o
-own_stages_nothing h s w (commands.Versions symbol) reply done es p o = ap (list_any stages) o
-own_stages_nothing h s w (commands.Read symbol as_of range columns) reply done es p o = ap (list_any stages) o
-own_stages_nothing h s w (commands.Stage symbol frame) reply done es p o = absurd (true≢false (sym p))
-own_stages_nothing h s w (commands.Reclaim symbol) reply done es p o = absurd (true≢false (sym p))
-own_stages_nothing h s w (commands.Keys symbol) reply done es p o = absurd (true≢false (sym p))
-own_stages_nothing h s w (commands.Snapshot snap picks) reply done es p o = absurd (true≢false (sym p))
-own_stages_nothing h s w (commands.DeleteSnapshot snap) reply done es p o = absurd (true≢false (sym p))
-own_stages_nothing h s w commands.Symbols reply done es p o = absurd (true≢false (sym p))
-own_stages_nothing h s w commands.Snapshots reply done es p o = absurd (true≢false (sym p))
+use Rattle.reply_model.specs.Runs.{names_symbol, reads_snapshot, IsAlone, IsIsolated, LegalIsIsolated}
+use Rattle.reply_model.proofs.Places.{history_at_end, is_refer_of, refer_listed, listed_after, none_own_at}
+use Rattle.reply_model.proofs.Quiet.{is_plain, Quiet, others_unnamed, state_kept, staged_kept, own_stages_nothing}
 
 -- ---- answers by the state alone
 
@@ -318,3 +134,245 @@ uncut_is_no_fault : (o : Outcome) → is_cut o ≡ false → is_store_fault o �
 uncut_is_no_fault (outcomes.Refused refusals.StoreFault) cut = absurd (true≢false cut)
 uncut_is_no_fault (outcomes.Refused why) cut = refl
 uncut_is_no_fault o cut = refl
+
+-- ---- a version that was read is live
+
+-- through a snapshot
+abbrev reads_snapshot_as : AsOf → Bool
+reads_snapshot_as (moments.Snapshot name) = true
+reads_snapshot_as as_of = false
+
+found_in : {X : Type 0} (p : X → Bool) (xs : List X) (x : X) → find p xs ≡ Some x → Contains xs x
+found_in p [] x e = absurd cc
+found_in p (y ∷ xs) x e =
+    elim (p y) as (λ b. cond b (Some y) (find p xs) ≡ Some x → Contains (y ∷ xs) x) [
+      | true ↦ λ f. subst (λ z. Contains (y ∷ xs) z) (some_same y x f) (contains_first y xs)
+      | false ↦ λ f. contains_later x y xs (found_in p xs x f)
+    ] e
+  where
+    some_same : {X : Type 0} (a b : X) → Some a ≡ Some b → a ≡ b
+    some_same a b e = cc
+
+placed_in : (xs : List Version) (k : ℕ) (x : Version) → slice_get xs k ≡ Some x → Contains xs x
+placed_in [] k x e = absurd cc
+placed_in (y ∷ xs) zero x e = subst (λ z. Contains (y ∷ xs) z) (some_same y x e) (contains_first y xs)
+  where
+    some_same : (a b : Version) → Some a ≡ Some b → a ≡ b
+    some_same a b e = cc
+placed_in (y ∷ xs) (suc k) x e = contains_later x y xs (placed_in xs k x e)
+
+-- a version, where there is one
+found_of : (st : State) (asked : Asked) (o : Option Version) (v : Version) → version_or st asked o ≡ Ok v → o ≡ Some v
+found_of st asked o v e = elim (not st.has_reference) as (λ b. refuse_if b refusals.NoSuchSymbol (or_refuse o (refusals.NoSuchVersion asked)) ≡ Ok v → o ≡ Some v) [
+  | true ↦ λ f. absurd cc
+  | false ↦ λ f. found o f
+] e
+  where
+    found : (p : Option Version) → or_refuse p (refusals.NoSuchVersion asked) ≡ Ok v → p ≡ Some v
+    found None f = absurd cc
+    found (Some x) f = cc
+
+live_is_not_buried : (st : State) (v : Version) → Contains (live_versions st) v → is_buried st v.number ≡ false
+live_is_not_buried st v there = not-true (is_buried st v.number) (filter_in (λ (x : Version). not (is_buried st x.number)) st.versions v there).1
+
+read_is_live : (l : Library) (symbol : Name) (as_of : AsOf) (v : Version) → reads_snapshot_as as_of ≡ false → read_version l symbol as_of ≡ Ok v → is_buried (l.state symbol) v.number ≡ false
+read_is_live l symbol (moments.Back zero) v snap e = absurd (none_is_not_some v (found_of (l.state symbol) (asks.Back 0) None v e))
+  where
+    none_is_not_some : (v : Version) → None ≡ Some v → ⊥
+    none_is_not_some v f = cc
+read_is_live l symbol (moments.Back (suc k)) v snap e = live_is_not_buried (l.state symbol) v (placed_in (live_versions (l.state symbol)) k v (found_of (l.state symbol) (asks.Back (suc k)) (slice_get (live_versions (l.state symbol)) k) v e))
+read_is_live l symbol (moments.Number n) v snap e =
+    live_is_not_buried (l.state symbol) v (found_in (λ x. nat_eq x.number n) (live_versions (l.state symbol)) v (found_of (l.state symbol) (asks.Number n) (find (λ x. nat_eq x.number n) (live_versions (l.state symbol))) v e))
+read_is_live l symbol (moments.Moment t) v snap e =
+    live_is_not_buried (l.state symbol) v (found_in (λ x. int_le x.stamp t) (live_versions (l.state symbol)) v (found_of (l.state symbol) (asks.Moment t) (find (λ x. int_le x.stamp t) (live_versions (l.state symbol))) v e))
+read_is_live l symbol (moments.Snapshot name) v snap e = absurd (true≢false snap)
+
+-- ---- a plain command that is alone
+
+-- a reply of a plain command that is not cut, legal in a history that ends with its window, of which no other names the symbol
+record Alone (h : History) (client : Client) (c : Command) (reply : Reply) (w : Window) (symbol : Name) : Type 0 where
+  plain : is_plain c ≡ true
+  named : symbol_of c ≡ Some symbol
+  snap : reads_snapshot c ≡ false
+  cut : is_cut reply.outcome ≡ false
+  ends : w.stop ≡ length h
+  legal : IsLegalSeen h client c reply w
+  alone : IsAlone h client.session.client symbol w
+
+own_events_are : (h : History) (s : Session) (c : Command) (reply : Reply) (w : Window) → HasOwnEvents h s c reply w → is_cut reply.outcome ≡ false → IsOwn h s w c reply (is_done reply) (own_events h s.client w)
+own_events_are h s c reply w o cut =
+    subst (λ b. MatchBool b (IsBeginning (IsOwn h s w c reply true) (own_events h s.client w) ⊎ IsBeginning (IsOwn h s w c reply false) (own_events h s.client w))
+        (IsOwn h s w c reply (is_done reply) (own_events h s.client w))) cut o.events
+
+quiet_of : (h : History) (client : Client) (c : Command) (reply : Reply) (w : Window) (symbol : Name) → Alone h client c reply w symbol → Quiet h client.session.client symbol w
+quiet_of h client c reply w symbol a = record {
+  ends = a.ends;
+  alone = a.alone;
+  own = own_stages_nothing h client.session w c reply (is_done reply) (own_events h client.session.client w) a.plain (own_events_are h client.session c reply w a.legal.own a.cut);
+}
+
+-- the commits are the places of all own Refers
+commits_are : (h : History) (client : Client) (c : Command) (reply : Reply) (w : Window) (symbol : Name) → Alone h client c reply w symbol → reply.commits ≡ refer_places client.session.client w.start h
+commits_are h client c reply w symbol a =
+    subst (λ b. AreCommits b reply.commits (refer_places client.session.client w.start (history_at h w.stop))) (uncut_is_no_fault reply.outcome a.cut) a.legal.own.commits
+    ∙ ap (refer_places client.session.client w.start) (ap (history_at h) a.ends ∙ history_at_end h)
+
+own_refer : (symbol : Name) (e : Event) (client : ℕ) → refers symbol e ≡ true → author e ≡ client → is_refer_of client e ≡ true
+own_refer symbol (events.Refer c s was entry list) client r own = eq-eqb c client own
+own_refer symbol (events.Put c key body) client r own = absurd (true≢false (sym r))
+own_refer symbol (events.Name c snap body) client r own = absurd (true≢false (sym r))
+own_refer symbol (events.Unname c snap) client r own = absurd (true≢false (sym r))
+own_refer symbol (events.Drop c key) client r own = absurd (true≢false (sym r))
+
+-- up to a place without commits the state is that of the window's beginning
+state_before : (h : History) (client : Client) (c : Command) (reply : Reply) (w : Window) (symbol : Name) (q : ℕ) → Alone h client c reply w symbol → w.start ≤ q → q ≤ length h
+    → ((n : ℕ) → Contains reply.commits n → n ≤ q → ⊥) → state_of (history_at h q) symbol ≡ state_of (history_at h w.start) symbol
+state_before h client c reply w symbol q a first last none =
+    state_kept h client.session.client symbol w q (quiet_of h client c reply w symbol a) first last (λ n e after before at own.
+    elim (refers symbol e) as (λ b. refers symbol e ≡ b → b ≡ false) [
+      | true ↦ λ r. absurd (none n (subst (λ ns. Contains ns n) (sym (commits_are h client c reply w symbol a))
+          (refer_listed client.session.client w.start h n e (own_refer symbol e client.session.client r own) after (omega (arith, before, last)) at)) before)
+      | false ↦ λ r. refl
+    ] refl)
+
+-- the list was made in the window
+list_within : (listed : Option ℕ) (start place : ℕ) → IsListedWithin listed start place → start ≤ place → (start ≤ unwrap_or listed place) × (unwrap_or listed place ≤ place)
+list_within None start place l first = (first, omega arith)
+list_within (Some n) start place l first = l
+
+-- so there the answer is that of the window's beginning
+answer_before : (h : History) (client : Client) (c : Command) (reply : Reply) (w : Window) (symbol : Name) (q : ℕ) → Alone h client c reply w symbol → w.start ≤ q → q ≤ reply.place
+    → ((n : ℕ) → Contains reply.commits n → n ≤ q → ⊥)
+    → answer client.session (library_at h (listed_at reply)) (library_at h q) q c ≡ answer client.session (library_at h w.start) (library_at h w.start) w.start c
+answer_before h client c reply w symbol q a first last none =
+    let list = list_within reply.listed w.start reply.place a.legal.listed_within a.legal.after in
+    let end : reply.place ≤ length h = omega (arith, a.legal.before, a.ends) in
+    answer_same client.session (library_at h (listed_at reply)) (library_at h w.start) (library_at h q) (library_at h w.start) q w.start c symbol a.plain a.named a.snap
+    (staged_kept h client.session.client symbol w (listed_at reply) (quiet_of h client c reply w symbol a) list.0 (omega (arith, list.1, end)))
+    (state_before h client c reply w symbol q a first (omega (arith, last, end)) none)
+
+some_answer : (x y : Answer) → Some x ≡ Some y → x ≡ y
+some_answer x y e = cc
+
+-- an answer is that of the window's beginning
+answer_is : (h : History) (client : Client) (c : Command) (reply : Reply) (w : Window) (symbol : Name) (b : Answer) → Alone h client c reply w symbol → IsAnswer h client c reply
+    → answer client.session (library_at h w.start) (library_at h w.start) w.start c ≡ Some b → reply.outcome ≡ b.outcome
+answer_is h client c reply w symbol b a is answered = elim is [
+  | inl told ↦
+      let same = answer_before h client c reply w symbol reply.place a a.legal.after (omega arith) (λ n there before. contains_none n (subst (λ ns. Contains ns n) told.1 there)) in
+      ap (λ (x : Answer). x.outcome) (some_answer (record { outcome = reply.outcome; marks = [] }) b (sym told.0 ∙ (same ∙ answered)))
+  | inr made ↦
+      let within : w.start < reply.place = listed_after client.session.client w.start h reply.place
+          (subst (λ ns. Contains ns reply.place) (sym made.6 ∙ commits_are h client c reply w symbol a) (contains_first reply.place [])) in
+      let same = answer_before h client c reply w symbol (reply.place - 1) a (omega (arith, within)) (omega arith) (λ n there before.
+          elim (contains_cases n reply.place [] (subst (λ ns. Contains ns n) made.6 there)) [
+            | inl here ↦ omega (arith, here, before, within)
+            | inr none ↦ contains_none n none
+          ]) in
+      ap (λ (x : Answer). x.outcome) (some_answer (record { outcome = reply.outcome; marks = made.0 ∷ made.1 }) b (sym made.3 ∙ (same ∙ answered)))
+]
+
+-- ---- nothing is met, and nothing goes
+
+-- the symbol that a plain command may meet on is its own
+meets_own : (h : History) (c : Command) (reply : Reply) (symbol : Name) → is_plain c ≡ true → MeetsOn h c reply symbol → symbol_of c ≡ Some symbol
+meets_own h (commands.Snapshot snap picks) reply symbol plain m = absurd (true≢false (sym plain))
+meets_own h c reply symbol plain m = m.1
+
+refers_names : (symbol : Name) (e : Event) → refers symbol e ≡ true → names_symbol symbol e ≡ true
+refers_names symbol (events.Refer c s was entry list) r = r
+refers_names symbol (events.Put c key body) r = absurd (true≢false (sym r))
+refers_names symbol (events.Name c snap body) r = absurd (true≢false (sym r))
+refers_names symbol (events.Unname c snap) r = absurd (true≢false (sym r))
+refers_names symbol (events.Drop c key) r = absurd (true≢false (sym r))
+
+not_same : (a b : ℕ) → a ≢ b → nat_eq a b ≡ false
+not_same a b other = elim (nat_eq a b) as (λ t. nat_eq a b ≡ t → t ≡ false) [ true ↦ λ e. absurd (other (eqb-true a b e)) | false ↦ λ e. refl ] refl
+
+not_met : (h : History) (client : Client) (c : Command) (reply : Reply) (w : Window) (symbol : Name) → Alone h client c reply w symbol → Met h client c reply w → ⊥
+not_met h client c reply w symbol a m =
+    let is : m.0 ≡ symbol = some_name m.0 symbol (sym (meets_own h c reply m.0 a.plain m.2) ∙ a.named) in
+    let unnamed = others_unnamed h client.session.client symbol w a.ends a.alone reply.place m.3.event m.3.inside (omega (arith, a.legal.before, a.ends)) m.3.at (not_same _ _ m.3.others) in
+    true≢false (sym (refers_names symbol m.3.event (subst (λ n. refers n m.3.event ≡ true) is m.3.refers)) ∙ unnamed)
+
+not_through_snapshot : (symbol : Name) (as_of : AsOf) (range : Range) (columns : Option (List Text)) → reads_snapshot (commands.Read symbol as_of range columns) ≡ false → reads_snapshot_as as_of ≡ false
+not_through_snapshot symbol (moments.Snapshot name) range columns e = e
+not_through_snapshot symbol (moments.Back k) range columns e = refl
+not_through_snapshot symbol (moments.Number n) range columns e = refl
+not_through_snapshot symbol (moments.Moment t) range columns e = refl
+
+not_gone : (h : History) (client : Client) (c : Command) (reply : Reply) (w : Window) (symbol : Name) → Alone h client c reply w symbol → Gone h c reply w → ⊥
+not_gone h client (commands.Read read as_of range columns) reply w symbol a g =
+    let is : read ≡ symbol = some_name read symbol a.named in
+    let own : own_events h client.session.client w ≡ [] = own_events_are h client.session (commands.Read read as_of range columns) reply w a.legal.own a.cut in
+    let no_own : (n : ℕ) (e : Event) → w.start < n → n ≤ length h → event_at h n ≡ Some e → author e ≡ client.session.client → ⊥ =
+        λ n e after before at mine. true≢false (none_own_at (λ x. true) h client.session.client w n e a.ends (ap (list_any (λ x. true)) own) mine after before at) in
+    let quiet = quiet_of h client (commands.Read read as_of range columns) reply w symbol a in
+    let end : reply.place ≤ length h = omega (arith, a.legal.before, a.ends) in
+    let kept : (q : ℕ) → w.start ≤ q → q ≤ reply.place → state_of (history_at h q) symbol ≡ state_of (history_at h w.start) symbol =
+        λ q first last. state_kept h client.session.client symbol w q quiet first (omega (arith, last, end)) (λ n e after before at mine. absurd (no_own n e after (omega (arith, before, last, end)) at mine)) in
+    let live : is_buried (state_of (history_at h g.1.read_at) read) g.1.version.number ≡ false =
+        read_is_live (library_at h g.1.read_at) read as_of g.1.version (not_through_snapshot read as_of range columns a.snap) g.1.read in
+    let here : is_buried (state_of (history_at h reply.place) read) g.1.version.number ≡ false =
+        subst (λ n. is_buried (state_of (history_at h reply.place) n) g.1.version.number ≡ false) (sym is)
+        (subst (λ st. is_buried st g.1.version.number ≡ false) (kept g.1.read_at g.1.from g.1.to ∙ sym (kept reply.place a.legal.after (omega arith)))
+        (subst (λ n. is_buried (state_of (history_at h g.1.read_at) n) g.1.version.number ≡ false) is live)) in
+    true≢false (sym g.1.buried ∙ subst (λ n. is_buried (state_of (history_at h reply.place) read) n ≡ false) g.1.number_is here)
+not_gone h client c reply w symbol a g = g
+
+-- ---- staging
+
+stage_answer : (s : Session) (l m : Library) (p q : ℕ) (symbol : Name) (frame : ℕ) → answer s l l p (commands.Stage symbol frame) ≡ answer s m m q (commands.Stage symbol frame)
+stage_answer s l m p q symbol frame = refl
+
+staged_is_answered : (s : Session) (symbol : Name) (frame : ℕ) (es : List Event) (l : Library) (p : ℕ) → IsStaging s symbol frame es → answer s l l p (commands.Stage symbol frame) ≡ Some (record { outcome = outcomes.Staged; marks = [] })
+staged_is_answered s symbol frame es l p st = ap (λ (o : Option (Result Frame Refusal)). option_map (λ f. answered (f then λ x. Ok (record { outcome = outcomes.Staged; marks = [] }))) o) st.frame_is
+
+stage_is : (h : History) (client : Client) (symbol : Name) (frame : ℕ) (reply : Reply) (w : Window) (b : Answer) (o : Outcome) → reply.outcome ≡ o → is_cut o ≡ false → IsLegalOutcome h client (commands.Stage symbol frame) reply w o
+    → answer client.session (library_at h w.start) (library_at h w.start) w.start (commands.Stage symbol frame) ≡ Some b → reply.outcome ≡ b.outcome
+stage_is h client symbol frame reply w b outcomes.Staged e cut l answered =
+    e ∙ ap (λ (x : Answer). x.outcome) (some_answer (record { outcome = outcomes.Staged; marks = [] }) b (sym (staged_is_answered client.session symbol frame (l.event ∷ []) (library_at h w.start) w.start l.staging) ∙ answered))
+stage_is h client symbol frame reply w b (outcomes.Refused refusals.NoMemory) e cut l answered = absurd (true≢false cut)
+stage_is h client symbol frame reply w b (outcomes.Refused refusals.StoreFault) e cut l answered = absurd (true≢false cut)
+stage_is h client symbol frame reply w b (outcomes.Refused (refusals.Spent count)) e cut l answered = absurd (true≢false cut)
+stage_is h client symbol frame reply w b (outcomes.Refused (refusals.Moved now)) e cut l answered = absurd (true≢false (sym l.1.0))
+stage_is h client symbol frame reply w b (outcomes.Refused (refusals.VersionGone number)) e cut l answered = absurd l
+stage_is h client symbol frame reply w b (outcomes.Refused why) e cut l answered = elim l [
+  | inl told ↦ ap (λ (x : Answer). x.outcome) (some_answer (record { outcome = reply.outcome; marks = [] }) b (sym told.0 ∙ answered))
+  | inr made ↦ ap (λ (x : Answer). x.outcome) (some_answer (record { outcome = reply.outcome; marks = made.0 ∷ made.1 }) b (sym made.3 ∙ answered))
+]
+stage_is h client symbol frame reply w b o e cut l answered = absurd l
+
+-- ---- all commands
+
+plain_is : (h : History) (client : Client) (c : Command) (reply : Reply) (w : Window) (symbol : Name) (b : Answer) → Alone h client c reply w symbol
+    → answer client.session (library_at h w.start) (library_at h w.start) w.start c ≡ Some b → reply.outcome ≡ b.outcome
+plain_is h client c reply w symbol b a answered = elim (plain_outcome h client c reply w reply.outcome a.plain a.cut a.legal.outcome) [
+  | inl met ↦ absurd (not_met h client c reply w symbol a met)
+  | inr (inl gone) ↦ absurd (not_gone h client c reply w symbol a gone)
+  | inr (inr is) ↦ answer_is h client c reply w symbol b a is answered
+]
+
+no_answer : (b : Answer) → None ≡ Some b → ⊥
+no_answer b e = cc
+
+no_symbol : (symbol : Name) → None ≡ Some symbol → ⊥
+no_symbol symbol e = cc
+
+isolated : (h : History) (client : Client) (c : Command) (reply : Reply) (w : Window) → w.stop ≡ length h → IsLegalSeen h client c reply w → IsIsolated h client c reply w
+isolated h client (commands.Stage a frame) reply w ends legal symbol b named snap cut alone answered = stage_is h client a frame reply w b reply.outcome refl cut legal.outcome answered
+isolated h client (commands.Reclaim a) reply w ends legal symbol b named snap cut alone answered = absurd (no_answer b answered)
+isolated h client (commands.Keys a) reply w ends legal symbol b named snap cut alone answered = absurd (no_answer b answered)
+isolated h client (commands.Snapshot name picks) reply w ends legal symbol b named snap cut alone answered = absurd (no_symbol symbol named)
+isolated h client (commands.DeleteSnapshot name) reply w ends legal symbol b named snap cut alone answered = absurd (no_symbol symbol named)
+isolated h client commands.Symbols reply w ends legal symbol b named snap cut alone answered = absurd (no_symbol symbol named)
+isolated h client commands.Snapshots reply w ends legal symbol b named snap cut alone answered = absurd (no_symbol symbol named)
+isolated h client c reply w ends legal symbol b named snap cut alone answered =
+    plain_is h client c reply w symbol b (record { plain = refl; named = named; snap = snap; cut = cut; ends = ends; legal = legal; alone = alone }) answered
+
+-- so each legal reply is isolated
+pub legal_is_isolated : LegalIsIsolated
+legal_is_isolated h client c reply w legal = isolated (history_at h w.stop) client c reply w (sym (length_at h w.stop legal.0)) legal.1
+  where
+    length_at : (h : History) (n : ℕ) → n ≤ length h → length (history_at h n) ≡ n
+    length_at h n le = let rest : length h - (length h - n) ≡ n = omega (arith, le) in length-drop (length h - n) h ∙ rest

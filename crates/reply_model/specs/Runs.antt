@@ -3,18 +3,20 @@
 --     AllCovered, AllApart      each event lies in one window of its own client
 --     IsLegalRun           the first commands, the clients and the last commands
 --     IsIsolated           what a command answers that is alone on its symbol
---     RefusedHarmsNothing      what a refused command leaves as it was
+--     RefusedHarmsNothing, RefusedReleases      what a refused command leaves as it was
 use Rattle.std.specs.Prelude.{◌≡◌, ◌⊎◌, ⊤, ℕ, ◌<◌, ◌≤◌, Bool, true, false, ◌&&◌, not, List, [], ◌∷◌, length, max, Some, nat_eq, nat_lt, nat_le, Any}
 use Rattle.std.specs.List.{list_any, AllByRecursion}
 use Rattle.key_kind.specs.Names.{Name, same_name}
 use Rattle.key_kind.specs.declared.key.KeyKind.TheVariants as kinds
-use Rattle.key_kind.specs.Keys.{same_kind}
+use Rattle.key_kind.specs.declared.key.Holder.{Holder}
+use Rattle.key_kind.specs.Keys.{same_kind, same_holder}
 use Rattle.bucket_core.specs.declared.event.Change.{Change}
 use Rattle.bucket_core.specs.declared.event.Change.TheVariants as changes
 use Rattle.bucket_core.specs.declared.event.Event.{Event}
 use Rattle.bucket_core.specs.declared.event.Event.TheVariants as events
-use Rattle.bucket_core.specs.History.{History, author, event_at, events_within}
+use Rattle.bucket_core.specs.History.{History, author, event_at, history_at, events_within}
 use Rattle.reply_model.specs.declared.command.AsOf.TheVariants as moments
+use Rattle.reply_model.specs.declared.command.Pick.{Pick}
 use Rattle.reply_model.specs.declared.command.Command.{Command}
 use Rattle.reply_model.specs.declared.command.Command.TheVariants as commands
 use Rattle.reply_model.specs.declared.reply.Reply.{Reply}
@@ -22,7 +24,8 @@ use Rattle.reply_model.specs.Answering.{Session, Answer}
 use Rattle.reply_model.specs.Answers.{answer}
 use Rattle.reply_model.specs.Windows.{Window, Client, library_at, own_events, symbol_of, is_refused, is_cut, is_store_fault}
 use Rattle.reply_model.specs.OwnEvents.{HasOwnEvents}
-use Rattle.reply_model.specs.Legal.{LegalFrom}
+use Rattle.reply_model.specs.Left.{releases, HasLeft}
+use Rattle.reply_model.specs.Legal.{LegalFrom, IsLegalReply}
 
 -- the place lies in one of the windows
 abbrev pub is_covered : List Window → ℕ → Bool
@@ -104,6 +107,10 @@ abbrev pub IsIsolated : History → Client → Command → Reply → Window → 
 IsIsolated h client c reply w = (symbol : Name) (a : Answer) → symbol_of c ≡ Some symbol → reads_snapshot c ≡ false → is_cut reply.outcome ≡ false → IsAlone h client.session.client symbol w
     → answer client.session (library_at h w.start) (library_at h w.start) w.start c ≡ Some a → reply.outcome ≡ a.outcome
 
+-- each legal reply is isolated, in the history at its window's end
+abbrev pub LegalIsIsolated : Type 0
+LegalIsIsolated = (h : History) (client : Client) (c : Command) (reply : Reply) (w : Window) → IsLegalReply h client c reply w → IsIsolated (history_at h w.stop) client c reply w
+
 -- ---- what a refused command leaves
 
 -- one Hold or one Release
@@ -122,3 +129,14 @@ harms e = false
 abbrev pub RefusedHarmsNothing : Type 0
 RefusedHarmsNothing = (h : History) (s : Session) (c : Command) (reply : Reply) (w : Window) → HasOwnEvents h s c reply w
     → is_refused reply.outcome ≡ true → is_store_fault reply.outcome ≡ false → list_any harms (own_events h s.client w) ≡ false
+
+-- a Hold of this holder for this symbol
+abbrev pub holds : Name → Holder → Event → Bool
+holds symbol holder (events.Refer client s was entry (changes.Held other version ∷ [])) = same_name s symbol && same_holder other holder
+holds symbol holder _ = false
+
+-- each hold that a refused snapshot made it released again, or names as left, StoreFault aside
+abbrev pub RefusedReleases : Type 0
+RefusedReleases = (h : History) (s : Session) (snap : Name) (picks : List Pick) (reply : Reply) (w : Window) → HasLeft h s (commands.Snapshot snap picks) reply w
+    → is_refused reply.outcome ≡ true → is_store_fault reply.outcome ≡ false → (symbol : Name) (holder : Holder) → list_any (holds symbol holder) (own_events h s.client w) ≡ true
+    → (list_any (releases symbol holder) (own_events h s.client w) ≡ true) ⊎ (list_any (same_name symbol) reply.left ≡ true)

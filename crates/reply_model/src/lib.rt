@@ -10,7 +10,7 @@ pub use base_types::{Items, Keep, NoMemory};
 pub use command::{AsOf, Command, Pick};
 pub use outcome::{HeldAt, Outcome, SymbolRow, VersionRow};
 pub use reply::Reply;
-pub use theorem::{legal_replies_stay_legal, refused_commands_change_nothing};
+pub use theorem::{commands_are_isolated, legal_replies_stay_legal, refused_commands_change_nothing};
 
 use frame_core::{ColName, RawFrame};
 use key_kind::SnapName;
