@@ -202,7 +202,7 @@ record Alone (h : History) (client : Client) (c : Command) (reply : Reply) (w : 
 own_events_are : (h : History) (s : Session) (c : Command) (reply : Reply) (w : Window) → HasOwnEvents h s c reply w → is_cut reply.outcome ≡ false → IsOwn h s w c reply (is_done reply) (own_events h s.client w)
 own_events_are h s c reply w o cut =
     subst (λ b. MatchBool b (IsBeginning (IsOwn h s w c reply true) (own_events h s.client w) ⊎ IsBeginning (IsOwn h s w c reply false) (own_events h s.client w))
-        (IsOwn h s w c reply (is_done reply) (own_events h s.client w))) cut o.events
+    (IsOwn h s w c reply (is_done reply) (own_events h s.client w))) cut o.events
 
 quiet_of : (h : History) (client : Client) (c : Command) (reply : Reply) (w : Window) (symbol : Name) → Alone h client c reply w symbol → Quiet h client.session.client symbol w
 quiet_of h client c reply w symbol a = record {
@@ -263,12 +263,12 @@ answer_is h client c reply w symbol b a is answered = elim is [
       ap (λ (x : Answer). x.outcome) (some_answer (record { outcome = reply.outcome; marks = [] }) b (sym told.0 ∙ (same ∙ answered)))
   | inr made ↦
       let within : w.start < reply.place = listed_after client.session.client w.start h reply.place
-          (subst (λ ns. Contains ns reply.place) (sym made.6 ∙ commits_are h client c reply w symbol a) (contains_first reply.place [])) in
+      (subst (λ ns. Contains ns reply.place) (sym made.6 ∙ commits_are h client c reply w symbol a) (contains_first reply.place [])) in
       let same = answer_before h client c reply w symbol (reply.place - 1) a (omega (arith, within)) (omega arith) (λ n there before.
-          elim (contains_cases n reply.place [] (subst (λ ns. Contains ns n) made.6 there)) [
-            | inl here ↦ omega (arith, here, before, within)
-            | inr none ↦ contains_none n none
-          ]) in
+      elim (contains_cases n reply.place [] (subst (λ ns. Contains ns n) made.6 there)) [
+        | inl here ↦ omega (arith, here, before, within)
+        | inr none ↦ contains_none n none
+      ]) in
       ap (λ (x : Answer). x.outcome) (some_answer (record { outcome = reply.outcome; marks = made.0 ∷ made.1 }) b (sym made.3 ∙ (same ∙ answered)))
 ]
 
@@ -306,17 +306,17 @@ not_gone h client (commands.Read read as_of range columns) reply w symbol a g =
     let is : read ≡ symbol = some_name read symbol a.named in
     let own : own_events h client.session.client w ≡ [] = own_events_are h client.session (commands.Read read as_of range columns) reply w a.legal.own a.cut in
     let no_own : (n : ℕ) (e : Event) → w.start < n → n ≤ length h → event_at h n ≡ Some e → author e ≡ client.session.client → ⊥ =
-        λ n e after before at mine. true≢false (none_own_at (λ x. true) h client.session.client w n e a.ends (ap (list_any (λ x. true)) own) mine after before at) in
+    λ n e after before at mine. true≢false (none_own_at (λ x. true) h client.session.client w n e a.ends (ap (list_any (λ x. true)) own) mine after before at) in
     let quiet = quiet_of h client (commands.Read read as_of range columns) reply w symbol a in
     let end : reply.place ≤ length h = omega (arith, a.legal.before, a.ends) in
     let kept : (q : ℕ) → w.start ≤ q → q ≤ reply.place → state_of (history_at h q) symbol ≡ state_of (history_at h w.start) symbol =
-        λ q first last. state_kept h client.session.client symbol w q quiet first (omega (arith, last, end)) (λ n e after before at mine. absurd (no_own n e after (omega (arith, before, last, end)) at mine)) in
+    λ q first last. state_kept h client.session.client symbol w q quiet first (omega (arith, last, end)) (λ n e after before at mine. absurd (no_own n e after (omega (arith, before, last, end)) at mine)) in
     let live : is_buried (state_of (history_at h g.1.read_at) read) g.1.version.number ≡ false =
-        read_is_live (library_at h g.1.read_at) read as_of g.1.version (not_through_snapshot read as_of range columns a.snap) g.1.read in
+    read_is_live (library_at h g.1.read_at) read as_of g.1.version (not_through_snapshot read as_of range columns a.snap) g.1.read in
     let here : is_buried (state_of (history_at h reply.place) read) g.1.version.number ≡ false =
-        subst (λ n. is_buried (state_of (history_at h reply.place) n) g.1.version.number ≡ false) (sym is)
-        (subst (λ st. is_buried st g.1.version.number ≡ false) (kept g.1.read_at g.1.from g.1.to ∙ sym (kept reply.place a.legal.after (omega arith)))
-        (subst (λ n. is_buried (state_of (history_at h g.1.read_at) n) g.1.version.number ≡ false) is live)) in
+    subst (λ n. is_buried (state_of (history_at h reply.place) n) g.1.version.number ≡ false) (sym is)
+    (subst (λ st. is_buried st g.1.version.number ≡ false) (kept g.1.read_at g.1.from g.1.to ∙ sym (kept reply.place a.legal.after (omega arith)))
+    (subst (λ n. is_buried (state_of (history_at h g.1.read_at) n) g.1.version.number ≡ false) is live)) in
     true≢false (sym g.1.buried ∙ subst (λ n. is_buried (state_of (history_at h reply.place) read) n ≡ false) g.1.number_is here)
 not_gone h client c reply w symbol a g = g
 

@@ -114,7 +114,7 @@ pub listed_after : (client start : ℕ) (h : History) (n : ℕ) → Contains (re
 listed_after client start [] n there = absurd (contains_none n there)
 listed_after client start (events.Refer c s was entry list ∷ h) n there =
     elim (nat_eq c client && nat_le start (length h)) as (λ b. (nat_eq c client && nat_le start (length h)) ≡ b
-        → Contains (cond b (refer_places client start h ++ suc (length h) ∷ []) (refer_places client start h)) n → start < n) [
+    → Contains (cond b (refer_places client start h ++ suc (length h) ∷ []) (refer_places client start h)) n → start < n) [
       | true ↦ λ e c. elim (contains_append (refer_places client start h) (suc (length h) ∷ []) n c) [
         | inl before ↦ listed_after client start h n before
         | inr last ↦ elim (contains_cases n (suc (length h)) [] last) [
@@ -136,7 +136,7 @@ none_of_reversed : (p : Event → Bool) (xs : List Event) → list_any p (revers
 none_of_reversed p [] none = refl
 none_of_reversed p (x ∷ xs) none =
     let parts = or_parts (list_any p (reverse xs)) (list_any p (x ∷ []))
-        (sym (list_any-append p (reverse xs) (x ∷ [])) ∙ (sym (ap (list_any p) (reverse-append (x ∷ []) xs)) ∙ none)) in
+    (sym (list_any-append p (reverse xs) (x ∷ [])) ∙ (sym (ap (list_any p) (reverse-append (x ∷ []) xs)) ∙ none)) in
     or_from (p x) (list_any p xs) (or_parts (p x) false parts.1).0 (none_of_reversed p xs parts.0)
 
 -- what no own event passes no event of the client passes
@@ -153,8 +153,8 @@ pub none_own_at : (p : Event → Bool) (h : History) (client : ℕ) (w : Window)
     → author e ≡ client → w.start < n → n ≤ length h → event_at h n ≡ Some e → p e ≡ false
 none_own_at p h client w n e ends none own after before at =
     let all : list_any p (reverse (filter (λ x. nat_eq (author x) client) (behind w.start h))) ≡ false =
-        subst (λ g. list_any p (reverse (filter (λ x. nat_eq (author x) client) g)) ≡ false) (ap (events_within h w.start) ends ∙ within_is_behind h w.start) none in
+    subst (λ g. list_any p (reverse (filter (λ x. nat_eq (author x) client) g)) ≡ false) (ap (events_within h w.start) ends ∙ within_is_behind h w.start) none in
     let kept : list_any (λ x. nat_eq (author x) client && p x) (behind w.start h) ≡ false =
-        none_of_filtered (λ x. nat_eq (author x) client) p (behind w.start h) (none_of_reversed p (filter (λ x. nat_eq (author x) client) (behind w.start h)) all) in
+    none_of_filtered (λ x. nat_eq (author x) client) p (behind w.start h) (none_of_reversed p (filter (λ x. nat_eq (author x) client) (behind w.start h)) all) in
     let both : (nat_eq (author e) client && p e) ≡ false = none_at (λ x. nat_eq (author x) client && p x) h w.start n e kept after before at in
     subst (λ b. (b && p e) ≡ false) (eq-eqb (author e) client own) both

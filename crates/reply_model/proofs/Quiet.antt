@@ -118,7 +118,7 @@ pub others_unnamed : (h : History) (client : ℕ) (symbol : Name) (w : Window) �
     → nat_eq (author e) client ≡ false → names_symbol symbol e ≡ false
 others_unnamed h client symbol w ends alone n e after before at other =
     let none : list_any (λ x. names_symbol symbol x && not (nat_eq (author x) client)) (behind w.start h) ≡ false =
-        subst (λ xs. list_any (λ x. names_symbol symbol x && not (nat_eq (author x) client)) xs ≡ false) (ap (events_within h w.start) ends ∙ within_is_behind h w.start) alone in
+    subst (λ xs. list_any (λ x. names_symbol symbol x && not (nat_eq (author x) client)) xs ≡ false) (ap (events_within h w.start) ends ∙ within_is_behind h w.start) alone in
     let both = none_at (λ x. names_symbol symbol x && not (nat_eq (author x) client)) h w.start n e none after before at in
     elim (names_symbol symbol e) as (λ b. (b && not (nat_eq (author e) client)) ≡ false → b ≡ false) [
       | true ↦ λ f. absurd (true≢false (sym (ap not other) ∙ f))

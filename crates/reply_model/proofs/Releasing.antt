@@ -45,7 +45,7 @@ pub refused_releases : RefusedReleases
 refused_releases h s snap picks reply w left refused known symbol holder is =
     let own = own_events h s.client w in
     let names : reply.left ≡ held_in own own =
-        subst (λ b. reply.left ≡ cond b (held_in own own) []) refused
-        (subst (λ b. reply.left ≡ cond (is_refused reply.outcome)
-            (held_in (own_events h s.client (record w { stop = cond b reply.place w.stop })) (own_events h s.client (record w { stop = cond b reply.place w.stop }))) []) known left.left) in
+    subst (λ b. reply.left ≡ cond b (held_in own own) []) refused
+    (subst (λ b. reply.left ≡ cond (is_refused reply.outcome)
+    (held_in (own_events h s.client (record w { stop = cond b reply.place w.stop })) (own_events h s.client (record w { stop = cond b reply.place w.stop }))) []) known left.left) in
     elim (held_or_released own own symbol holder is) [ inl freed ↦ inl freed | inr kept ↦ inr (ap (list_any (same_name symbol)) names ∙ kept) ]

@@ -116,24 +116,33 @@ a_block_that_is_cut_is_put_again = refl
 -- ---- prune, delete, reclaim
 
 a_reclaim_drops_what_no_version_needs : runs 2 127 (write 4 ∷ commands.Update S 5 None false None false ∷ commands.Prune S ∷ commands.Reclaim S ∷ commands.Keys S ∷ read ∷ [])
-    ≡ Some (committed 6 0 ∷ committed 11 1 ∷ made 13 (outcomes.Pruned 1) ∷ told 13 (outcomes.Freed 1 1 0) ∷ told 15 (outcomes.Keys 4 1 3 1 0)
-    ∷ whole 15 1 ((10, 1) ∷ (20, 2) ∷ (25, 7) ∷ (35, 8) ∷ (40, 4) ∷ (50, 5) ∷ (60, 6) ∷ []) ∷ [], 15)
+    ≡ Some (
+      committed 6 0 ∷ committed 11 1 ∷ made 13 (outcomes.Pruned 1) ∷ told 13 (outcomes.Freed 1 1 0) ∷ told 15 (outcomes.Keys 4 1 3 1 0)
+          ∷ whole 15 1 ((10, 1) ∷ (20, 2) ∷ (25, 7) ∷ (35, 8) ∷ (40, 4) ∷ (50, 5) ∷ (60, 6) ∷ []) ∷ [],
+      15,
+    )
 a_reclaim_drops_what_no_version_needs = refl
 
 a_symbol_lives_on_without_a_live_version : runs_whole (commands.Write S 0 (Some (pos 50)) false ∷ commands.Write S 0 (Some (pos 60)) true ∷ commands.Versions S ∷ commands.Symbols ∷ commands.Snapshots
     ∷ commands.Delete S None ∷ commands.Symbols ∷ read ∷ commands.Prune S ∷ [])
-    ≡ Some (committed 4 0 ∷ committed 8 1
-    ∷ told 8 (outcomes.Versions (record { version = 0; stamp = pos 50; live = false; holds = 0 } ∷ record { version = 1; stamp = pos 60; live = true; holds = 0 } ∷ []))
-    ∷ told 8 (outcomes.Symbols (record { symbol = S; newest = Some 1; place = 8 } ∷ [])) ∷ told 8 (outcomes.Snapshots [])
-    ∷ made 10 (outcomes.Deleted 1) ∷ told 10 (outcomes.Symbols (record { symbol = S; newest = None; place = 10 } ∷ []))
-    ∷ refused 10 (refusals.NoSuchVersion (asks.Back 1)) ∷ told 10 (outcomes.Pruned 0) ∷ [], 10)
+    ≡ Some (
+      committed 4 0 ∷ committed 8 1
+          ∷ told 8 (outcomes.Versions (record { version = 0; stamp = pos 50; live = false; holds = 0 } ∷ record { version = 1; stamp = pos 60; live = true; holds = 0 } ∷ []))
+          ∷ told 8 (outcomes.Symbols (record { symbol = S; newest = Some 1; place = 8 } ∷ [])) ∷ told 8 (outcomes.Snapshots [])
+          ∷ made 10 (outcomes.Deleted 1) ∷ told 10 (outcomes.Symbols (record { symbol = S; newest = None; place = 10 } ∷ []))
+          ∷ refused 10 (refusals.NoSuchVersion (asks.Back 1)) ∷ told 10 (outcomes.Pruned 0) ∷ [],
+      10,
+    )
 a_symbol_lives_on_without_a_live_version = refl
 
 -- ---- snapshots
 
 a_snapshot_keeps_a_deleted_version : runs_whole (write 0 ∷ commands.Snapshot k [] ∷ commands.Delete S (Some (0 ∷ [])) ∷ commands.Reclaim S ∷ read_through ∷ commands.DeleteSnapshot k ∷ commands.Reclaim S ∷ read_through ∷ [])
-    ≡ Some (committed 4 0 ∷ by_list 4 (kept 7 6) ∷ made 9 (outcomes.Deleted 1) ∷ told 9 (outcomes.Freed 0 0 0) ∷ whole 9 0 five
-    ∷ record (told 10 outcomes.Unkept) { commits = 12 ∷ [] } ∷ told 12 (outcomes.Freed 1 1 0) ∷ refused 14 refusals.NoSuchSnapshot ∷ [], 14)
+    ≡ Some (
+      committed 4 0 ∷ by_list 4 (kept 7 6) ∷ made 9 (outcomes.Deleted 1) ∷ told 9 (outcomes.Freed 0 0 0) ∷ whole 9 0 five
+          ∷ record (told 10 outcomes.Unkept) { commits = 12 ∷ [] } ∷ told 12 (outcomes.Freed 1 1 0) ∷ refused 14 refusals.NoSuchSnapshot ∷ [],
+      14,
+    )
 a_snapshot_keeps_a_deleted_version = refl
 
 a_name_stands_once : runs_whole (write 0 ∷ commands.Snapshot k (record { symbol = S; version = None } ∷ []) ∷ commands.Snapshot k (record { symbol = S; version = None } ∷ []) ∷ [])
@@ -141,20 +150,29 @@ a_name_stands_once : runs_whole (write 0 ∷ commands.Snapshot k (record { symbo
 a_name_stands_once = refl
 
 a_refused_snapshot_releases_what_it_held : runs_whole (write 0 ∷ commands.Snapshot k (record { symbol = X; version = None } ∷ record { symbol = S; version = None } ∷ []) ∷ commands.Versions S ∷ [])
-    ≡ Some (committed 4 0 ∷ record (refused 6 refusals.NoSuchSymbol) { commits = 6 ∷ 8 ∷ [] }
-    ∷ told 8 (outcomes.Versions (record { version = 0; stamp = pos 7; live = true; holds = 0 } ∷ [])) ∷ [], 8)
+    ≡ Some (
+      committed 4 0 ∷ record (refused 6 refusals.NoSuchSymbol) { commits = 6 ∷ 8 ∷ [] }
+          ∷ told 8 (outcomes.Versions (record { version = 0; stamp = pos 7; live = true; holds = 0 } ∷ [])) ∷ [],
+      8,
+    )
 a_refused_snapshot_releases_what_it_held = refl
 
 -- ---- staged pieces
 
 pieces_are_staged_and_finalized : runs_whole (commands.Stage S 6 ∷ commands.Stage S 7 ∷ commands.Stage S 8 ∷ finalize false ∷ finalize true ∷ finalize false ∷ read ∷ [])
-    ≡ Some (told 1 outcomes.Staged ∷ told 2 outcomes.Staged ∷ told 3 outcomes.Staged ∷ by_list 3 (refused 3 (refusals.StagedOverlap 2)) ∷ by_list 3 (made 7 (outcomes.Finalized 0 3))
-    ∷ by_list 7 (refused 7 refusals.NoStaged) ∷ whole 7 0 ((10, 1) ∷ (15, 3) ∷ (20, 2) ∷ (30, 4) ∷ (40, 5) ∷ []) ∷ [], 7)
+    ≡ Some (
+      told 1 outcomes.Staged ∷ told 2 outcomes.Staged ∷ told 3 outcomes.Staged ∷ by_list 3 (refused 3 (refusals.StagedOverlap 2)) ∷ by_list 3 (made 7 (outcomes.Finalized 0 3))
+          ∷ by_list 7 (refused 7 refusals.NoStaged) ∷ whole 7 0 ((10, 1) ∷ (15, 3) ∷ (20, 2) ∷ (30, 4) ∷ (40, 5) ∷ []) ∷ [],
+      7,
+    )
 pieces_are_staged_and_finalized = refl
 
 a_discarded_piece_is_reclaimed : runs_whole (commands.Stage S 6 ∷ commands.Discard S ∷ commands.Discard S ∷ commands.Keys S ∷ commands.Reclaim S ∷ commands.Keys S ∷ [])
-    ≡ Some (told 1 outcomes.Staged ∷ by_list 1 (made 3 (outcomes.Discarded 1)) ∷ by_list 3 (refused 3 refusals.NoStaged) ∷ told 3 (outcomes.Keys 0 0 1 1 1)
-    ∷ told 3 (outcomes.Freed 0 0 1) ∷ told 4 (outcomes.Keys 0 0 1 1 0) ∷ [], 4)
+    ≡ Some (
+      told 1 outcomes.Staged ∷ by_list 1 (made 3 (outcomes.Discarded 1)) ∷ by_list 3 (refused 3 refusals.NoStaged) ∷ told 3 (outcomes.Keys 0 0 1 1 1)
+          ∷ told 3 (outcomes.Freed 0 0 1) ∷ told 4 (outcomes.Keys 0 0 1 1 0) ∷ [],
+      4,
+    )
 a_discarded_piece_is_reclaimed = refl
 
 a_piece_below_the_last_stamp_is_not_appended : runs_whole (write 0 ∷ commands.Stage S 3 ∷ commands.Finalize S true false None false ∷ commands.Discard S ∷ [])

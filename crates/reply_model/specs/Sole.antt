@@ -175,7 +175,7 @@ abbrev pub keeping : Cutting → Session → Name → List Pick → Alone → Re
 keeping c s snap picks r = if is_some (snapshot_named r.library snap)
     then (refusal r.events None refusals.SnapshotExists, r)
     else kept_or_released c (holder_alone s r) snap (snapshot_list picks r.events) (to_hold r.library picks).0 (to_hold r.library picks).1
-        (holding c (holder_alone s r) (to_hold r.library picks).0 r)
+    (holding c (holder_alone s r) (to_hold r.library picks).0 r)
 
 -- the name stands no more
 abbrev pub without_name : Name → Alone → Alone

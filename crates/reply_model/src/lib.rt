@@ -8,12 +8,13 @@ mod theorem;
 
 pub use base_types::{Items, Keep, NoMemory};
 pub use command::{AsOf, Command, Pick};
-pub use outcome::{HeldAt, Outcome, SymbolRow, VersionRow};
-pub use reply::Reply;
-pub use theorem::{commands_are_isolated, legal_replies_stay_legal, refused_commands_change_nothing};
-
 use frame_core::{ColName, RawFrame};
 use key_kind::SnapName;
+pub use outcome::{HeldAt, Outcome, SymbolRow, VersionRow};
+pub use reply::Reply;
+pub use theorem::{
+    commands_are_isolated, legal_replies_stay_legal, refused_commands_change_nothing,
+};
 
 /// The symbols that a snapshot is to hold, seen as a list.
 pub type Picks = Items<Pick>;

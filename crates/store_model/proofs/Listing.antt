@@ -71,7 +71,7 @@ any-insert_name : (x name : Name) (ns : List Name) → list_any (same_name x) (i
 any-insert_name x name [] = refl
 any-insert_name x name (n ∷ ns) =
     elim (same_name name n) as (λ t. same_name name n ≡ t
-        → list_any (same_name x) (cond t (n ∷ ns) (cond (name_before name n) (name ∷ n ∷ ns) (n ∷ insert_name name ns))) ≡ (same_name x name || (same_name x n || list_any (same_name x) ns))) [
+    → list_any (same_name x) (cond t (n ∷ ns) (cond (name_before name n) (name ∷ n ∷ ns) (n ∷ insert_name name ns))) ≡ (same_name x name || (same_name x n || list_any (same_name x) ns))) [
       | true ↦ λ e. subst (λ m. (same_name x n || list_any (same_name x) ns) ≡ (same_name x m || (same_name x n || list_any (same_name x) ns))) (sym (same_name_is name n e)) (twice (same_name x n) (list_any (same_name x) ns))
       | false ↦ λ e. elim (name_before name n) as (λ u. list_any (same_name x) (cond u (name ∷ n ∷ ns) (n ∷ insert_name name ns)) ≡ (same_name x name || (same_name x n || list_any (same_name x) ns))) [
         | true ↦ refl
@@ -143,8 +143,8 @@ names-insert_named : (name : Name) (x : Snapshot) (ys : List Named) → names (i
 names-insert_named name x [] = refl
 names-insert_named name x (y ∷ ys) =
     elim (same_name name y.0) as (λ t. same_name name y.0 ≡ t
-        → names (cond t ((name, x) ∷ ys) (cond (name_before name y.0) ((name, x) ∷ y ∷ ys) (y ∷ insert_named name x ys)))
-        ≡ cond t (y.0 ∷ names ys) (cond (name_before name y.0) (name ∷ y.0 ∷ names ys) (y.0 ∷ insert_name name (names ys)))) [
+    → names (cond t ((name, x) ∷ ys) (cond (name_before name y.0) ((name, x) ∷ y ∷ ys) (y ∷ insert_named name x ys)))
+    ≡ cond t (y.0 ∷ names ys) (cond (name_before name y.0) (name ∷ y.0 ∷ names ys) (y.0 ∷ insert_name name (names ys)))) [
       | true ↦ λ e. ap (λ n. n ∷ names ys) (same_name_is name y.0 e)
       | false ↦ λ e. elim (name_before name y.0) as (λ u. names (cond u ((name, x) ∷ y ∷ ys) (y ∷ insert_named name x ys)) ≡ cond u (name ∷ y.0 ∷ names ys) (y.0 ∷ insert_name name (names ys))) [
         | true ↦ refl
@@ -156,7 +156,7 @@ names-without_named : (name : Name) (ys : List Named) → names (without_named n
 names-without_named name [] = refl
 names-without_named name (y ∷ ys) =
     elim (not (same_name name y.0)) as (λ t. names (cond t (y ∷ without_named name ys) (without_named name ys))
-        ≡ cond t (y.0 ∷ filter (λ n. not (same_name name n)) (names ys)) (filter (λ n. not (same_name name n)) (names ys))) [
+    ≡ cond t (y.0 ∷ filter (λ n. not (same_name name n)) (names ys)) (filter (λ n. not (same_name name n)) (names ys))) [
       | true ↦ ap (λ ns. y.0 ∷ ns) (names-without_named name ys)
       | false ↦ names-without_named name ys
     ]
@@ -169,16 +169,16 @@ under-insert_named : (snap name : Name) (x : Snapshot) (ys : List Named) → und
 under-insert_named snap name x [] = elim (same_name snap name) as (λ t. option_map (λ (z : Named). z.1) (cond t (Some (name, x)) None) ≡ cond t (Some x) None) [ true ↦ refl | false ↦ refl ]
 under-insert_named snap name x (y ∷ ys) =
     elim (same_name name y.0) as (λ t. same_name name y.0 ≡ t
-        → under snap (cond t ((name, x) ∷ ys) (cond (name_before name y.0) ((name, x) ∷ y ∷ ys) (y ∷ insert_named name x ys))) ≡ cond (same_name snap name) (Some x) (under snap (y ∷ ys))) [
+    → under snap (cond t ((name, x) ∷ ys) (cond (name_before name y.0) ((name, x) ∷ y ∷ ys) (y ∷ insert_named name x ys))) ≡ cond (same_name snap name) (Some x) (under snap (y ∷ ys))) [
       | true ↦ λ e. replaced e
       | false ↦ λ e. elim (name_before name y.0) as (λ u. under snap (cond u ((name, x) ∷ y ∷ ys) (y ∷ insert_named name x ys)) ≡ cond (same_name snap name) (Some x) (under snap (y ∷ ys))) [
         | true ↦ put_first (y ∷ ys)
         | false ↦ elim (same_name snap y.0) as (λ v. same_name snap y.0 ≡ v
             → option_map (λ (z : Named). z.1) (cond v (Some y) (find (λ (z : Named). same_name snap z.0) (insert_named name x ys)))
             ≡ cond (same_name snap name) (Some x) (option_map (λ (z : Named). z.1) (cond v (Some y) (find (λ (z : Named). same_name snap z.0) ys)))) [
-          | true ↦ λ d. sym (ap (λ w. cond w (Some x) (Some y.1)) (elsewhere e d))
-          | false ↦ λ d. under-insert_named snap name x ys
-        ] refl
+              | true ↦ λ d. sym (ap (λ w. cond w (Some x) (Some y.1)) (elsewhere e d))
+              | false ↦ λ d. under-insert_named snap name x ys
+            ] refl
       ]
     ] refl
   where
@@ -209,9 +209,9 @@ under-without_named snap name (y ∷ ys) =
       | false ↦ λ e. elim (same_name snap y.0) as (λ v. same_name snap y.0 ≡ v
           → option_map (λ (z : Named). z.1) (cond v (Some y) (find (λ (z : Named). same_name snap z.0) (without_named name ys)))
           ≡ cond (same_name name snap) None (option_map (λ (z : Named). z.1) (cond v (Some y) (find (λ (z : Named). same_name snap z.0) ys)))) [
-        | true ↦ λ d. sym (ap (λ w. cond w None (Some y.1)) (subst (λ n. same_name name n ≡ false) (sym (same_name_is snap y.0 d)) e))
-        | false ↦ λ d. under-without_named snap name ys
-      ] refl
+            | true ↦ λ d. sym (ap (λ w. cond w None (Some y.1)) (subst (λ n. same_name name n ≡ false) (sym (same_name_is snap y.0 d)) e))
+            | false ↦ λ d. under-without_named snap name ys
+          ] refl
     ] refl
 
 -- ---- all histories

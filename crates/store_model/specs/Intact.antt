@@ -68,7 +68,6 @@ pub record IsIntact (h : History) : Type 0 where
   pub chain : (symbol : Name) → IsChain h symbol
   -- the versions of each standing snapshot are held under its holder
   pub held : (snap : Name) (body : SnapBody) → snap_body h snap ≡ Some body → AllByRecursion (IsHeldRow h body.holder) body.rows
-
   -- a key that was put has a serial below its client's next one, and is of a kind that clients put
   pub numbered : (key : Key) (body : Bytes) → body_put h key ≡ Some body → IsNumbered h key
   -- links reach tiles and indexes of their own symbol, and entries are elements of it

@@ -11,8 +11,9 @@ pub use chain::{ChainMark, Entry, LinkRow};
 pub use hold::HoldRow;
 pub use snapshot::{SnapBody, SnapRow};
 pub use theorem::{
-    beginnings_are_lawful, claims_stay, each_event_keeps_what_is_needed, library_lists_agree, nothing_needed_is_dropped,
-    pieces_are_consumed_once, references_move_on, tests_tell, walks_give_the_state,
+    beginnings_are_lawful, claims_stay, each_event_keeps_what_is_needed, library_lists_agree,
+    nothing_needed_is_dropped, pieces_are_consumed_once, references_move_on, tests_tell,
+    walks_give_the_state,
 };
 
 /// The marks of an element, seen as a list.
