@@ -106,6 +106,16 @@ impl<T: Copy> Items<T> {
         })
     }
 
+    /// The items of one slice and behind them those of another, copied at once.
+    pub fn joined(alloc: Global, first: &[T], more: &[T]) -> Result<Items<T>, NoMemory>
+        ensures { IfOk result (λ both. both ≡ first.now ++ more.now) }
+    {
+        let mut both = Items::with_capacity(alloc, first.len().saturating_add(more.len()))?;
+        both.extend(first)?;
+        both.extend(more)?;
+        Ok(both)
+    }
+
     /// Adds the items of a slice behind the others, all or none.
     pub fn extend(&mut self, items: &[T]) -> Result<(), NoMemory>
         ensures ok { OnOk result (self.new ≡ self.old ++ items.now) }

@@ -5,7 +5,7 @@ use Rattle.std.proofs.lemmas.List.{get_or-drop, get_or-take, get_or_past, length
 use Rattle.std.proofs.lemmas.Bool.{leb-true}
 use Rattle.std.specs.Prelude.{nat_le}
 use Rattle.byte_fields.specs.Reading.{Reading, ◌>>=◌, wanted, whole}
-use Rattle.byte_fields.specs.Readers.{IsBytes}
+use Rattle.byte_fields.specs.Readers.{IsBytes, seen_by}
 
 pub IsBytes-drop : (n : ℕ) (bytes : List ℕ) → IsBytes bytes → IsBytes (drop n bytes)
 IsBytes-drop n bytes fits i = rw get_or-drop (fits (n + i))
@@ -51,6 +51,15 @@ wanted_is holds field next e = ap (λ t. wanted t field next) e
 pub both_true : (a b : Bool) → (a && b) ≡ true → (a ≡ true) × (b ≡ true)
 both_true true b e = (refl, e)
 both_true false b e = absurd cc
+
+-- what was seen by a function
+pub seen_ok : {A B : Type 0} (f : A → B) (r : Result A ℕ) (y : B) → seen_by f r ≡ Ok y → (x : A) × (r ≡ Ok x) × (f x ≡ y)
+seen_ok f (Ok x) y e = (x, refl, ok_is (f x) y e)
+seen_ok f (Err left) y e = absurd cc
+
+pub seen_err : {A B : Type 0} (f : A → B) (r : Result A ℕ) (left : ℕ) → seen_by f r ≡ Err left → r ≡ Err left
+seen_err f (Ok x) left e = absurd cc
+seen_err f (Err n) left e = let same : n ≡ left = cc in ap (λ (k : ℕ). Err k) same
 
 -- ---- what a reading took
 

@@ -1,3 +1,13 @@
 pub mod TextLemmas
 pub mod Rows
 pub mod WholeFrames
+pub mod Totals
+pub mod RawLemmas
+pub mod FrameLimits
+pub mod MakerLemmas
+pub mod TextParts
+pub mod Counts
+pub mod Parts
+pub mod ColumnParts
+pub mod SelectLemmas
+pub mod JoinLemmas

@@ -2,22 +2,22 @@
 --     cells_of-rows_from, columns-rows_from       the columns of rows that were made from columns
 --     rows_from-columns                           the rows of columns that were taken from rows
 --     stamps-rows_from, length-rows_from, row-rows_from       the stamps, the number and each of the rows of columns
-use Rattle.std.proofs.Common.{◌≡◌, ℕ, zero, suc, ◌+◌, ◌<◌, ◌≤◌, ℤ, List, [], ◌∷◌, ◌++◌, length, map, drop, Option, Some, None, refl, sym, ap, ◌∙◌, subst, arith, add-one, zero-add}
+use Rattle.std.proofs.Common.{◌≡◌, ℕ, zero, suc, ◌+◌, ◌<◌, ℤ, List, [], ◌∷◌, length, map, drop, Some, refl, sym, ap, ◌∙◌, arith, add-one}
 use Rattle.std.specs.Prelude.{slice_get, filter_map, option_map}
 use Rattle.std.specs.List.{AllByRecursion, cons_option}
-use Rattle.std.proofs.lemmas.List.{length-map, drop_all, nil_from_length}
+use Rattle.std.proofs.lemmas.List.{drop_all, nil_from_length}
 use Rattle.std.proofs.lemmas.Option.{slice_get-map}
 use Rattle.frame_core.specs.declared.cell.Cell.{Cell}
 use Rattle.frame_core.specs.Frames.{Row, stamps_of}
 use Rattle.frame_core.specs.Columns.{rows_from, cells_of, columns_from}
 
-abbrev heads : List (List Cell) → List Cell
+abbrev pub heads : List (List Cell) → List Cell
 heads cols = filter_map (λ c. slice_get c 0) cols
 
-abbrev tails : List (List Cell) → List (List Cell)
+abbrev pub tails : List (List Cell) → List (List Cell)
 tails cols = map (drop 1) cols
 
-abbrev HaveLength : ℕ → List (List Cell) → Type 0
+abbrev pub HaveLength : ℕ → List (List Cell) → Type 0
 HaveLength n cols = AllByRecursion (λ (c : List Cell). length c ≡ n) cols
 
 pub length-rows_from : (ts : List ℤ) (cols : List (List Cell)) → length (rows_from ts cols) ≡ length ts
@@ -107,7 +107,7 @@ length-columns_from (suc n) k rows = ap suc (length-columns_from n (k + 1) rows)
 
 -- ---- one row of columns
 
-later_cells : (i : ℕ) (cols : List (List Cell)) → filter_map (λ c. slice_get c i) (tails cols) ≡ filter_map (λ c. slice_get c (suc i)) cols
+pub later_cells : (i : ℕ) (cols : List (List Cell)) → filter_map (λ c. slice_get c i) (tails cols) ≡ filter_map (λ c. slice_get c (suc i)) cols
 later_cells i [] = refl
 later_cells i ([] ∷ cols) = later_cells i cols
 later_cells i ((x ∷ c) ∷ cols) = ap (cons_option (slice_get c i)) (later_cells i cols)

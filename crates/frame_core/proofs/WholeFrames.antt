@@ -1,19 +1,18 @@
 -- What a frame in memory keeps, and what its contract sees.
-use Rattle.std.proofs.Common.{◌≡◌, ℕ, zero, suc, ◌+◌, ◌<◌, ◌≤◌, ℤ, pos, false, List, [], ◌∷◌, length, map, get_or, drop, Option, Some, None, refl, sym, ap, ◌∙◌, subst, arith}
+use Rattle.std.proofs.Common.{◌≡◌, ℕ, suc, ◌<◌, ℤ, pos, Bool, List, [], ◌∷◌, length, map, get_or, drop, Some, refl, sym, ap, ◌∙◌, subst, arith}
 use Rattle.std.specs.Prelude.{slice_get, filter_map, option_map, FitsSigned, IsUtf8}
 use Rattle.std.specs.Int.{w64}
 use Rattle.std.specs.List.{AllByRecursion, AllZip}
-use Rattle.std.proofs.lemmas.List.{length-map}
 use Rattle.frame_core.specs.declared.cell.ColType.{ColType}
 use Rattle.frame_core.specs.declared.cell.Cell.{Cell}
 use Rattle.frame_core.specs.declared.cell.Cell.TheVariants as cells
 use Rattle.frame_core.specs.declared.column.Column.{Column}
 use Rattle.frame_core.specs.declared.column.Column.TheVariants as columns
 use Rattle.frame_core.specs.Schemas.{Head, Schema}
-use Rattle.frame_core.specs.Frames.{Row, Frame, type_of, IsCell, FitsColumns, IsFrame, NeverFall, stamps_of, stamp_at, cell_at, type_at}
+use Rattle.frame_core.specs.Frames.{Row, Frame, type_of, IsCell, FitsColumns, IsFrame, stamp_at, cell_at, type_at}
 use Rattle.frame_core.specs.Columns.{column_type, column_cells, rows_from, cells_of, IsWhole}
 use Rattle.std.proofs.lemmas.Option.{slice_get-map, slice_get-get_or}
-use Rattle.frame_core.proofs.Rows.{stamps-rows_from, length-rows_from, row-rows_from, cells_of-rows_from, length_at, picked_at}
+use Rattle.frame_core.proofs.Rows.{stamps-rows_from, length-rows_from, row-rows_from, cells_of-rows_from, length_at, picked_at, HaveLength, lengths-tails}
 
 -- each column's cells are of its type
 abbrev Typed : List Head → List (List Cell) → Type 0
@@ -22,9 +21,6 @@ Typed hs cols = AllZip (λ (h : Head) (c : List Cell). AllByRecursion (λ cell. 
 -- each column has cells of 64 bits or UTF-8
 abbrev Fitting : List (List Cell) → Type 0
 Fitting cols = AllByRecursion (λ (c : List Cell). AllByRecursion IsCell c) cols
-
-abbrev HaveLength : ℕ → List (List Cell) → Type 0
-HaveLength n cols = AllByRecursion (λ (c : List Cell). length c ≡ n) cols
 
 all_of : {X : Type 0} (f : X → Cell) (P : Cell → Type 0) (xs : List X) → ((x : X) → P (f x)) → AllByRecursion P (map f xs)
 all_of f P [] each = tt
@@ -44,6 +40,27 @@ typed_columns (h ∷ hs) (c ∷ cols) e =
     let first : column_type c ≡ h.1 = cc in
     let rest : map column_type cols ≡ map (λ (h : Head). h.1) hs = cc in
     (rw (← first) (typed_cells c), typed_columns hs cols rest)
+
+all_under : {X : Type 0} (f : X → Cell) (P : X → Type 0) (xs : List X) → ((x : X) → P x → IsCell (f x)) → AllByRecursion P xs → AllByRecursion IsCell (map f xs)
+all_under f P [] each all = tt
+all_under f P (x ∷ xs) each all = (each x all.0, all_under f P xs each all.1)
+
+every : {X : Type 0} (f : X → Cell) (xs : List X) → ((x : X) → IsCell (f x)) → AllByRecursion IsCell (map f xs)
+every f [] each = tt
+every f (x ∷ xs) each = (each x, every f xs each)
+
+-- the cells of a column, by what its lists keep
+pub known_ints : (c : Column) (v lent : List ℤ) → c ≡ columns.Ints v → lent ≡ v → AllByRecursion (FitsSigned w64) lent → AllByRecursion IsCell (column_cells c)
+known_ints c v lent is same all = rw is (all_under cells.Int (FitsSigned w64) v (λ x fits. fits) (subst (AllByRecursion (FitsSigned w64)) same all))
+
+pub known_stamps : (c : Column) (v lent : List ℤ) → c ≡ columns.Stamps v → lent ≡ v → AllByRecursion (FitsSigned w64) lent → AllByRecursion IsCell (column_cells c)
+known_stamps c v lent is same all = rw is (all_under cells.Stamp (FitsSigned w64) v (λ x fits. fits) (subst (AllByRecursion (FitsSigned w64)) same all))
+
+pub known_flags : (c : Column) (v : List Bool) → c ≡ columns.Flags v → AllByRecursion IsCell (column_cells c)
+known_flags c v is = rw is (every cells.Flag v (λ x. tt))
+
+pub known_texts : (c : Column) (v : List (List ℕ)) → c ≡ columns.Texts v → AllByRecursion IsUtf8 v → AllByRecursion IsCell (column_cells c)
+known_texts c v is all = rw is (all_under cells.Text IsUtf8 v (λ x fits. fits) all)
 
 first_typed : (n : ℕ) (hs : List Head) (cols : List (List Cell)) → HaveLength (suc n) cols → Typed hs cols → AllZip (λ (h : Head) cell. type_of cell ≡ h.1) hs (filter_map (λ c. slice_get c 0) cols)
 first_typed n [] [] all typed = tt
@@ -69,19 +86,14 @@ later_fitting [] all = tt
 later_fitting ([] ∷ cols) all = (tt, later_fitting cols all.1)
 later_fitting ((x ∷ c) ∷ cols) all = (all.0.1, later_fitting cols all.1)
 
-later_lengths : (n : ℕ) (cols : List (List Cell)) → HaveLength (suc n) cols → HaveLength n (map (drop 1) cols)
-later_lengths n [] all = tt
-later_lengths n ([] ∷ cols) all = absurd (omega (arith, all.0))
-later_lengths n ((x ∷ c) ∷ cols) all = (omega (arith, all.0), later_lengths n cols all.1)
-
 fitting_rows : (hs : List Head) (ts : List ℤ) (cols : List (List Cell)) → AllByRecursion (FitsSigned w64) ts → HaveLength (length ts) cols → Typed hs cols → Fitting cols → AllByRecursion (FitsColumns hs) (rows_from ts cols)
 fitting_rows hs [] cols stamps lengths typed fitting = tt
 fitting_rows hs (t ∷ ts) cols stamps lengths typed fitting = (
   record { stamp = stamps.0; typed = first_typed (length ts) hs cols lengths typed; cells = first_fitting cols fitting },
-  fitting_rows hs ts (map (drop 1) cols) stamps.1 (later_lengths (length ts) cols lengths) (later_typed (length ts) hs cols lengths typed) (later_fitting cols fitting),
+  fitting_rows hs ts (map (drop 1) cols) stamps.1 (lengths-tails (length ts) cols lengths) (later_typed (length ts) hs cols lengths typed) (later_fitting cols fitting),
 )
 
-all_mapped : {X Y : Type 0} (P : Y → Type 0) (f : X → Y) (xs : List X) → AllByRecursion (λ x. P (f x)) xs → AllByRecursion P (map f xs)
+pub all_mapped : {X Y : Type 0} (P : Y → Type 0) (f : X → Y) (xs : List X) → AllByRecursion (λ x. P (f x)) xs → AllByRecursion P (map f xs)
 all_mapped P f [] all = tt
 all_mapped P f (x ∷ xs) all = (all.0, all_mapped P f xs all.1)
 
@@ -90,7 +102,7 @@ stamps_zero [] cols all = tt
 stamps_zero (t ∷ ts) cols all = (all.0, stamps_zero ts (map (drop 1) cols) all.1)
 
 -- the frame that contracts see
-abbrev frame_of : Schema → List ℤ → List Column → Frame
+abbrev pub frame_of : Schema → List ℤ → List Column → Frame
 frame_of schema stamps cols = record { schema = schema; rows = rows_from stamps (map column_cells cols) }
 
 pub IsFrame-whole : (schema : Schema) (stamps : List ℤ) (cols : List Column) (f : Frame) → frame_of schema stamps cols ≡ f → IsWhole schema stamps cols → IsFrame f
@@ -112,7 +124,7 @@ stamp_is schema stamps lent cols f i d is same lt =
     let row : slice_get f.rows i ≡ option_map (λ t. record { stamp = t; cells = filter_map (λ (c : List Cell). slice_get c i) (map column_cells cols) }) (slice_get stamps i) = ap (λ (g : Frame). slice_get g.rows i) (sym is) ∙ row-rows_from stamps (map column_cells cols) i in
     rw (row, ← same, there) refl
 
-same_lengths : (schema : Schema) (stamps : List ℤ) (cols : List Column) → IsWhole schema stamps cols → HaveLength (length stamps) (map column_cells cols)
+pub same_lengths : (schema : Schema) (stamps : List ℤ) (cols : List Column) → IsWhole schema stamps cols → HaveLength (length stamps) (map column_cells cols)
 same_lengths schema stamps cols w = all_mapped (λ (c : List Cell). length c ≡ length stamps) column_cells cols w.lengths
 
 column_at : (cols : List Column) (k : ℕ) (c : Column) → slice_get cols k ≡ Some c → slice_get (map column_cells cols) k ≡ Some (column_cells c)

@@ -6,3 +6,5 @@ pub mod Columns
 pub mod Selecting
 pub mod Limits
 pub mod RawFrames
+pub mod Refusals
+pub mod Making

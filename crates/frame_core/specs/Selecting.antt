@@ -1,9 +1,11 @@
 -- The asked columns of a frame, in the order asked.
 --     place_of, places_of         the places of the asked names, or the position that is refused
 --     pick_columns                the columns at these places
---     select                      the asked columns of a frame, or the position that is refused
+--     select, refuse_position     the asked columns of a frame, or the position that is refused; its refusal
 use Rattle.std.specs.Prelude.{ℕ, ◌+◌, if◌then◌else◌, List, [], ◌∷◌, map, filter_map, slice_get, Option, Some, None, Result, Ok, Err}
 use Rattle.std.specs.List.{list_any, position_from}
+use Rattle.frame_core.specs.declared.refusal.Refusal.{Refusal}
+use Rattle.frame_core.specs.declared.refusal.Refusal.TheVariants as refusals
 use Rattle.frame_core.specs.Texts.{Text, same_text}
 use Rattle.frame_core.specs.Schemas.{Head}
 use Rattle.frame_core.specs.Frames.{Row, Frame}
@@ -41,3 +43,8 @@ pick_columns f ks = record { schema = record f.schema { columns = at_places ks f
 -- the asked columns of a frame, or the position, counted from 1, that is refused
 abbrev pub select : List Text → Frame → Result Frame ℕ
 select names f = then_map (pick_columns f) (places_of 1 [] names f.schema.columns)
+
+-- a position that is refused, as the refusal of clause 0
+abbrev pub refuse_position : {A : Type 0} → Result A ℕ → Result A Refusal
+refuse_position (Ok a) = Ok a
+refuse_position (Err position) = Err (refusals.NoSuchColumn 0 position)

@@ -1,19 +1,26 @@
-ghost use Rattle.std.specs.Prelude.{◌≡◌, ◌<◌, length, Some};
+ghost use Rattle.std.specs.Prelude.{◌≡◌, ◌<◌, length, Some, IfOk};
 ghost use Rattle.frame_core.specs.Frames.{IsFrame, stamps_of, stamp_at, cell_at, type_at, cell_of as lent_cell};
+ghost use Rattle.frame_core.specs.Limits.{IsStorable};
+ghost use Rattle.frame_core.specs.RawFrames.{frame_from};
+ghost use Rattle.frame_core.specs.Refusals.{Answers};
 ghost use Rattle.frame_core.specs.Columns.{column_type, column_cells, cells_of};
 
 use crate::cell::CellRef;
 use crate::column::Column;
+use crate::making;
+use crate::raw::RawFrame;
+use crate::refusal::Refusal;
 use crate::schema::Schema;
 use base_types::Items;
+use std::alloc::Global;
 use std::marker::Model;
 
 /// A schema and rows whose stamps never fall, kept column by column. Contracts see the schema and the list of rows.
 #[derive(Debug, Drop)]
 pub struct Frame {
-    schema: Schema,
-    stamps: Items<i64>,
-    columns: Items<Column>,
+    pub(crate) schema: Schema,
+    pub(crate) stamps: Items<i64>,
+    pub(crate) columns: Items<Column>,
 }
 
 impl Model for Frame {
@@ -29,6 +36,26 @@ impl Model for Frame {
 }
 
 impl Frame {
+    /// The timed frame of these parts. The tests come before any cell is copied.
+    ///
+    /// It refuses, in this order, a limit that is exceeded, the least column that lacks its name or its values, has another
+    /// length than the stamps or repeats a name, and the least row whose stamp lies below the one before.
+    pub fn make(alloc: Global, raw: &RawFrame) -> Result<Frame, Refusal>
+        ensures frame { Answers result (frame_from raw.now) }
+        ensures storable { IfOk result IsStorable }
+    {
+        if let Some((what, limit)) = making::too_large(raw) {
+            return Err(Refusal::TooLarge { what, limit });
+        }
+        if let Some(column) = making::bad_column(raw) {
+            return Err(Refusal::SchemaDiffers { column });
+        }
+        if let Some(row) = making::bad_row(raw.stamps.items()) {
+            return Err(Refusal::Unsorted { row });
+        }
+        Ok(making::built(alloc, raw)?)
+    }
+
     /// The schema, lent.
     pub fn schema(&self) -> &Schema
         ensures schema { result.now ≡ self.now.schema }

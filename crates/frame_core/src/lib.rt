@@ -3,19 +3,27 @@
 
 mod cell;
 mod column;
+mod cutting;
 mod frame;
+mod joining;
+mod limits;
+mod maker;
+mod making;
 mod name;
 mod part;
 mod range;
 mod raw;
 mod refusal;
 mod schema;
+mod selecting;
+mod text_parts;
 mod texts;
 
 pub use base_types::{Items, Keep, NoMemory, Text};
 pub use cell::{Cell, CellRef, ColType};
 pub use column::Column;
 pub use frame::Frame;
+pub use maker::FrameMaker;
 pub use name::{ColName, NameFault};
 pub use part::Part;
 pub use range::Range;

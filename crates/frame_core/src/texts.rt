@@ -1,4 +1,4 @@
-ghost use Rattle.std.specs.Prelude.{◌≡◌, ◌<◌, ◌≤◌, ◌++◌, ◌∷◌, [], length, slice_get, slice_index, Some, IsUtf8, IfOk, OnOk, OnErr};
+ghost use Rattle.std.specs.Prelude.{◌≡◌, ◌<◌, ◌≤◌, ◌++◌, ◌∷◌, [], length, slice_get, slice_index, max, map, fold, sum_by, Some, IsUtf8, IfOk, OnOk, OnErr};
 ghost use Rattle.std.specs.List.{AllByRecursion};
 
 use base_types::{Keep, NoMemory};
@@ -8,8 +8,8 @@ use std::marker::Model;
 /// Texts, one behind another in one buffer, with the end of each. Contracts see the list of the texts' bytes.
 #[derive(Debug, Drop)]
 pub struct TextList {
-    buffer: String,
-    ends: Vec<usize>,
+    pub(crate) buffer: String,
+    pub(crate) ends: Vec<usize>,
 }
 
 impl Model for TextList {
@@ -62,6 +62,26 @@ impl TextList {
         self.ends.len()
     }
 
+    /// How many bytes the texts have together.
+    pub fn bytes(&self) -> usize
+        ensures { result ≡ sum_by (λ t. length t) self.now }
+    {
+        self.buffer.as_str().len()
+    }
+
+    /// How many bytes the longest text has.
+    pub fn longest(&self) -> usize
+        ensures { result ≡ fold max 0 (map (λ t. length t) self.now) }
+    {
+        let mut longest = 0;
+        let mut start = 0;
+        for end in &self.ends {
+            longest = longest.max(*end - start);
+            start = *end;
+        }
+        longest
+    }
+
     /// The text at a place, counted from 0. It is lent from the buffer, in constant time.
     pub fn at(&self, place: usize) -> &str
         requires { place < length self.now }
@@ -72,18 +92,18 @@ impl TextList {
     }
 }
 
-/// Where the text at a place begins.
-fn start_of(ends: &[usize], place: usize) -> usize
-    requires { place ≤ length ends.now }
-    ensures { result ≡ slice_index (0 ∷ ends.now) place }
-{
-    if place == 0 { 0 } else { ends[place - 1] }
-}
-
 impl Keep for TextList {
     fn copy(&self, alloc: Global) -> Result<TextList, NoMemory> {
         let buffer = String::from_str(alloc, self.buffer.as_str())?;
         let ends = Vec::from_slice(alloc, &self.ends)?;
         Ok(TextList { buffer, ends })
     }
+}
+
+/// Where the text at a place begins.
+pub(crate) fn start_of(ends: &[usize], place: usize) -> usize
+    requires { place ≤ length ends.now }
+    ensures { result ≡ slice_index (0 ∷ ends.now) place }
+{
+    if place == 0 { 0 } else { ends[place - 1] }
 }

@@ -7,7 +7,7 @@ use Rattle.std.specs.Int.{w16, w32, to_be_bytes}
 use Rattle.std.specs.Ordering.{int_eq}
 use Rattle.byte_fields.specs.Reading.{Reading, ◌>>=◌, wanted, whole, number_at, signed_at, magic_at, signed_text}
 use Rattle.frame_core.specs.Schemas.{Head}
-use Rattle.segment_bytes.specs.SegmentText.{head_text, head_at}
+use Rattle.segment_bytes.specs.Heads.{head_text, head_at}
 use Rattle.key_kind.specs.declared.key.KeyKind.TheVariants as kinds
 use Rattle.key_kind.specs.KeyText.{key_text, key_of_at}
 use Rattle.index_tree.specs.declared.index.Slot.{Slot}

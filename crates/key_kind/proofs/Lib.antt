@@ -1,2 +1,3 @@
 pub mod NameRules
 pub mod KeyTests
+pub mod KeyReading

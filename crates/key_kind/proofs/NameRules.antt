@@ -1,9 +1,12 @@
 -- Bytes of which none breaks a rule are a name.
-use Rattle.std.proofs.Common.{◌≡◌, ℕ, ◌≤◌, Bool, true, false, cond, not, List, length, get_or, Some, None, refl, arith}
+use Rattle.std.proofs.Common.{◌≡◌, ℕ, ◌≤◌, Bool, true, false, cond, not, List, length, get_or, Some, None, refl, arith, inl, inr}
 use Rattle.std.specs.Prelude.{nat_lt, nat_le}
-use Rattle.std.specs.List.{position, position_or_len}
-use Rattle.std.proofs.lemmas.List.Sums.{fails_before_first}
-use Rattle.std.proofs.lemmas.Bool.{and_parts, leb-true, ltb-false}
+use Rattle.std.specs.List.{position, position_or_len, list_all}
+use Rattle.std.specs.Str.{IsUtf8}
+use Rattle.std.proofs.lemmas.Str.{IsUtf8-from_ascii}
+use Rattle.std.proofs.lemmas.List.{get_or_past}
+use Rattle.std.proofs.lemmas.List.Sums.{fails_before_first, AllPass-from_list_all}
+use Rattle.std.proofs.lemmas.Bool.{cases_lt, and_parts, leb-true, ltb-false}
 use Rattle.key_kind.specs.Names.{IsName, is_graphic}
 
 -- no element passes before a first one that is not there
@@ -28,3 +31,11 @@ IsName-from bytes some most good = record {
       let both = and_parts (nat_le 0x21 (get_or bytes k d)) (nat_le (get_or bytes k d) 0x7E) (graphic_from _ at) in
       (leb-true _ _ both.0, leb-true _ _ both.1);
 }
+
+-- graphic bytes are a text
+pub IsUtf8-graphic : (bytes : List ℕ) → list_all is_graphic bytes ≡ true → IsUtf8 bytes
+IsUtf8-graphic bytes all = IsUtf8-from_ascii bytes (λ i.
+    elim (cases_lt i (length bytes)) [
+      | inl lt ↦ let both = and_parts (nat_le 0x21 (get_or bytes i 0)) (nat_le (get_or bytes i 0) 0x7E) (AllPass-from_list_all is_graphic bytes all i 0 lt) in omega (arith, leb-true _ _ both.1)
+      | inr le ↦ rw (get_or_past bytes i 0 le) (omega arith)
+    ])

@@ -18,14 +18,18 @@ abbrev pub name_text : Name → List ℕ
 name_text name = length name ∷ name
 
 -- the spelling of a key
-abbrev pub key_text : Key → List ℕ
+unfoldable pub key_text : Key → List ℕ
 key_text k =
     (kind_code k.kind ∷ name_text k.name) ++ to_be_bytes w32 k.client ++ to_be_bytes w64 k.serial ++ to_be_bytes w64 k.version
     ++ signed_text k.first ++ signed_text k.last
 
+-- the kinds, in the order of their numbers
+abbrev pub all_kinds : List KeyKind
+all_kinds = kinds.TableData ∷ kinds.TableIndex ∷ kinds.Version ∷ kinds.VersionRef ∷ kinds.Snapshot ∷ kinds.Staged ∷ []
+
 -- the kind of a number
 abbrev pub kind_of : ℕ → Option KeyKind
-kind_of code = find (λ kind. nat_eq (kind_code kind) code) (kinds.TableData ∷ kinds.TableIndex ∷ kinds.Version ∷ kinds.VersionRef ∷ kinds.Snapshot ∷ kinds.Staged ∷ [])
+kind_of code = find (λ kind. nat_eq (kind_code kind) code) all_kinds
 
 -- the kind, or a fault at its field
 abbrev pub kind_found : List ℕ → List ℕ → Option KeyKind → Reading KeyKind

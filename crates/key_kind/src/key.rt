@@ -1,6 +1,7 @@
 ghost use Rattle.std.specs.Prelude.{◌≡◌, refl, Some, IfOk};
 ghost use Rattle.std.specs.Cmp.{partial_equiv_from_equiv};
-ghost use Rattle.key_kind.specs.Keys.{IsKey, kind_code, same_key, key_cmp, reference_key, snapshot_key};
+ghost use Rattle.key_kind.specs.Keys.{IsKey, kind_code, is_put, has_version, has_stamps, same_key, key_cmp, reference_key, snapshot_key};
+ghost use Rattle.key_kind.specs.KeyText.{kind_of};
 ghost use Rattle.key_kind.specs.KeyOrder.{same_key_equiv, key_cmp_po, key_cmp_total, same_key_ties};
 
 use crate::name::{Name, SnapName, Symbol};
@@ -38,6 +39,45 @@ impl KeyKind {
             KeyKind::Snapshot => 5,
             KeyKind::Staged => 6,
         }
+    }
+
+    /// The kind of a number.
+    pub(crate) fn of_code(code: u8) -> Option<KeyKind>
+        ensures { result ≡ kind_of code }
+    {
+        match code {
+            1 => Some(KeyKind::TableData),
+            2 => Some(KeyKind::TableIndex),
+            3 => Some(KeyKind::Version),
+            4 => Some(KeyKind::VersionRef),
+            5 => Some(KeyKind::Snapshot),
+            6 => Some(KeyKind::Staged),
+            _ => None,
+        }
+    }
+
+    /// Whether a client puts such a key, under its number and its next serial.
+    pub fn is_put(self) -> bool
+        ensures { result ≡ is_put self }
+    {
+        !matches!(self, KeyKind::VersionRef | KeyKind::Snapshot)
+    }
+
+    /// Whether such a key has the number of a version.
+    pub fn has_version(self) -> bool
+        ensures { result ≡ has_version self }
+    {
+        matches!(self, KeyKind::TableData | KeyKind::TableIndex)
+    }
+
+    /// Whether such a key has a first and a last stamp.
+    pub fn has_stamps(self) -> bool
+        ensures { result ≡ has_stamps self }
+    {
+        matches!(
+            self,
+            KeyKind::TableData | KeyKind::TableIndex | KeyKind::Staged
+        )
     }
 }
 

@@ -1,5 +1,5 @@
-ghost use Rattle.std.specs.Prelude.{◌≡◌, not, refl, Some, IfOk, IfErr, OnOk};
-ghost use Rattle.std.specs.List.{position};
+ghost use Rattle.std.specs.Prelude.{◌≡◌, not, refl, Some, IfOk, IfErr, OnOk, option_copied, if◌then◌else◌};
+ghost use Rattle.std.specs.List.{position, list_all};
 ghost use Rattle.std.specs.Cmp.{partial_equiv_from_equiv};
 ghost use Rattle.std.specs.Cmp.Lexicographic.{slice_cmp, nat_list_eq_equiv, nat_list_cmp_total, texts_ties, texts_po};
 ghost use Rattle.std.specs.Ordering.{nat_cmp};
@@ -10,6 +10,7 @@ use base_types::{Keep, NoMemory, Text};
 use std::alloc::Global;
 use std::cmp::Ordering;
 use std::marker::Model;
+use std::str;
 
 /// Why a text is no name.
 #[derive(Clone, Copy, Debug, PartialEq, Eq)]
@@ -51,10 +52,20 @@ impl Name {
         if let Some(at) = first_not_graphic(text.as_bytes()) {
             return Err(NameFault::Byte { at: at as u64 });
         }
-        match Text::make(alloc, text) {
-            Ok(text) => Ok(Name { text }),
+        match Name::of(alloc, text) {
+            Ok(name) => Ok(name),
             Err(NoMemory) => Err(NameFault::NoMemory),
         }
+    }
+
+    /// The name of bytes that keep its rules, in memory of its own.
+    pub(crate) fn of(alloc: Global, text: &str) -> Result<Name, NoMemory>
+        requires { IsName text.now }
+        ensures same { IfOk result (λ name. name ≡ text.now) }
+        ensures is_name { IsName text.now }
+    {
+        let text = Text::make(alloc, text)?;
+        Ok(Name { text })
     }
 
     /// The name, lent.
@@ -71,6 +82,26 @@ fn first_not_graphic(bytes: &[u8]) -> Option<usize>
     ensures { result ≡ position (λ c. not (is_graphic c)) bytes.now }
 {
     bytes.iter().position(|byte| !byte.is_ascii_graphic())
+}
+
+/// Whether each byte may stand in a name.
+fn all_graphic(bytes: &[u8]) -> bool
+    ensures { result ≡ list_all is_graphic bytes.now }
+{
+    bytes.iter().all(|byte| byte.is_ascii_graphic())
+}
+
+/// The bytes as a text, where each may stand in a name.
+pub(crate) fn graphic_text(bytes: &[u8]) -> Option<&str>
+    ensures { option_copied result ≡ (if list_all is_graphic bytes.now then Some bytes.now else None) }
+{
+    if !all_graphic(bytes) {
+        return None;
+    }
+    match str::from_utf8(bytes) {
+        Ok(text) => Some(text),
+        Err(_) => None,
+    }
 }
 
 impl Keep for Name {

@@ -1,4 +1,7 @@
 -- Honest replies are legal: a piece that is staged, discarded and reclaimed; a write and a finalize that meet the limit.
+use Rattle.segment_bytes.specs.Heads.{head_at, length_at, name_at, text_at, type_at}
+use Rattle.segment_bytes.specs.Sheets.{columns_at, count_at, rows_at, series_at, sheet_at, sheet_text, stamp_at, stamps_at}
+use Rattle.segment_bytes.specs.CellTexts.{cells_at, cells_text}
 use Rattle.byte_fields.specs.Reading.{signed_text}
 use Rattle.std.proofs.Common.{◌≡◌, ℕ, pos, true, false, List, [], ◌∷◌, Some, None, refl, sym, ◌∙◌, ap, subst, inl, inr, lit≤, lit<, cond, nat_eq}
 use Rattle.std.specs.Prelude.{is_some}
@@ -19,7 +22,7 @@ use Rattle.key_kind.specs.declared.key.KeyKind.TheVariants as kinds
 use Rattle.key_kind.specs.Keys.{same_key, kind_code, reference_key}
 use Rattle.key_kind.specs.KeyText.{key_at, key_text}
 use Rattle.key_kind.proofs.KeyTests.{same_key_is}
-use Rattle.segment_bytes.specs.SegmentText.{segment_text, segment_of}
+use Rattle.segment_bytes.specs.Segments.{segment_text, segment_of, sheet_spelled}
 use Rattle.store_model.specs.ChainText.{entry_of, entry_text}
 use Rattle.store_model.specs.Links.{Linked, links, reaches, IsUnneeded}
 use Rattle.store_model.proofs.SmallFrames.{S}
@@ -42,7 +45,7 @@ one = client 1 8
 -- ---- stage
 
 staging : IsStaging one.session S 0 (events.Put 1 shared.piece_key (segment_text w.table) ∷ [])
-unfolding segment_of is_utf8 chars encode signed_text
+unfolding segment_text sheet_text cells_text segment_of sheet_spelled sheet_at rows_at count_at stamps_at stamp_at columns_at series_at head_at type_at length_at name_at text_at cells_at is_utf8 chars encode signed_text
 staging = record { key = shared.piece_key; body = segment_text w.table; is = refl; key_is = (refl, refl); whole = w.table; frame_is = refl; spelled = refl }
 
 pub stage_is_legal : IsLegalSeen shared.staged one (commands.Stage S 0) (reply 1 [] outcomes.Staged) (window 0 1)
@@ -59,14 +62,14 @@ stage_is_legal = record {
 -- ---- discard
 
 discard_try : IsTry S false ((w.key kinds.Version 1, entry_text shared.discard_entry) ∷ []) (w.key kinds.Version 1)
-unfolding entry_of key_at signed_text
+unfolding entry_of key_at key_text signed_text
 discard_try = record { first = []; body = entry_text shared.discard_entry; element = shared.discard_entry; is = refl; entry_is = (refl, refl); spelled = refl; before = of_mark; of_kind = refl }
 
 abbrev discard_reply : Reply
 discard_reply = record { place = 3; listed = Some 1; commits = 3 ∷ []; left = []; outcome = outcomes.Discarded 1 }
 
 pub discard_is_legal : IsLegalSeen shared.discarded one (commands.Discard S) discard_reply (window 1 3)
-unfolding segment_of is_utf8 chars encode signed_text
+unfolding segment_text sheet_text cells_text segment_of sheet_spelled sheet_at rows_at count_at stamps_at stamp_at columns_at series_at head_at type_at length_at name_at text_at cells_at is_utf8 chars encode signed_text
 discard_is_legal = record {
   after = lit≤ tt;
   before = lit≤ tt;
@@ -96,7 +99,7 @@ none_reply = record { place = 3; listed = Some 3; commits = []; left = []; outco
 
 -- a second discard finds no piece
 pub no_staged_is_legal : IsLegalSeen shared.discarded one (commands.Discard S) none_reply (window 3 3)
-unfolding segment_of is_utf8 chars encode signed_text
+unfolding segment_text sheet_text cells_text segment_of sheet_spelled sheet_at rows_at count_at stamps_at stamp_at columns_at series_at head_at type_at length_at name_at text_at cells_at is_utf8 chars encode signed_text
 no_staged_is_legal = record {
   after = lit≤ tt;
   before = lit≤ tt;
@@ -116,7 +119,7 @@ no_staged_is_legal = record {
 -- ---- reclaim
 
 links_discarded : links shared.discarded S ≡ []
-unfolding entry_of key_at signed_text
+unfolding entry_of key_at key_text signed_text
 links_discarded = refl
 
 none_dead : (key : Key) → key.name ≡ S → IsUnneeded shared.discarded key → ⊥
@@ -247,7 +250,7 @@ passed = commit 2 5 (changes.Wrote (empty 97) (pos 7) ∷ changes.Discarded (rec
 
 pub finalize_spent_is_legal : IsLegalSeen passed (record { session = (client 4 8).session; limit = 4 }) (commands.Finalize S false true None false)
     (record { place = 4; listed = Some 2; commits = []; left = []; outcome = outcomes.Refused (refusals.Spent 4) }) (window 2 4)
-unfolding segment_of is_utf8 chars encode signed_text
+unfolding segment_text sheet_text cells_text segment_of sheet_spelled sheet_at rows_at count_at stamps_at stamp_at columns_at series_at head_at type_at length_at name_at text_at cells_at is_utf8 chars encode signed_text
 finalize_spent_is_legal = record {
   after = lit≤ tt;
   before = lit≤ tt;

@@ -1,4 +1,7 @@
 -- Honest replies are legal: a read whose version was buried, pruned and reclaimed under it, and the prune and the reclaim that did so.
+use Rattle.segment_bytes.specs.Heads.{head_at, length_at, name_at, text_at, type_at}
+use Rattle.segment_bytes.specs.Sheets.{columns_at, count_at, rows_at, series_at, sheet_at, sheet_text, stamp_at, stamps_at}
+use Rattle.segment_bytes.specs.CellTexts.{cells_at, cells_text}
 use Rattle.byte_fields.specs.Reading.{signed_text}
 use Rattle.std.proofs.Common.{◌≡◌, pos, true, false, List, [], ◌∷◌, Some, None, refl, sym, ◌∙◌, subst, inl, inr, lit≤, lit<}
 use Rattle.std.specs.Prelude.{◌&&◌, ◌||◌, Contains}
@@ -12,9 +15,9 @@ use Rattle.bucket_core.specs.History.{Bytes, stored}
 use Rattle.key_kind.specs.declared.key.Key.{Key}
 use Rattle.key_kind.specs.declared.key.KeyKind.TheVariants as kinds
 use Rattle.key_kind.specs.Keys.{same_key}
-use Rattle.key_kind.specs.KeyText.{key_at}
+use Rattle.key_kind.specs.KeyText.{key_at, key_text}
 use Rattle.key_kind.proofs.KeyTests.{same_key_is}
-use Rattle.segment_bytes.specs.SegmentText.{segment_text, segment_of}
+use Rattle.segment_bytes.specs.Segments.{segment_text, segment_of, sheet_spelled}
 use Rattle.index_tree.specs.IndexText.{index_text, index_of}
 use Rattle.store_model.specs.ChainText.{entry_of, entry_text}
 use Rattle.store_model.specs.Library.{state_of}
@@ -38,11 +41,11 @@ abbrev old_link : Linked
 old_link = record { row = w.row; index = w.index; tiles = (w.part, w.table) ∷ [] }
 
 links_pruned : links pruned.pruned S ≡ new_link ∷ old_link ∷ []
-unfolding segment_of index_of entry_of key_at is_utf8 chars encode signed_text
+unfolding index_of entry_of segment_text sheet_text cells_text segment_of sheet_spelled sheet_at rows_at count_at stamps_at stamp_at columns_at series_at head_at type_at length_at name_at text_at cells_at is_utf8 chars encode signed_text key_at key_text
 links_pruned = refl
 
 links_dropped : links pruned.dropped S ≡ new_link ∷ old_link ∷ []
-unfolding segment_of index_of entry_of key_at is_utf8 chars encode signed_text
+unfolding index_of entry_of segment_text sheet_text cells_text segment_of sheet_spelled sheet_at rows_at count_at stamps_at stamp_at columns_at series_at head_at type_at length_at name_at text_at cells_at is_utf8 chars encode signed_text key_at key_text
 links_dropped = refl
 
 -- ---- the read
@@ -80,7 +83,7 @@ abbrev puts : List (Key × Bytes)
 puts = (pruned.key kinds.TableData 0, segment_text w.table) ∷ (pruned.key kinds.TableIndex 1, index_text pruned.index) ∷ (pruned.element_key, entry_text pruned.entry) ∷ []
 
 is_try : IsTry S true puts pruned.element_key
-unfolding index_of entry_of key_at is_utf8 chars encode signed_text
+unfolding index_of entry_of head_at type_at length_at name_at text_at is_utf8 chars encode key_at key_text signed_text
 is_try = record {
   first = (pruned.key kinds.TableData 0, segment_text w.table) ∷ (pruned.key kinds.TableIndex 1, index_text pruned.index) ∷ [];
   body = entry_text pruned.entry;
@@ -135,11 +138,11 @@ both_gone key n u = elim (or_cases (reaches new_link key) (reaches old_link key 
         (subst (λ m. list_any (λ l. is_needed (state_of pruned.pruned m) l && reaches l key) (links pruned.pruned m) ≡ false) n u.no_more)
 
 tile_dead : IsUnneeded pruned.pruned (w.table_key kinds.TableData 0)
-unfolding segment_of index_of entry_of key_at is_utf8 chars encode signed_text
+unfolding index_of entry_of segment_text sheet_text cells_text segment_of sheet_spelled sheet_at rows_at count_at stamps_at stamp_at columns_at series_at head_at type_at length_at name_at text_at cells_at is_utf8 chars encode signed_text key_at key_text
 tile_dead = record { once = refl; no_more = refl }
 
 index_dead : IsUnneeded pruned.pruned (w.table_key kinds.TableIndex 1)
-unfolding segment_of index_of entry_of key_at is_utf8 chars encode signed_text
+unfolding index_of entry_of segment_text sheet_text cells_text segment_of sheet_spelled sheet_at rows_at count_at stamps_at stamp_at columns_at series_at head_at type_at length_at name_at text_at cells_at is_utf8 chars encode signed_text key_at key_text
 index_dead = record { once = refl; no_more = refl }
 
 index_drops : IsDeadIndex pruned.pruned S (w.table_key kinds.TableIndex 1)

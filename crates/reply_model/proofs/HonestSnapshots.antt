@@ -1,5 +1,8 @@
 -- Honest replies are legal: a write, a snapshot, a delete, a reclaim that finds nothing dead, a read through the snapshot, the snapshot's end,
 -- a reclaim that drops, and a read of a snapshot that stands no more.
+use Rattle.segment_bytes.specs.Heads.{head_at, length_at, name_at, text_at, type_at}
+use Rattle.segment_bytes.specs.Sheets.{columns_at, count_at, rows_at, series_at, sheet_at, sheet_text, stamp_at, stamps_at}
+use Rattle.segment_bytes.specs.CellTexts.{cells_at, cells_text}
 use Rattle.byte_fields.specs.Reading.{signed_text}
 use Rattle.std.proofs.Common.{◌≡◌, ℕ, pos, true, false, List, [], ◌∷◌, Some, None, refl, sym, ◌∙◌, ap, subst, inl, inr, lit≤, lit<}
 use Rattle.std.specs.Prelude.{◌&&◌, ◌||◌, Contains, cond}
@@ -16,9 +19,9 @@ use Rattle.key_kind.specs.Names.{Name, same_name}
 use Rattle.key_kind.specs.declared.key.Key.{Key}
 use Rattle.key_kind.specs.declared.key.KeyKind.TheVariants as kinds
 use Rattle.key_kind.specs.Keys.{same_key}
-use Rattle.key_kind.specs.KeyText.{key_at}
+use Rattle.key_kind.specs.KeyText.{key_at, key_text}
 use Rattle.key_kind.proofs.KeyTests.{same_key_is}
-use Rattle.segment_bytes.specs.SegmentText.{segment_of}
+use Rattle.segment_bytes.specs.Segments.{segment_of, segment_text, sheet_spelled}
 use Rattle.index_tree.specs.IndexText.{index_of}
 use Rattle.store_model.specs.declared.chain.ChainMark.{ChainMark}
 use Rattle.store_model.specs.declared.chain.ChainMark.TheVariants as marks
@@ -48,15 +51,15 @@ abbrev mark_put : ℕ → ℕ → ChainMark → List (Key × Bytes)
 mark_put serial before mark = (w.key kinds.Version serial, entry_text (kept.entry before mark)) ∷ []
 
 hold_try : IsTry S false (mark_put 3 2 (marks.Hold kept.holder 0)) (w.key kinds.Version 3)
-unfolding entry_of key_at signed_text
+unfolding entry_of key_at key_text signed_text
 hold_try = record { first = []; body = entry_text (kept.entry 2 (marks.Hold kept.holder 0)); element = kept.entry 2 (marks.Hold kept.holder 0); is = refl; entry_is = (refl, refl); spelled = refl; before = of_mark; of_kind = refl }
 
 tomb_try : IsTry S false (mark_put 4 3 (marks.Tomb 0)) (w.key kinds.Version 4)
-unfolding entry_of key_at signed_text
+unfolding entry_of key_at key_text signed_text
 tomb_try = record { first = []; body = entry_text (kept.entry 3 (marks.Tomb 0)); element = kept.entry 3 (marks.Tomb 0); is = refl; entry_is = (refl, refl); spelled = refl; before = of_mark; of_kind = refl }
 
 release_try : IsTry S false (mark_put 5 4 (marks.Release kept.holder)) (w.key kinds.Version 5)
-unfolding entry_of key_at signed_text
+unfolding entry_of key_at key_text signed_text
 release_try = record { first = []; body = entry_text (kept.entry 4 (marks.Release kept.holder)); element = kept.entry 4 (marks.Release kept.holder); is = refl; entry_is = (refl, refl); spelled = refl; before = of_mark; of_kind = refl }
 
 -- ---- the snapshot
@@ -78,7 +81,7 @@ only_S symbol e = elim (same_name S symbol) as (λ b. (cond b (after_changes (st
     before = w.put_first ∷ w.put_index ∷ w.put_tile ∷ []
 
 pub snapshot_is_legal : IsLegalSeen kept.kept one (commands.Snapshot k []) kept_reply (window 4 7)
-unfolding snap_of key_at signed_text
+unfolding snap_of key_at key_text signed_text
 snapshot_is_legal = record {
   after = lit≤ tt;
   before = lit≤ tt;
@@ -162,11 +165,11 @@ abbrev link : Linked
 link = record { row = w.row; index = w.index; tiles = (w.part, w.table) ∷ [] }
 
 links_deleted : links kept.deleted S ≡ link ∷ []
-unfolding segment_of index_of entry_of key_at is_utf8 chars encode signed_text
+unfolding index_of entry_of segment_text sheet_text cells_text segment_of sheet_spelled sheet_at rows_at count_at stamps_at stamp_at columns_at series_at head_at type_at length_at name_at text_at cells_at is_utf8 chars encode signed_text key_at key_text
 links_deleted = refl
 
 links_released : links kept.released S ≡ link ∷ []
-unfolding segment_of index_of entry_of key_at is_utf8 chars encode signed_text
+unfolding index_of entry_of segment_text sheet_text cells_text segment_of sheet_spelled sheet_at rows_at count_at stamps_at stamp_at columns_at series_at head_at type_at length_at name_at text_at cells_at is_utf8 chars encode signed_text key_at key_text
 links_released = refl
 
 -- a held version's keys are not dead
@@ -213,7 +216,7 @@ reclaim_of_nothing_is_legal = record {
 -- ---- a read through the snapshot
 
 pub snapshot_read_is_legal : IsLegalSeen kept.deleted one (commands.Read S (moments.Snapshot k) everything None) (reply 9 [] (outcomes.Whole 0 w.table)) (window 9 9)
-unfolding snap_of key_at signed_text
+unfolding snap_of key_at key_text signed_text
 snapshot_read_is_legal = record {
   after = lit≤ tt;
   before = lit≤ tt;
@@ -227,7 +230,7 @@ snapshot_read_is_legal = record {
 -- ---- the snapshot's end
 
 pub delete_snapshot_is_legal : IsLegalSeen kept.released one (commands.DeleteSnapshot k) (reply 10 (12 ∷ []) outcomes.Unkept) (window 9 12)
-unfolding snap_of key_at signed_text
+unfolding snap_of key_at key_text signed_text
 delete_snapshot_is_legal = record {
   after = lit≤ tt;
   before = lit≤ tt;
@@ -277,11 +280,11 @@ delete_snapshot_is_legal = record {
 -- ---- the reclaim that drops
 
 tile_dead : IsUnneeded kept.released (w.table_key kinds.TableData 0)
-unfolding segment_of index_of entry_of key_at is_utf8 chars encode signed_text
+unfolding index_of entry_of segment_text sheet_text cells_text segment_of sheet_spelled sheet_at rows_at count_at stamps_at stamp_at columns_at series_at head_at type_at length_at name_at text_at cells_at is_utf8 chars encode signed_text key_at key_text
 tile_dead = record { once = refl; no_more = refl }
 
 index_dead : IsUnneeded kept.released (w.table_key kinds.TableIndex 1)
-unfolding segment_of index_of entry_of key_at is_utf8 chars encode signed_text
+unfolding index_of entry_of segment_text sheet_text cells_text segment_of sheet_spelled sheet_at rows_at count_at stamps_at stamp_at columns_at series_at head_at type_at length_at name_at text_at cells_at is_utf8 chars encode signed_text key_at key_text
 index_dead = record { once = refl; no_more = refl }
 
 pub index_drops : IsDeadIndex kept.released S (w.table_key kinds.TableIndex 1)
@@ -351,7 +354,7 @@ reclaim_is_legal = record {
 -- ---- the snapshot stands no more
 
 pub gone_read_is_legal : IsLegalSeen kept.freed one (commands.Read S (moments.Snapshot k) everything None) (reply 14 [] (outcomes.Refused refusals.NoSuchSnapshot)) (window 14 14)
-unfolding snap_of key_at signed_text
+unfolding snap_of key_at key_text signed_text
 gone_read_is_legal = record {
   after = lit≤ tt;
   before = lit≤ tt;

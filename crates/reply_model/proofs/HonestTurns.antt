@@ -12,7 +12,7 @@ use Rattle.reply_model.specs.declared.command.Pick.{Pick}
 use Rattle.key_kind.specs.declared.key.Key.{Key}
 use Rattle.key_kind.specs.declared.key.Holder.{Holder}
 use Rattle.key_kind.specs.declared.key.KeyKind.TheVariants as kinds
-use Rattle.key_kind.specs.KeyText.{key_at}
+use Rattle.key_kind.specs.KeyText.{key_at, key_text}
 use Rattle.store_model.specs.declared.chain.ChainMark.{ChainMark}
 use Rattle.store_model.specs.declared.chain.ChainMark.TheVariants as marks
 use Rattle.store_model.specs.declared.chain.Entry.{Entry}
@@ -59,19 +59,19 @@ abbrev released : History
 released = events.Refer 3 S (Some (element_key 2 0)) (element_key 3 1) (changes.Released (holder 3) ∷ []) ∷ events.Put 3 (element_key 3 1) (entry_text (element (element_key 2 0) (marks.Release (holder 3)))) ∷ taken
 
 hold_2 : IsTry S false (puts (element_key 2 0) (element_key 3 0) (marks.Hold (holder 2) 0)) (element_key 2 0)
-unfolding entry_of key_at signed_text
+unfolding entry_of key_at key_text signed_text
 hold_2 = record { first = []; body = _; element = element (element_key 3 0) (marks.Hold (holder 2) 0); is = refl; entry_is = (refl, refl); spelled = refl; before = of_mark; of_kind = refl }
 
 hold_3 : IsTry S false (puts (element_key 3 0) (w.key kinds.Version 2) (marks.Hold (holder 3) 0)) (element_key 3 0)
-unfolding entry_of key_at signed_text
+unfolding entry_of key_at key_text signed_text
 hold_3 = record { first = []; body = _; element = element (w.key kinds.Version 2) (marks.Hold (holder 3) 0); is = refl; entry_is = (refl, refl); spelled = refl; before = of_mark; of_kind = refl }
 
 release_3 : IsTry S false (puts (element_key 3 1) (element_key 2 0) (marks.Release (holder 3))) (element_key 3 1)
-unfolding entry_of key_at signed_text
+unfolding entry_of key_at key_text signed_text
 release_3 = record { first = []; body = _; element = element (element_key 2 0) (marks.Release (holder 3)); is = refl; entry_is = (refl, refl); spelled = refl; before = of_mark; of_kind = refl }
 
 pub first_snapshot_is_legal : IsLegalSeen taken (client 2 8) named (reply 9 (8 ∷ []) (outcomes.Kept (record { symbol = S; version = 0; place = 8 } ∷ []))) (window 6 9)
-unfolding snap_of key_at signed_text
+unfolding snap_of key_at key_text signed_text
 first_snapshot_is_legal = record {
   after = lit≤ tt;
   before = lit≤ tt;
@@ -123,7 +123,7 @@ first_snapshot_is_legal = record {
 }
 
 pub second_snapshot_is_legal : IsLegalSeen released (client 3 8) named (reply 9 (6 ∷ 11 ∷ []) (outcomes.Refused refusals.SnapshotExists)) (window 4 11)
-unfolding snap_of key_at signed_text
+unfolding snap_of key_at key_text signed_text
 second_snapshot_is_legal = record {
   after = lit≤ tt;
   before = lit≤ tt;
@@ -188,7 +188,7 @@ abbrev mark_put : List (Key × Bytes)
 mark_put = puts (w.key kinds.Version 4) (w.key kinds.Version 3) (marks.Release kept.holder)
 
 release_try : IsTry S false mark_put (w.key kinds.Version 4)
-unfolding entry_of key_at signed_text
+unfolding entry_of key_at key_text signed_text
 release_try = record { first = []; body = _; element = element (w.key kinds.Version 3) (marks.Release kept.holder); is = refl; entry_is = (refl, refl); spelled = refl; before = of_mark; of_kind = refl }
 
 abbrev left : History
@@ -196,7 +196,7 @@ left = events.Drop 1 (w.key kinds.Version 4) ∷ events.Refer 2 S (Some (w.key k
     ∷ events.Put 1 (w.key kinds.Version 4) (entry_text (element (w.key kinds.Version 3) (marks.Release kept.holder))) ∷ events.Unname 1 k ∷ kept.kept
 
 pub hold_is_left : IsLegalSeen left (client 1 1) (commands.DeleteSnapshot k) (record { place = 8; listed = None; commits = []; left = S ∷ []; outcome = outcomes.Unkept }) (window 7 11)
-unfolding snap_of key_at signed_text
+unfolding snap_of key_at key_text signed_text
 hold_is_left = record {
   after = lit≤ tt;
   before = lit≤ tt;
@@ -233,7 +233,7 @@ hold_is_left = record {
 
 pub cut_end_is_legal : IsLegalSeen (events.Unname 1 k ∷ kept.kept) (client 1 8) (commands.DeleteSnapshot k)
     (record { place = 8; listed = None; commits = []; left = S ∷ []; outcome = outcomes.Refused refusals.NoMemory }) (window 7 8)
-unfolding snap_of key_at signed_text
+unfolding snap_of key_at key_text signed_text
 cut_end_is_legal = record {
   after = lit≤ tt;
   before = lit≤ tt;
@@ -271,15 +271,15 @@ moved = events.Refer 1 S (Some (w.key kinds.Version 3)) (w.key kinds.Version 5) 
     ∷ events.Refer 1 S (Some (w.key kinds.Version 2)) (w.key kinds.Version 3) (changes.Held kept.holder 0 ∷ []) ∷ events.Put 1 (w.key kinds.Version 3) (entry_text (element (w.key kinds.Version 2) (marks.Hold kept.holder 0))) ∷ begun
 
 hold_S : IsTry S false (puts (w.key kinds.Version 3) (w.key kinds.Version 2) (marks.Hold kept.holder 0)) (w.key kinds.Version 3)
-unfolding entry_of key_at signed_text
+unfolding entry_of key_at key_text signed_text
 hold_S = record { first = []; body = _; element = element (w.key kinds.Version 2) (marks.Hold kept.holder 0); is = refl; entry_is = (refl, refl); spelled = refl; before = of_mark; of_kind = refl }
 
 hold_X : IsTry X false (puts (x_key 1 4) (x_key 2 0) (marks.Hold kept.holder 0)) (x_key 1 4)
-unfolding entry_of key_at signed_text
+unfolding entry_of key_at key_text signed_text
 hold_X = record { first = []; body = _; element = element (x_key 2 0) (marks.Hold kept.holder 0); is = refl; entry_is = (refl, refl); spelled = refl; before = of_mark; of_kind = refl }
 
 release_S : IsTry S false (puts (w.key kinds.Version 5) (w.key kinds.Version 3) (marks.Release kept.holder)) (w.key kinds.Version 5)
-unfolding entry_of key_at signed_text
+unfolding entry_of key_at key_text signed_text
 release_S = record { first = []; body = _; element = element (w.key kinds.Version 3) (marks.Release kept.holder); is = refl; entry_is = (refl, refl); spelled = refl; before = of_mark; of_kind = refl }
 
 pub moved_snapshot_is_legal : IsLegalSeen moved (client 1 1) (commands.Snapshot k both) (reply 9 (7 ∷ 12 ∷ []) (outcomes.Refused (refusals.Moved 9))) (window 5 12)

@@ -1,4 +1,5 @@
 -- Honest replies are legal: a write and its read; a write whose refer failed after its effect; and an append that met another's, with one try and with two.
+use Rattle.segment_bytes.specs.Heads.{head_at, length_at, name_at, text_at, type_at}
 use Rattle.byte_fields.specs.Reading.{signed_text}
 use Rattle.std.proofs.Common.{ℕ, ◌≤◌, pos, true, false, List, [], ◌∷◌, Some, None, refl, inl, inr, lit≤, lit<}
 use Rattle.std.specs.Str.{is_utf8, chars}
@@ -13,8 +14,8 @@ use Rattle.bucket_core.specs.declared.event.Change.TheVariants as changes
 use Rattle.bucket_core.specs.History.{History, Bytes}
 use Rattle.key_kind.specs.declared.key.Key.{Key}
 use Rattle.key_kind.specs.declared.key.KeyKind.TheVariants as kinds
-use Rattle.key_kind.specs.KeyText.{key_at}
-use Rattle.segment_bytes.specs.SegmentText.{segment_text}
+use Rattle.key_kind.specs.KeyText.{key_at, key_text}
+use Rattle.segment_bytes.specs.Segments.{segment_text}
 use Rattle.index_tree.specs.declared.index.Index.{Index}
 use Rattle.index_tree.specs.IndexText.{index_text, index_of}
 use Rattle.store_model.specs.declared.chain.LinkRow.{LinkRow}
@@ -64,7 +65,7 @@ abbrev pub puts : List (Key × Bytes)
 puts = (w.table_key kinds.TableData 0, segment_text w.table) ∷ (w.table_key kinds.TableIndex 1, index_text w.index) ∷ (w.key kinds.Version 2, entry_text w.first_entry) ∷ []
 
 pub is_try : IsTry S true puts (w.key kinds.Version 2)
-unfolding index_of entry_of key_at is_utf8 chars encode signed_text
+unfolding index_of entry_of head_at type_at length_at name_at text_at is_utf8 chars encode key_at key_text signed_text
 is_try = record {
   first = (w.table_key kinds.TableData 0, segment_text w.table) ∷ (w.table_key kinds.TableIndex 1, index_text w.index) ∷ [];
   body = entry_text w.first_entry;
@@ -175,7 +176,7 @@ abbrev append_puts : ℕ → List (Key × Bytes)
 append_puts c = (shared.tile_key c 0, segment_text shared.added) ∷ (shared.index_key c 1, index_text (shared.index c 0)) ∷ (shared.element_key c 2, entry_text (shared.entry c 1)) ∷ []
 
 is_append_2 : IsTry S true (append_puts 2) (shared.element_key 2 2)
-unfolding index_of entry_of key_at is_utf8 chars encode signed_text
+unfolding index_of entry_of head_at type_at length_at name_at text_at is_utf8 chars encode key_at key_text signed_text
 is_append_2 = record {
   first = (shared.tile_key 2 0, segment_text shared.added) ∷ (shared.index_key 2 1, index_text (shared.index 2 0)) ∷ [];
   body = entry_text (shared.entry 2 1);
@@ -188,7 +189,7 @@ is_append_2 = record {
 }
 
 is_append_3 : IsTry S true (append_puts 3) (shared.element_key 3 2)
-unfolding index_of entry_of key_at is_utf8 chars encode signed_text
+unfolding index_of entry_of head_at type_at length_at name_at text_at is_utf8 chars encode key_at key_text signed_text
 is_append_3 = record {
   first = (shared.tile_key 3 0, segment_text shared.added) ∷ (shared.index_key 3 1, index_text (shared.index 3 0)) ∷ [];
   body = entry_text (shared.entry 3 1);
@@ -278,7 +279,7 @@ abbrev last_puts : List (Key × Bytes)
 last_puts = (last_key, segment_text shared.added) ∷ (last_index_key, index_text last_index) ∷ (shared.element_key 3 5, entry_text last_entry) ∷ []
 
 is_last_append : IsTry S true last_puts (shared.element_key 3 5)
-unfolding index_of entry_of key_at is_utf8 chars encode signed_text
+unfolding index_of entry_of head_at type_at length_at name_at text_at is_utf8 chars encode key_at key_text signed_text
 is_last_append = record {
   first = (last_key, segment_text shared.added) ∷ (last_index_key, index_text last_index) ∷ [];
   body = entry_text last_entry;

@@ -5,7 +5,7 @@ use Rattle.std.specs.Prelude.{◌&&◌, not, MatchBool, nat_eq}
 use Rattle.std.specs.List.{list_any, flat_map}
 use Rattle.std.proofs.lemmas.Bool.{true≢false, or_parts, or_from, eqb-true}
 use Rattle.byte_fields.specs.Reading.{read_of}
-use Rattle.segment_bytes.specs.SegmentText.{segment_of}
+use Rattle.segment_bytes.specs.Segments.{segment_of}
 use Rattle.key_kind.specs.declared.key.KeyKind.TheVariants as kinds
 use Rattle.key_kind.specs.Names.{Name, same_name}
 use Rattle.key_kind.specs.Keys.{same_kind}

@@ -299,7 +299,7 @@ no_reclaim_that_keeps_the_dead l = stands (l.1.outcome.no_index (w.table_key kin
 
 -- a delete_snapshot that took the name away, released nothing, and names nothing as left
 pub no_left_that_hides : IsLegalReply (events.Unname 1 k ∷ after_snapshot) client (commands.DeleteSnapshot k) (reply 4 [] (outcomes.Refused refusals.NoMemory)) (window 3 4) → ⊥
-unfolding snap_of key_at signed_text
+unfolding snap_of key_at key_text signed_text
 no_left_that_hides l = absurd (no_names S [] l.1.left.left)
   where
     no_names : (n : Name) (ns : List Name) → [] ≡ n ∷ ns → ⊥
@@ -378,11 +378,11 @@ no_wide_key body m = omega (arith, m.fits.version)
 
 -- an element whose key before has the kind 1: the fault is at the kind, 2 bytes before the end, and not at the name's length behind it
 offset_of_a_wrong_kind : entry_of (65 ∷ 86 ∷ 69 ∷ 49 ∷ 1 ∷ 1 ∷ 0 ∷ []) ≡ Err 2
-unfolding entry_of key_at signed_text
+unfolding entry_of key_at key_text signed_text
 offset_of_a_wrong_kind = refl
 
 -- a snapshot of B and then A: the fault is at the name A, the last byte
 offset_of_a_falling_name : snap_of (65 ∷ 83 ∷ 78 ∷ 49 ∷ 0 ∷ 0 ∷ 0 ∷ 1 ∷ 0 ∷ 0 ∷ 0 ∷ 0 ∷ 0 ∷ 0 ∷ 0 ∷ 0 ∷ 0 ∷ 0 ∷ 0 ∷ 0 ∷ 0 ∷ 0 ∷ 0 ∷ 2
     ∷ ((1 ∷ 66 ∷ 0 ∷ 0 ∷ 0 ∷ 0 ∷ 0 ∷ 0 ∷ 0 ∷ 0 ∷ []) ++ key_text (key kinds.TableIndex 1 1) ++ (1 ∷ 65 ∷ []))) ≡ Err 1
-unfolding snap_of key_at signed_text
+unfolding snap_of key_at key_text signed_text
 offset_of_a_falling_name = refl

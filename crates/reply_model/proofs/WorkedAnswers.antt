@@ -1,4 +1,7 @@
 -- Small histories, computed: what the one-thread library answers in each.
+use Rattle.segment_bytes.specs.Heads.{head_at, length_at, name_at, text_at, type_at}
+use Rattle.segment_bytes.specs.Sheets.{columns_at, count_at, rows_at, series_at, sheet_at, sheet_text, stamp_at, stamps_at}
+use Rattle.segment_bytes.specs.CellTexts.{cells_at, cells_text}
 use Rattle.std.specs.Prelude.{◌≡◌, ℕ, pos, Bool, true, false, List, [], ◌∷◌, map, Option, Some, None, Ok, Err, refl}
 use Rattle.std.specs.Str.{is_utf8, chars}
 use lib.Utf8.{encode}
@@ -9,8 +12,8 @@ use Rattle.frame_core.specs.declared.column.Column.TheVariants as columns
 use Rattle.frame_core.specs.declared.refusal.Asked.TheVariants as asks
 use Rattle.frame_core.specs.declared.refusal.Refusal.{Refusal}
 use Rattle.frame_core.specs.declared.refusal.Refusal.TheVariants as refusals
-use Rattle.segment_bytes.specs.SegmentText.{segment_of}
-use Rattle.key_kind.specs.KeyText.{key_at}
+use Rattle.segment_bytes.specs.Segments.{segment_of, segment_text, sheet_spelled}
+use Rattle.key_kind.specs.KeyText.{key_at, key_text}
 use Rattle.bucket_core.specs.declared.event.Change.{Change}
 use Rattle.bucket_core.specs.declared.event.Change.TheVariants as changes
 use Rattle.bucket_core.specs.History.{History}
@@ -156,14 +159,14 @@ a_read_of_buried_versions_is_refused : reads after_prune (moments.Back 1) ≡ re
 a_read_of_buried_versions_is_refused = refl
 
 a_buried_version_is_read_through_its_snapshot : reads after_delete (moments.Snapshot k) ≡ whole 0 ((1, 1) ∷ [])
-unfolding snap_of key_at signed_text
+unfolding snap_of key_at key_text signed_text
 a_buried_version_is_read_through_its_snapshot = refl
 
 a_buried_version_is_not_read_by_its_number : reads after_delete (moments.Number 0) ≡ refuses (refusals.NoSuchVersion (asks.Number 0))
 a_buried_version_is_not_read_by_its_number = refl
 
 a_deleted_snapshot_is_not_read : reads after_release (moments.Snapshot k) ≡ refuses refusals.NoSuchSnapshot
-unfolding snap_of key_at signed_text
+unfolding snap_of key_at key_text signed_text
 a_deleted_snapshot_is_not_read = refl
 
 -- ---- versions, symbols and snapshots
@@ -182,7 +185,7 @@ symbols_tells_a_symbol_without_a_live_version : asked after_prune commands.Symbo
 symbols_tells_a_symbol_without_a_live_version = refl
 
 snapshots_tells_the_names_that_stand : asked after_snapshot commands.Snapshots ≡ tells (outcomes.Snapshots (k ∷ []))
-unfolding snap_of key_at signed_text
+unfolding snap_of key_at key_text signed_text
 snapshots_tells_the_names_that_stand = refl
 
 -- ---- delete and prune
@@ -214,15 +217,15 @@ a_snapshot_that_would_hold_nothing_is_refused : snapshot_answer (library_of afte
 a_snapshot_that_would_hold_nothing_is_refused = refl
 
 a_second_snapshot_of_a_name_is_refused : snapshot_answer (library_of after_snapshot) (holder 1 9) k [] ≡ Err refusals.SnapshotExists
-unfolding snap_of key_at signed_text
+unfolding snap_of key_at key_text signed_text
 a_second_snapshot_of_a_name_is_refused = refl
 
 a_deleted_snapshot_is_released : delete_snapshot_answer (library_of after_delete) k ≡ Ok (record { picks = []; marks = (S, changes.Released (holder 1 3)) ∷ [] })
-unfolding snap_of key_at signed_text
+unfolding snap_of key_at key_text signed_text
 a_deleted_snapshot_is_released = refl
 
 a_snapshot_is_deleted_once : delete_snapshot_answer (library_of after_release) k ≡ Err refusals.NoSuchSnapshot
-unfolding snap_of key_at signed_text
+unfolding snap_of key_at key_text signed_text
 a_snapshot_is_deleted_once = refl
 
 -- ---- staged pieces
@@ -231,7 +234,7 @@ abbrev finalizes : History → Bool → Bool → Option Answer
 finalizes h append sorted = asked h (commands.Finalize S append sorted None false)
 
 pieces_that_overlap_are_refused : finalizes after_stages false false ≡ refuses (refusals.StagedOverlap 2)
-unfolding segment_of is_utf8 chars encode signed_text
+unfolding segment_text sheet_text cells_text segment_of sheet_spelled sheet_at rows_at count_at stamps_at stamp_at columns_at series_at head_at type_at length_at name_at text_at cells_at is_utf8 chars encode signed_text
 pieces_that_overlap_are_refused = refl
 
 a_sorted_finalize_takes_pieces_that_overlap : finalizes after_stages false true ≡ Some (record {
@@ -239,11 +242,11 @@ a_sorted_finalize_takes_pieces_that_overlap : finalizes after_stages false true 
   marks = changes.Wrote (frame ((10, 1) ∷ (15, 3) ∷ (20, 2) ∷ (30, 4) ∷ (40, 5) ∷ [])) (pos 7)
       ∷ changes.Discarded (record { client = 1; serial = 0 } ∷ record { client = 1; serial = 1 } ∷ record { client = 1; serial = 2 } ∷ []) ∷ [];
 })
-unfolding segment_of is_utf8 chars encode signed_text
+unfolding segment_text sheet_text cells_text segment_of sheet_spelled sheet_at rows_at count_at stamps_at stamp_at columns_at series_at head_at type_at length_at name_at text_at cells_at is_utf8 chars encode signed_text
 a_sorted_finalize_takes_pieces_that_overlap = refl
 
 a_finalize_finds_no_piece_twice : finalizes after_finalize false true ≡ refuses refusals.NoStaged
-unfolding segment_of is_utf8 chars encode signed_text
+unfolding segment_text sheet_text cells_text segment_of sheet_spelled sheet_at rows_at count_at stamps_at stamp_at columns_at series_at head_at type_at length_at name_at text_at cells_at is_utf8 chars encode signed_text
 a_finalize_finds_no_piece_twice = refl
 
 -- a piece at 8 behind a version that ends at 9
@@ -251,15 +254,15 @@ abbrev after_early_stage : History
 after_early_stage = stage 6 ((8, 1) ∷ []) ∷ after_append
 
 a_finalize_that_appends_refuses_what_an_append_does : finalizes after_early_stage true false ≡ refuses (refusals.AppendBefore (pos 9) (pos 8))
-unfolding segment_of is_utf8 chars encode signed_text
+unfolding segment_text sheet_text cells_text segment_of sheet_spelled sheet_at rows_at count_at stamps_at stamp_at columns_at series_at head_at type_at length_at name_at text_at cells_at is_utf8 chars encode signed_text
 a_finalize_that_appends_refuses_what_an_append_does = refl
 
 a_discard_consumes_the_open_pieces : asked after_early_stage (commands.Discard S) ≡ Some (record { outcome = outcomes.Discarded 1; marks = changes.Discarded (record { client = 1; serial = 6 } ∷ []) ∷ [] })
-unfolding segment_of is_utf8 chars encode signed_text
+unfolding segment_text sheet_text cells_text segment_of sheet_spelled sheet_at rows_at count_at stamps_at stamp_at columns_at series_at head_at type_at length_at name_at text_at cells_at is_utf8 chars encode signed_text
 a_discard_consumes_the_open_pieces = refl
 
 a_discard_finds_no_piece_twice : asked after_finalize (commands.Discard S) ≡ refuses refusals.NoStaged
-unfolding segment_of is_utf8 chars encode signed_text
+unfolding segment_text sheet_text cells_text segment_of sheet_spelled sheet_at rows_at count_at stamps_at stamp_at columns_at series_at head_at type_at length_at name_at text_at cells_at is_utf8 chars encode signed_text
 a_discard_finds_no_piece_twice = refl
 
 -- pieces of a list

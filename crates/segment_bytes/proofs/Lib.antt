@@ -1,0 +1,11 @@
+pub mod HeadLaws
+pub mod CellLaws
+pub mod SheetLaws
+pub mod Turning
+pub mod SegmentLaws
+pub mod Skips
+pub mod Walks
+pub mod Finds
+pub mod ViewLaws
+pub mod Writes
+pub mod Getters

@@ -1,4 +1,20 @@
-//! The bytes of a segment: the one spelling of a timed frame.
+//! Frames as bytes: the one spelling of each, and views that read it where it lies.
 #![tactic(auto)]
 
-pub use base_types::NoMemory;
+mod cells;
+mod column_view;
+mod columns;
+mod heads;
+mod laws;
+mod sheet;
+mod viewing;
+mod writing;
+
+pub use column_view::ColumnView;
+pub use heads::{put_head, read_head, read_text, read_type, type_byte};
+pub use laws::one_spelling;
+pub use viewing::{SegFault, SegView, view};
+pub use writing::encode;
+
+#[cfg(test)]
+mod tests;

@@ -6,7 +6,7 @@ use Rattle.std.proofs.lemmas.Bool.{true≢false}
 use Rattle.frame_core.specs.Frames.{Frame}
 use Rattle.byte_fields.specs.Reading.{read_of}
 use Rattle.base_types.proofs.Lists.{contains_append, contains_cases, contains_none}
-use Rattle.segment_bytes.specs.SegmentText.{segment_of}
+use Rattle.segment_bytes.specs.Segments.{segment_of}
 use Rattle.index_tree.specs.declared.index.Slot.{Slot}
 use Rattle.index_tree.specs.declared.index.Index.{Index}
 use Rattle.segment_cut.specs.Tiles.{Tile}

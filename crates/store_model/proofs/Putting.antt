@@ -5,7 +5,7 @@ use Rattle.std.proofs.lemmas.Bool.{and_parts, eq-eqb}
 use Rattle.frame_core.specs.Frames.{Frame}
 use Rattle.byte_fields.specs.Reading.{read_of}
 use Rattle.base_types.proofs.Lists.{filter_in, in_filter, contains_append, contains_cases, contains_none}
-use Rattle.segment_bytes.specs.SegmentText.{segment_of}
+use Rattle.segment_bytes.specs.Segments.{segment_of}
 use Rattle.key_kind.specs.declared.key.KeyKind.{KeyKind}
 use Rattle.key_kind.specs.declared.key.KeyKind.TheVariants as kinds
 use Rattle.key_kind.specs.declared.key.Key.{Key}

@@ -1,4 +1,7 @@
 -- What may not follow: for each way to break the law a history, and an event that the law refuses behind it.
+use Rattle.segment_bytes.specs.Heads.{head_at, length_at, name_at, text_at, type_at}
+use Rattle.segment_bytes.specs.Sheets.{columns_at, count_at, rows_at, series_at, sheet_at, sheet_text, stamp_at, stamps_at}
+use Rattle.segment_bytes.specs.CellTexts.{cells_at, cells_text}
 use Rattle.byte_fields.specs.Reading.{signed_text}
 use Rattle.std.proofs.Common.{◌≡◌, ℕ, ℤ, false, List, [], ◌∷◌, sym, ap, inl, inr, arith, pos, Some, None, Option, subst, Ok, Result}
 use Rattle.std.specs.List.{AllByRecursion}
@@ -9,13 +12,13 @@ use Rattle.frame_core.specs.declared.cell.Cell.{Cell}
 use Rattle.frame_core.specs.declared.cell.Cell.TheVariants as cells
 use Rattle.frame_core.specs.Frames.{Row, Frame}
 use Rattle.segment_cut.specs.Tiles.{Tile, cut}
-use Rattle.segment_bytes.specs.SegmentText.{segment_of}
+use Rattle.segment_bytes.specs.Segments.{segment_of, segment_text, sheet_spelled}
 use Rattle.index_tree.specs.IndexText.{index_of}
 use Rattle.key_kind.specs.declared.key.KeyKind.{KeyKind}
 use Rattle.key_kind.specs.declared.key.KeyKind.TheVariants as kinds
 use Rattle.key_kind.specs.Keys.{reference_key}
 use Rattle.key_kind.specs.declared.key.Key.{Key}
-use Rattle.key_kind.specs.KeyText.{key_at}
+use Rattle.key_kind.specs.KeyText.{key_at, key_text}
 use Rattle.bucket_core.specs.declared.event.Change.{Change}
 use Rattle.bucket_core.specs.declared.event.Change.TheVariants as changes
 use Rattle.bucket_core.specs.declared.event.Event.{Event}
@@ -62,12 +65,12 @@ no_hold_of_a_buried_version may = true≢false (sym may.1.fits.0.1.live)
 
 -- a Release of a hold whose snapshot stands
 pub no_release_under_a_name : MayFollow IsClaimed kept.kept (refer (Some (w.key kinds.Version 3)) (changes.Released kept.holder)) → ⊥
-unfolding snap_of key_at signed_text
+unfolding snap_of key_at key_text signed_text
 no_release_under_a_name may = elim may.1.fits.0.1.allowed [ inl own ↦ true≢false own.1 | inr unnamed ↦ true≢false (sym unnamed) ]
 
 -- a piece that is consumed a second time
 pub no_piece_twice : MayFollow IsClaimed shared.discarded (refer (Some (w.key kinds.Version 1)) (changes.Discarded (shared.piece ∷ []))) → ⊥
-unfolding segment_of is_utf8 chars encode signed_text
+unfolding segment_text sheet_text cells_text segment_of sheet_spelled sheet_at rows_at count_at stamps_at stamp_at columns_at series_at head_at type_at length_at name_at text_at cells_at is_utf8 chars encode signed_text
 no_piece_twice may = true≢false (sym may.1.fits.0.1.staged.0)
 
 -- ---- links
@@ -106,7 +109,7 @@ prepared = w.put_first ∷ w.put_index ∷ w.put_tile ∷ []
 
 -- a version whose tile holds another frame
 pub no_link_of_another_frame : MayFollow IsClaimed prepared (events.Refer 1 S None (w.key kinds.Version 2) (changes.Wrote other (pos 50) ∷ [])) → ⊥
-unfolding segment_of index_of entry_of key_at is_utf8 chars encode signed_text
+unfolding index_of entry_of segment_text sheet_text cells_text segment_of sheet_spelled sheet_at rows_at count_at stamps_at stamp_at columns_at series_at head_at type_at length_at name_at text_at cells_at is_utf8 chars encode signed_text key_at key_text
 no_link_of_another_frame may =
     let fits : FitsLink prepared 1 S may.1.row (record { number = 0; stamp = pos 50; frame = other }) = may.1.fits.0.0 in
     let row : w.row ≡ may.1.row = ap row_of_first may.1.spelled in
@@ -125,14 +128,14 @@ same_snapshot a b e = cc
 
 -- a snapshot over a version that nobody holds
 pub no_name_over_a_version_that_is_not_held : MayFollow IsClaimed w.written (events.Name 1 k (snap_text kept.snapshot)) → ⊥
-unfolding snap_of key_at signed_text
+unfolding snap_of key_at key_text signed_text
 no_name_over_a_version_that_is_not_held may =
     let same = same_snapshot kept.snapshot may.1.snapshot may.1.spelled in
     true≢false (sym (subst (λ (b : SnapBody). AllByRecursion (IsHeldRow w.written b.holder) b.rows) (sym same) may.1.rows).0.0)
 
 -- a second snapshot of one holder
 pub no_second_name_of_a_holder : MayFollow IsClaimed kept.kept (events.Name 1 S (snap_text kept.snapshot)) → ⊥
-unfolding snap_of key_at signed_text
+unfolding snap_of key_at key_text signed_text
 no_second_name_of_a_holder may =
     let same = same_snapshot kept.snapshot may.1.snapshot may.1.spelled in
     true≢false (subst (λ (b : SnapBody). has_name kept.kept b.holder ≡ false) (sym same) may.1.unnamed)
@@ -161,7 +164,7 @@ first_buried = events.Refer 1 S (Some (shared.element_key 2 2)) (w.key kinds.Ver
 
 -- a Drop of a tile that a live version shares
 pub no_drop_of_a_shared_tile : MayFollow IsClaimed first_buried (events.Drop 1 (w.table_key kinds.TableData 0)) → ⊥
-unfolding segment_of index_of entry_of key_at is_utf8 chars encode signed_text
+unfolding index_of entry_of segment_text sheet_text cells_text segment_of sheet_spelled sheet_at rows_at count_at stamps_at stamp_at columns_at series_at head_at type_at length_at name_at text_at cells_at is_utf8 chars encode signed_text key_at key_text
 no_drop_of_a_shared_tile may = elim may.1 [
   | inl unneeded ↦ true≢false unneeded.no_more
   | inr (inl piece) ↦ absurd (data_is_not_staged piece.staged)
@@ -170,7 +173,7 @@ no_drop_of_a_shared_tile may = elim may.1 [
 
 -- a Drop of a tile of a version that is buried and held
 pub no_drop_of_a_held_version : MayFollow IsClaimed kept.deleted (events.Drop 1 (w.table_key kinds.TableData 0)) → ⊥
-unfolding segment_of index_of entry_of key_at is_utf8 chars encode signed_text
+unfolding index_of entry_of segment_text sheet_text cells_text segment_of sheet_spelled sheet_at rows_at count_at stamps_at stamp_at columns_at series_at head_at type_at length_at name_at text_at cells_at is_utf8 chars encode signed_text key_at key_text
 no_drop_of_a_held_version may = elim may.1 [
   | inl unneeded ↦ true≢false unneeded.no_more
   | inr (inl piece) ↦ absurd (data_is_not_staged piece.staged)
@@ -179,7 +182,7 @@ no_drop_of_a_held_version may = elim may.1 [
 
 -- a Drop of an element of a chain
 pub no_drop_of_an_element : MayFollow IsClaimed w.deleted (events.Drop 1 (w.key kinds.Version 2)) → ⊥
-unfolding segment_of index_of entry_of key_at is_utf8 chars encode signed_text
+unfolding index_of entry_of segment_text sheet_text cells_text segment_of sheet_spelled sheet_at rows_at count_at stamps_at stamp_at columns_at series_at head_at type_at length_at name_at text_at cells_at is_utf8 chars encode signed_text key_at key_text
 no_drop_of_an_element may = elim may.1 [
   | inl unneeded ↦ true≢false (sym unneeded.once)
   | inr (inl piece) ↦ absurd (version_is_not_staged piece.staged)

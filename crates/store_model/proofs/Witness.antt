@@ -1,4 +1,7 @@
 -- A lawful history with real bodies: a write, a delete, and the drops of what is not needed any more. So the law can be met.
+use Rattle.segment_bytes.specs.Heads.{head_at, length_at, name_at, text_at, type_at}
+use Rattle.segment_bytes.specs.Sheets.{columns_at, count_at, rows_at, series_at, sheet_at, sheet_text, stamp_at, stamps_at}
+use Rattle.segment_bytes.specs.CellTexts.{cells_at, cells_text}
 use Rattle.byte_fields.specs.Reading.{signed_text}
 use Rattle.std.proofs.Common.{◌≡◌, ℕ, zero, suc, ◌<◌, ◌≤◌, pos, [], ◌∷◌, refl, inl, Some, None, arith, lit≤}
 use Rattle.std.specs.Prelude.{count_by, All}
@@ -7,7 +10,7 @@ use lib.Utf8.{encode}
 use Rattle.frame_core.specs.declared.part.Part.{Part}
 use Rattle.frame_core.specs.Frames.{Frame}
 use Rattle.frame_core.specs.Limits.{IsStorable}
-use Rattle.segment_bytes.specs.SegmentText.{segment_text, segment_of}
+use Rattle.segment_bytes.specs.Segments.{segment_text, segment_of, sheet_spelled}
 use Rattle.index_tree.specs.declared.index.Slot.{Slot}
 use Rattle.index_tree.specs.declared.index.Index.{Index}
 use Rattle.index_tree.specs.IndexText.{index_text, index_of}
@@ -21,7 +24,7 @@ use Rattle.std.specs.Prelude.{◌^◌}
 use Rattle.std.specs.Int.{w64}
 use Rattle.std.proofs.lemmas.Int.{fits_signed_from_abs}
 use Rattle.std.proofs.Common.{lit<}
-use Rattle.key_kind.specs.KeyText.{key_at}
+use Rattle.key_kind.specs.KeyText.{key_at, key_text}
 use Rattle.bucket_core.specs.declared.event.Change.TheVariants as changes
 use Rattle.bucket_core.specs.declared.event.Event.{Event}
 use Rattle.bucket_core.specs.declared.event.Event.TheVariants as events
@@ -109,15 +112,15 @@ pub version_fits : (serial : ℕ) → serial < 2 ^ 64 → FitsFields (key kinds.
 version_fits serial below = record { client = lit< tt; serial = below; version = lit< tt; first = fits_signed_from_abs w64 (pos 0) (lit< tt); last = fits_signed_from_abs w64 (pos 0) (lit< tt) }
 
 pub tile_claim : MayPut [] 1 (table_key kinds.TableData 0) (segment_text table)
-unfolding segment_of is_utf8 chars encode signed_text
+unfolding segment_text sheet_text cells_text segment_of sheet_spelled sheet_at rows_at count_at stamps_at stamp_at columns_at series_at head_at type_at length_at name_at text_at cells_at is_utf8 chars encode signed_text
 tile_claim = record { key_is = (table_key_rules kinds.TableData 0).0; fits = table_fits kinds.TableData 0 (lit< tt); own = refl; next = refl; spelled = refl }
 
 pub index_claim : MayPut (put_tile ∷ []) 1 (table_key kinds.TableIndex 1) (index_text index)
-unfolding index_of key_at is_utf8 chars encode signed_text
+unfolding index_of head_at type_at length_at name_at text_at is_utf8 chars encode key_at key_text signed_text
 index_claim = record { key_is = (table_key_rules kinds.TableIndex 1).1; fits = table_fits kinds.TableIndex 1 (lit< tt); own = refl; next = refl; spelled = refl }
 
 pub first_claim : MayPut (put_index ∷ put_tile ∷ []) 1 (key kinds.Version 2) (entry_text first_entry)
-unfolding entry_of key_at signed_text
+unfolding entry_of key_at key_text signed_text
 first_claim = record { key_is = version_key_rules 2; fits = version_fits 2 (lit< tt); own = refl; next = refl; spelled = refl }
 
 pub table_storable : IsStorable table
@@ -140,7 +143,7 @@ tiled = record { inside = ((lit≤ tt, lit≤ tt), tt); parts = (refl, tt); cell
     one_row (suc r) h = absurd (omega (arith, h))
 
 link_fits : FitsLink (put_first ∷ put_index ∷ put_tile ∷ []) 1 S row (record { number = 0; stamp = pos 50; frame = table })
-unfolding segment_of index_of key_at is_utf8 chars encode signed_text
+unfolding index_of segment_text sheet_text cells_text segment_of sheet_spelled sheet_at rows_at count_at stamps_at stamp_at columns_at series_at head_at type_at length_at name_at text_at cells_at is_utf8 chars encode signed_text key_at key_text
 link_fits = record {
   number = refl;
   stamp = refl;
@@ -160,7 +163,7 @@ link_fits = record {
 }
 
 pub write_claim : MayRefer (put_first ∷ put_index ∷ put_tile ∷ []) 1 S None (key kinds.Version 2) (changes.Wrote table (pos 50) ∷ [])
-unfolding entry_of key_at signed_text
+unfolding entry_of key_at key_text signed_text
 write_claim = record {
   kind = refl;
   name = refl;
@@ -175,11 +178,11 @@ write_claim = record {
 }
 
 second_claim : MayPut written 1 (key kinds.Version 3) (entry_text second_entry)
-unfolding entry_of key_at signed_text
+unfolding entry_of key_at key_text signed_text
 second_claim = record { key_is = version_key_rules 3; fits = version_fits 3 (lit< tt); own = refl; next = refl; spelled = refl }
 
 delete_claim : MayRefer (put_second ∷ written) 1 S (Some (key kinds.Version 2)) (key kinds.Version 3) (changes.Removed (0 ∷ []) ∷ [])
-unfolding entry_of key_at signed_text
+unfolding entry_of key_at key_text signed_text
 delete_claim = record {
   kind = refl;
   name = refl;
@@ -194,11 +197,11 @@ delete_claim = record {
 }
 
 tile_dead : IsUnneeded deleted (table_key kinds.TableData 0)
-unfolding segment_of index_of entry_of key_at is_utf8 chars encode signed_text
+unfolding index_of entry_of segment_text sheet_text cells_text segment_of sheet_spelled sheet_at rows_at count_at stamps_at stamp_at columns_at series_at head_at type_at length_at name_at text_at cells_at is_utf8 chars encode signed_text key_at key_text
 tile_dead = record { once = refl; no_more = refl }
 
 index_dead : IsUnneeded (events.Drop 1 (table_key kinds.TableData 0) ∷ deleted) (table_key kinds.TableIndex 1)
-unfolding segment_of index_of entry_of key_at is_utf8 chars encode signed_text
+unfolding index_of entry_of segment_text sheet_text cells_text segment_of sheet_spelled sheet_at rows_at count_at stamps_at stamp_at columns_at series_at head_at type_at length_at name_at text_at cells_at is_utf8 chars encode signed_text key_at key_text
 index_dead = record { once = refl; no_more = refl }
 
 -- the whole history: eight events

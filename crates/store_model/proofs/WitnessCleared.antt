@@ -1,16 +1,19 @@
 -- Lawful histories with real bodies: an update that clears a range, and a finalize of a staged piece.
+use Rattle.segment_bytes.specs.Heads.{head_at, length_at, name_at, text_at, type_at}
+use Rattle.segment_bytes.specs.Sheets.{columns_at, count_at, rows_at, series_at, sheet_at, sheet_text, stamp_at, stamps_at}
+use Rattle.segment_bytes.specs.CellTexts.{cells_at, cells_text}
 use Rattle.byte_fields.specs.Reading.{signed_text}
 use Rattle.std.proofs.Common.{pos, [], ◌∷◌, refl, inl, Some, lit<}
 use Rattle.std.specs.Int.{w64}
 use Rattle.std.proofs.lemmas.Int.{fits_signed_from_abs}
 use Rattle.std.specs.Str.{is_utf8, chars}
 use lib.Utf8.{encode}
-use Rattle.segment_bytes.specs.SegmentText.{segment_text, segment_of}
+use Rattle.segment_bytes.specs.Segments.{segment_text, segment_of, sheet_spelled}
 use Rattle.index_tree.specs.declared.index.Index.{Index}
 use Rattle.index_tree.specs.IndexText.{index_text, index_of}
 use Rattle.key_kind.specs.declared.key.Key.{Key}
 use Rattle.key_kind.specs.declared.key.KeyKind.TheVariants as kinds
-use Rattle.key_kind.specs.KeyText.{key_at}
+use Rattle.key_kind.specs.KeyText.{key_at, key_text}
 use Rattle.bucket_core.specs.declared.event.Change.TheVariants as changes
 use Rattle.bucket_core.specs.declared.event.Event.{Event}
 use Rattle.bucket_core.specs.declared.event.Event.TheVariants as events
@@ -63,7 +66,7 @@ abbrev pub cleared : History
 cleared = events.Refer 1 S (Some (w.key kinds.Version 2)) (w.key kinds.Version 4) (changes.Updated nothing range (pos 60) ∷ []) ∷ put_clear ∷ put_empty ∷ w.written
 
 empty_claim : MayPut w.written 1 index_key (index_text empty_index)
-unfolding index_of key_at is_utf8 chars encode signed_text
+unfolding index_of head_at type_at length_at name_at text_at is_utf8 chars encode key_at key_text signed_text
 empty_claim = record {
   key_is = record { name = w.name_S; made = λ e. absurd cc; version = λ e. absurd cc; stamps = λ e. absurd cc };
   fits = record { client = lit< tt; serial = lit< tt; version = lit< tt; first = fits_signed_from_abs w64 (pos 0) (lit< tt); last = fits_signed_from_abs w64 (pos 0) (lit< tt) };
@@ -73,7 +76,7 @@ empty_claim = record {
 }
 
 clear_put_claim : MayPut (put_empty ∷ w.written) 1 (w.key kinds.Version 4) (entry_text clear_entry)
-unfolding entry_of key_at signed_text
+unfolding entry_of key_at key_text signed_text
 clear_put_claim = record { key_is = w.version_key_rules 4; fits = w.version_fits 4 (lit< tt); own = refl; next = refl; spelled = refl }
 
 nothing_storable : IsStorable nothing
@@ -83,7 +86,7 @@ nothing_tiled : Tiled nothing []
 nothing_tiled = record { inside = tt; parts = tt; cells = λ r c below k. absurd (omega (arith, below)); rows = λ r below. absurd (omega (arith, below)) }
 
 clear_fits : FitsLink (put_clear ∷ put_empty ∷ w.written) 1 S empty_row (record { number = 1; stamp = pos 60; frame = nothing })
-unfolding segment_of index_of entry_of key_at is_utf8 chars encode signed_text
+unfolding index_of entry_of segment_text sheet_text cells_text segment_of sheet_spelled sheet_at rows_at count_at stamps_at stamp_at columns_at series_at head_at type_at length_at name_at text_at cells_at is_utf8 chars encode signed_text key_at key_text
 clear_fits = record {
   number = refl;
   stamp = refl;
@@ -106,7 +109,7 @@ in_order : pos 1 ≤ℤ pos 1
 in_order = omega arith
 
 clear_claim : MayRefer (put_clear ∷ put_empty ∷ w.written) 1 S (Some (w.key kinds.Version 2)) (w.key kinds.Version 4) (changes.Updated nothing range (pos 60) ∷ [])
-unfolding entry_of key_at signed_text
+unfolding entry_of key_at key_text signed_text
 clear_claim = record {
   kind = refl;
   name = refl;
@@ -160,7 +163,7 @@ abbrev pub finalized : History
 finalized = events.Refer 1 S None (w.key kinds.Version 3) (changes.Wrote w.table (pos 60) ∷ changes.Discarded (piece ∷ []) ∷ []) ∷ prepared
 
 piece_claim : MayPut [] 1 piece_key (segment_text w.table)
-unfolding segment_of is_utf8 chars encode signed_text
+unfolding segment_text sheet_text cells_text segment_of sheet_spelled sheet_at rows_at count_at stamps_at stamp_at columns_at series_at head_at type_at length_at name_at text_at cells_at is_utf8 chars encode signed_text
 piece_claim = record {
   key_is = record { name = w.name_S; made = λ e. absurd cc; version = λ e. refl; stamps = λ e. absurd cc };
   fits = record { client = lit< tt; serial = lit< tt; version = lit< tt; first = fits_signed_from_abs w64 (pos 1) (lit< tt); last = fits_signed_from_abs w64 (pos 1) (lit< tt) };
@@ -170,19 +173,19 @@ piece_claim = record {
 }
 
 tile_claim : MayPut (put_piece ∷ []) 1 (w.table_key kinds.TableData 1) (segment_text w.table)
-unfolding segment_of is_utf8 chars encode signed_text
+unfolding segment_text sheet_text cells_text segment_of sheet_spelled sheet_at rows_at count_at stamps_at stamp_at columns_at series_at head_at type_at length_at name_at text_at cells_at is_utf8 chars encode signed_text
 tile_claim = record { key_is = (w.table_key_rules kinds.TableData 1).0; fits = w.table_fits kinds.TableData 1 (lit< tt); own = refl; next = refl; spelled = refl }
 
 index_claim : MayPut (put_tile ∷ put_piece ∷ []) 1 (w.table_key kinds.TableIndex 2) (index_text final_index)
-unfolding index_of key_at is_utf8 chars encode signed_text
+unfolding index_of head_at type_at length_at name_at text_at is_utf8 chars encode key_at key_text signed_text
 index_claim = record { key_is = (w.table_key_rules kinds.TableIndex 2).1; fits = w.table_fits kinds.TableIndex 2 (lit< tt); own = refl; next = refl; spelled = refl }
 
 final_put_claim : MayPut (put_index ∷ put_tile ∷ put_piece ∷ []) 1 (w.key kinds.Version 3) (entry_text final_entry)
-unfolding entry_of key_at signed_text
+unfolding entry_of key_at key_text signed_text
 final_put_claim = record { key_is = w.version_key_rules 3; fits = w.version_fits 3 (lit< tt); own = refl; next = refl; spelled = refl }
 
 final_fits : FitsLink prepared 1 S final_row (record { number = 0; stamp = pos 60; frame = w.table })
-unfolding segment_of index_of entry_of key_at is_utf8 chars encode signed_text
+unfolding index_of entry_of segment_text sheet_text cells_text segment_of sheet_spelled sheet_at rows_at count_at stamps_at stamp_at columns_at series_at head_at type_at length_at name_at text_at cells_at is_utf8 chars encode signed_text key_at key_text
 final_fits = record {
   number = refl;
   stamp = refl;
@@ -202,7 +205,7 @@ final_fits = record {
 }
 
 final_claim : MayRefer prepared 1 S None (w.key kinds.Version 3) (changes.Wrote w.table (pos 60) ∷ changes.Discarded (piece ∷ []) ∷ [])
-unfolding segment_of entry_of key_at is_utf8 chars encode signed_text
+unfolding entry_of segment_text sheet_text cells_text segment_of sheet_spelled sheet_at rows_at count_at stamps_at stamp_at columns_at series_at head_at type_at length_at name_at text_at cells_at is_utf8 chars encode signed_text key_at key_text
 final_claim = record {
   kind = refl;
   name = refl;

@@ -1,13 +1,16 @@
 -- A lawful history with real bodies: a write, a snapshot, a delete, the snapshot's end, and the drops of what is not needed any more.
+use Rattle.segment_bytes.specs.Heads.{head_at, length_at, name_at, text_at, type_at}
+use Rattle.segment_bytes.specs.Sheets.{columns_at, count_at, rows_at, series_at, sheet_at, sheet_text, stamp_at, stamps_at}
+use Rattle.segment_bytes.specs.CellTexts.{cells_at, cells_text}
 use Rattle.byte_fields.specs.Reading.{signed_text}
 use Rattle.std.proofs.Common.{ℕ, [], ◌∷◌, refl, inl, inr, Some, lit<}
 use Rattle.std.specs.Str.{is_utf8, chars}
 use lib.Utf8.{encode}
-use Rattle.segment_bytes.specs.SegmentText.{segment_of}
+use Rattle.segment_bytes.specs.Segments.{segment_of, segment_text, sheet_spelled}
 use Rattle.index_tree.specs.IndexText.{index_of}
 use Rattle.key_kind.specs.declared.key.Holder.{Holder}
 use Rattle.key_kind.specs.declared.key.KeyKind.TheVariants as kinds
-use Rattle.key_kind.specs.KeyText.{key_at}
+use Rattle.key_kind.specs.KeyText.{key_at, key_text}
 use Rattle.bucket_core.specs.declared.event.Change.{Change}
 use Rattle.bucket_core.specs.declared.event.Change.TheVariants as changes
 use Rattle.bucket_core.specs.declared.event.Event.{Event}
@@ -64,11 +67,11 @@ freed = events.Drop 1 (w.table_key kinds.TableIndex 1) ∷ events.Drop 1 (w.tabl
 -- ---- the claims
 
 put_hold_claim : MayPut w.written 1 (w.key kinds.Version 3) (entry_text (entry 2 (marks.Hold holder 0)))
-unfolding entry_of key_at signed_text
+unfolding entry_of key_at key_text signed_text
 put_hold_claim = record { key_is = w.version_key_rules 3; fits = w.version_fits 3 (lit< tt); own = refl; next = refl; spelled = refl }
 
 hold_claim : MayRefer (put_mark 3 2 (marks.Hold holder 0) ∷ w.written) 1 S (Some (w.key kinds.Version 2)) (w.key kinds.Version 3) (changes.Held holder 0 ∷ [])
-unfolding entry_of key_at signed_text
+unfolding entry_of key_at key_text signed_text
 hold_claim = record {
   kind = refl;
   name = refl;
@@ -83,15 +86,15 @@ hold_claim = record {
 }
 
 name_claim : MayName held 1 (snap_text snapshot)
-unfolding snap_of segment_of index_of entry_of key_at is_utf8 chars encode signed_text
+unfolding snap_of index_of entry_of segment_text sheet_text cells_text segment_of sheet_spelled sheet_at rows_at count_at stamps_at stamp_at columns_at series_at head_at type_at length_at name_at text_at cells_at is_utf8 chars encode signed_text key_at key_text
 name_claim = record { snapshot = snapshot; spelled = refl; own = refl; unnamed = refl; rows = ((refl, refl), tt) }
 
 put_tomb_claim : MayPut kept 1 (w.key kinds.Version 4) (entry_text (entry 3 (marks.Tomb 0)))
-unfolding entry_of key_at signed_text
+unfolding entry_of key_at key_text signed_text
 put_tomb_claim = record { key_is = w.version_key_rules 4; fits = w.version_fits 4 (lit< tt); own = refl; next = refl; spelled = refl }
 
 tomb_claim : MayRefer (put_mark 4 3 (marks.Tomb 0) ∷ kept) 1 S (Some (w.key kinds.Version 3)) (w.key kinds.Version 4) (changes.Removed (0 ∷ []) ∷ [])
-unfolding entry_of key_at signed_text
+unfolding entry_of key_at key_text signed_text
 tomb_claim = record {
   kind = refl;
   name = refl;
@@ -106,11 +109,11 @@ tomb_claim = record {
 }
 
 put_release_claim : MayPut unnamed 1 (w.key kinds.Version 5) (entry_text (entry 4 (marks.Release holder)))
-unfolding entry_of key_at signed_text
+unfolding entry_of key_at key_text signed_text
 put_release_claim = record { key_is = w.version_key_rules 5; fits = w.version_fits 5 (lit< tt); own = refl; next = refl; spelled = refl }
 
 release_claim : MayRefer (put_mark 5 4 (marks.Release holder) ∷ unnamed) 1 S (Some (w.key kinds.Version 4)) (w.key kinds.Version 5) (changes.Released holder ∷ [])
-unfolding entry_of snap_of key_at signed_text
+unfolding entry_of snap_of key_at key_text signed_text
 release_claim = record {
   kind = refl;
   name = refl;
@@ -125,11 +128,11 @@ release_claim = record {
 }
 
 tile_dead : IsUnneeded released (w.table_key kinds.TableData 0)
-unfolding segment_of index_of entry_of key_at is_utf8 chars encode signed_text
+unfolding index_of entry_of segment_text sheet_text cells_text segment_of sheet_spelled sheet_at rows_at count_at stamps_at stamp_at columns_at series_at head_at type_at length_at name_at text_at cells_at is_utf8 chars encode signed_text key_at key_text
 tile_dead = record { once = refl; no_more = refl }
 
 index_dead : IsUnneeded (events.Drop 1 (w.table_key kinds.TableData 0) ∷ released) (w.table_key kinds.TableIndex 1)
-unfolding segment_of index_of entry_of key_at is_utf8 chars encode signed_text
+unfolding index_of entry_of segment_text sheet_text cells_text segment_of sheet_spelled sheet_at rows_at count_at stamps_at stamp_at columns_at series_at head_at type_at length_at name_at text_at cells_at is_utf8 chars encode signed_text key_at key_text
 index_dead = record { once = refl; no_more = refl }
 
 -- the whole history: fourteen events

@@ -1,15 +1,18 @@
 -- A lawful history with real bodies: two clients put an append each on one base; the one refers, and the other drops what it put.
+use Rattle.segment_bytes.specs.Heads.{head_at, length_at, name_at, text_at, type_at}
+use Rattle.segment_bytes.specs.Sheets.{columns_at, count_at, rows_at, series_at, sheet_at, sheet_text, stamp_at, stamps_at}
+use Rattle.segment_bytes.specs.CellTexts.{cells_at, cells_text}
 use Rattle.byte_fields.specs.Reading.{signed_text}
 use Rattle.std.proofs.Common.{ℕ, ◌<◌, pos, [], ◌∷◌, refl, inl, inr, Some, lit<}
 use Rattle.std.specs.Int.{w64}
 use Rattle.std.proofs.lemmas.Int.{fits_signed_from_abs}
 use Rattle.std.specs.Str.{is_utf8, chars}
 use lib.Utf8.{encode}
-use Rattle.segment_bytes.specs.SegmentText.{segment_text, segment_of}
+use Rattle.segment_bytes.specs.Segments.{segment_text, segment_of, sheet_spelled}
 use Rattle.index_tree.specs.IndexText.{index_text, index_of}
 use Rattle.key_kind.specs.declared.key.KeyKind.TheVariants as kinds
 use Rattle.key_kind.specs.Keys.{IsKey, FitsFields}
-use Rattle.key_kind.specs.KeyText.{key_at}
+use Rattle.key_kind.specs.KeyText.{key_at, key_text}
 use Rattle.bucket_core.specs.declared.event.Change.TheVariants as changes
 use Rattle.bucket_core.specs.declared.event.Event.TheVariants as events
 use Rattle.bucket_core.specs.History.{History}
@@ -54,33 +57,33 @@ element_rules : (client serial : ℕ) → IsKey (shared.element_key client seria
 element_rules client serial = record { name = w.name_S; made = λ e. absurd cc; version = λ e. refl; stamps = λ e. (refl, refl) }
 
 tile_claim_3 : MayPut (w.written) 3 (shared.tile_key 3 0) (segment_text shared.added)
-unfolding segment_of is_utf8 chars encode signed_text
+unfolding segment_text sheet_text cells_text segment_of sheet_spelled sheet_at rows_at count_at stamps_at stamp_at columns_at series_at head_at type_at length_at name_at text_at cells_at is_utf8 chars encode signed_text
 tile_claim_3 = record { key_is = tile_rules 3 0; fits = tile_fits 3 0 (lit< tt) (lit< tt); own = refl; next = refl; spelled = refl }
 
 index_claim_3 : MayPut (shared.put_tile 3 0 ∷ w.written) 3 (shared.index_key 3 1) (index_text (shared.index 3 0))
-unfolding index_of key_at is_utf8 chars encode signed_text
+unfolding index_of head_at type_at length_at name_at text_at is_utf8 chars encode key_at key_text signed_text
 index_claim_3 = record { key_is = index_rules 3 1; fits = index_fits 3 1 (lit< tt) (lit< tt); own = refl; next = refl; spelled = refl }
 
 element_claim_3 : MayPut (shared.put_index 3 1 0 ∷ shared.put_tile 3 0 ∷ w.written) 3 (shared.element_key 3 2) (entry_text (shared.entry 3 1))
-unfolding entry_of key_at signed_text
+unfolding entry_of key_at key_text signed_text
 element_claim_3 = record { key_is = element_rules 3 2; fits = element_fits 3 2 (lit< tt) (lit< tt); own = refl; next = refl; spelled = refl }
 
 tile_claim_2 : MayPut (put_3) 2 (shared.tile_key 2 0) (segment_text shared.added)
-unfolding segment_of is_utf8 chars encode signed_text
+unfolding segment_text sheet_text cells_text segment_of sheet_spelled sheet_at rows_at count_at stamps_at stamp_at columns_at series_at head_at type_at length_at name_at text_at cells_at is_utf8 chars encode signed_text
 tile_claim_2 = record { key_is = tile_rules 2 0; fits = tile_fits 2 0 (lit< tt) (lit< tt); own = refl; next = refl; spelled = refl }
 
 index_claim_2 : MayPut (shared.put_tile 2 0 ∷ put_3) 2 (shared.index_key 2 1) (index_text (shared.index 2 0))
-unfolding index_of key_at is_utf8 chars encode signed_text
+unfolding index_of head_at type_at length_at name_at text_at is_utf8 chars encode key_at key_text signed_text
 index_claim_2 = record { key_is = index_rules 2 1; fits = index_fits 2 1 (lit< tt) (lit< tt); own = refl; next = refl; spelled = refl }
 
 element_claim_2 : MayPut (shared.put_index 2 1 0 ∷ shared.put_tile 2 0 ∷ put_3) 2 (shared.element_key 2 2) (entry_text (shared.entry 2 1))
-unfolding entry_of key_at signed_text
+unfolding entry_of key_at key_text signed_text
 element_claim_2 = record { key_is = element_rules 2 2; fits = element_fits 2 2 (lit< tt) (lit< tt); own = refl; next = refl; spelled = refl }
 
 -- ---- the Refer
 
 link_fits : FitsLink put_both 2 S (shared.row 2 1) (record { number = 1; stamp = pos 60; frame = shared.both })
-unfolding segment_of index_of entry_of key_at is_utf8 chars encode signed_text
+unfolding index_of entry_of segment_text sheet_text cells_text segment_of sheet_spelled sheet_at rows_at count_at stamps_at stamp_at columns_at series_at head_at type_at length_at name_at text_at cells_at is_utf8 chars encode signed_text key_at key_text
 link_fits = record {
   number = refl;
   stamp = refl;
@@ -103,7 +106,7 @@ link_fits = record {
 }
 
 append_claim : MayRefer put_both 2 S (Some (w.key kinds.Version 2)) (shared.element_key 2 2) (changes.Appended shared.added (pos 60) ∷ [])
-unfolding entry_of key_at signed_text
+unfolding entry_of key_at key_text signed_text
 append_claim = record {
   kind = refl;
   name = refl;
@@ -120,15 +123,15 @@ append_claim = record {
 -- ---- the drops of own keys that nothing links
 
 tile_dead : IsOwnUnlinked accepted (shared.tile_key 3 0) 3
-unfolding segment_of index_of entry_of key_at is_utf8 chars encode signed_text
+unfolding index_of entry_of segment_text sheet_text cells_text segment_of sheet_spelled sheet_at rows_at count_at stamps_at stamp_at columns_at series_at head_at type_at length_at name_at text_at cells_at is_utf8 chars encode signed_text key_at key_text
 tile_dead = record { own = refl; table = refl; unreached = refl; no_entry = refl }
 
 index_dead : IsOwnUnlinked (events.Drop 3 (shared.tile_key 3 0) ∷ accepted) (shared.index_key 3 1) 3
-unfolding segment_of index_of entry_of key_at is_utf8 chars encode signed_text
+unfolding index_of entry_of segment_text sheet_text cells_text segment_of sheet_spelled sheet_at rows_at count_at stamps_at stamp_at columns_at series_at head_at type_at length_at name_at text_at cells_at is_utf8 chars encode signed_text key_at key_text
 index_dead = record { own = refl; table = refl; unreached = refl; no_entry = refl }
 
 element_dead : IsOwnUnlinked (events.Drop 3 (shared.index_key 3 1) ∷ events.Drop 3 (shared.tile_key 3 0) ∷ accepted) (shared.element_key 3 2) 3
-unfolding segment_of index_of entry_of key_at is_utf8 chars encode signed_text
+unfolding index_of entry_of segment_text sheet_text cells_text segment_of sheet_spelled sheet_at rows_at count_at stamps_at stamp_at columns_at series_at head_at type_at length_at name_at text_at cells_at is_utf8 chars encode signed_text key_at key_text
 element_dead = record { own = refl; table = refl; unreached = refl; no_entry = refl }
 
 -- fourteen events of three clients

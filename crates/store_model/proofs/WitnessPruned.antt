@@ -1,18 +1,21 @@
 -- A lawful history with real bodies: a write, a second client's write that buries it, and the drops of the first write's keys.
+use Rattle.segment_bytes.specs.Heads.{head_at, length_at, name_at, text_at, type_at}
+use Rattle.segment_bytes.specs.Sheets.{columns_at, count_at, rows_at, series_at, sheet_at, sheet_text, stamp_at, stamps_at}
+use Rattle.segment_bytes.specs.CellTexts.{cells_at, cells_text}
 use Rattle.byte_fields.specs.Reading.{signed_text}
 use Rattle.std.proofs.Common.{ℕ, ◌<◌, pos, [], ◌∷◌, refl, inl, Some, lit<}
 use Rattle.std.specs.Int.{w64}
 use Rattle.std.proofs.lemmas.Int.{fits_signed_from_abs}
 use Rattle.std.specs.Str.{is_utf8, chars}
 use lib.Utf8.{encode}
-use Rattle.segment_bytes.specs.SegmentText.{segment_text, segment_of}
+use Rattle.segment_bytes.specs.Segments.{segment_text, segment_of, sheet_spelled}
 use Rattle.index_tree.specs.declared.index.Index.{Index}
 use Rattle.index_tree.specs.IndexText.{index_text, index_of}
 use Rattle.key_kind.specs.declared.key.Key.{Key}
 use Rattle.key_kind.specs.declared.key.KeyKind.{KeyKind}
 use Rattle.key_kind.specs.declared.key.KeyKind.TheVariants as kinds
 use Rattle.key_kind.specs.Keys.{FitsFields}
-use Rattle.key_kind.specs.KeyText.{key_at}
+use Rattle.key_kind.specs.KeyText.{key_at, key_text}
 use Rattle.bucket_core.specs.declared.event.Change.TheVariants as changes
 use Rattle.bucket_core.specs.declared.event.Event.{Event}
 use Rattle.bucket_core.specs.declared.event.Event.TheVariants as events
@@ -64,15 +67,15 @@ key_fits : (kind : KeyKind) (serial : ℕ) → serial < 18446744073709551616 →
 key_fits kind serial below = record { client = lit< tt; serial = below; version = lit< tt; first = fits_signed_from_abs w64 (pos 1) (lit< tt); last = fits_signed_from_abs w64 (pos 1) (lit< tt) }
 
 tile_claim : MayPut w.written 3 (key kinds.TableData 0) (segment_text w.table)
-unfolding segment_of is_utf8 chars encode signed_text
+unfolding segment_text sheet_text cells_text segment_of sheet_spelled sheet_at rows_at count_at stamps_at stamp_at columns_at series_at head_at type_at length_at name_at text_at cells_at is_utf8 chars encode signed_text
 tile_claim = record { key_is = record { name = w.name_S; made = λ e. absurd cc; version = λ e. absurd cc; stamps = λ e. absurd cc }; fits = key_fits kinds.TableData 0 (lit< tt); own = refl; next = refl; spelled = refl }
 
 index_claim : MayPut (put_tile ∷ w.written) 3 (key kinds.TableIndex 1) (index_text index)
-unfolding index_of key_at is_utf8 chars encode signed_text
+unfolding index_of head_at type_at length_at name_at text_at is_utf8 chars encode key_at key_text signed_text
 index_claim = record { key_is = record { name = w.name_S; made = λ e. absurd cc; version = λ e. absurd cc; stamps = λ e. absurd cc }; fits = key_fits kinds.TableIndex 1 (lit< tt); own = refl; next = refl; spelled = refl }
 
 element_claim : MayPut (put_index ∷ put_tile ∷ w.written) 3 element_key (entry_text entry)
-unfolding entry_of key_at signed_text
+unfolding entry_of key_at key_text signed_text
 element_claim = record {
   key_is = record { name = w.name_S; made = λ e. absurd cc; version = λ e. refl; stamps = λ e. (refl, refl) };
   fits = record { client = lit< tt; serial = lit< tt; version = lit< tt; first = fits_signed_from_abs w64 (pos 0) (lit< tt); last = fits_signed_from_abs w64 (pos 0) (lit< tt) };
@@ -82,7 +85,7 @@ element_claim = record {
 }
 
 link_fits : FitsLink prepared 3 S row (record { number = 1; stamp = pos 60; frame = w.table })
-unfolding segment_of index_of entry_of key_at is_utf8 chars encode signed_text
+unfolding index_of entry_of segment_text sheet_text cells_text segment_of sheet_spelled sheet_at rows_at count_at stamps_at stamp_at columns_at series_at head_at type_at length_at name_at text_at cells_at is_utf8 chars encode signed_text key_at key_text
 link_fits = record {
   number = refl;
   stamp = refl;
@@ -102,7 +105,7 @@ link_fits = record {
 }
 
 prune_claim : MayRefer prepared 3 S (Some (w.key kinds.Version 2)) element_key (changes.Wrote w.table (pos 60) ∷ changes.Removed (0 ∷ []) ∷ [])
-unfolding entry_of key_at signed_text
+unfolding entry_of key_at key_text signed_text
 prune_claim = record {
   kind = refl;
   name = refl;
@@ -117,11 +120,11 @@ prune_claim = record {
 }
 
 tile_dead : IsUnneeded pruned (w.table_key kinds.TableData 0)
-unfolding segment_of index_of entry_of key_at is_utf8 chars encode signed_text
+unfolding index_of entry_of segment_text sheet_text cells_text segment_of sheet_spelled sheet_at rows_at count_at stamps_at stamp_at columns_at series_at head_at type_at length_at name_at text_at cells_at is_utf8 chars encode signed_text key_at key_text
 tile_dead = record { once = refl; no_more = refl }
 
 index_dead : IsUnneeded (events.Drop 3 (w.table_key kinds.TableData 0) ∷ pruned) (w.table_key kinds.TableIndex 1)
-unfolding segment_of index_of entry_of key_at is_utf8 chars encode signed_text
+unfolding index_of entry_of segment_text sheet_text cells_text segment_of sheet_spelled sheet_at rows_at count_at stamps_at stamp_at columns_at series_at head_at type_at length_at name_at text_at cells_at is_utf8 chars encode signed_text key_at key_text
 index_dead = record { once = refl; no_more = refl }
 
 -- ten events of two clients

@@ -1,4 +1,7 @@
 -- Lawful histories with real bodies: an append that shares the tile of its base; and a staged piece that is consumed and dropped.
+use Rattle.segment_bytes.specs.Heads.{head_at, length_at, name_at, text_at, type_at}
+use Rattle.segment_bytes.specs.Sheets.{columns_at, count_at, rows_at, series_at, sheet_at, sheet_text, stamp_at, stamps_at}
+use Rattle.segment_bytes.specs.CellTexts.{cells_at, cells_text}
 use Rattle.byte_fields.specs.Reading.{signed_text}
 use Rattle.std.proofs.Common.{◌≡◌, ℕ, zero, suc, ◌<◌, ◌≤◌, pos, [], ◌∷◌, refl, inl, inr, Some, None, arith, lit≤, lit<}
 use Rattle.std.specs.Prelude.{count_by, List, ◌≤ℤ◌}
@@ -9,14 +12,14 @@ use lib.Utf8.{encode}
 use Rattle.frame_core.specs.declared.part.Part.{Part}
 use Rattle.frame_core.specs.Frames.{Frame}
 use Rattle.frame_core.specs.Limits.{IsStorable}
-use Rattle.segment_bytes.specs.SegmentText.{segment_text, segment_of}
+use Rattle.segment_bytes.specs.Segments.{segment_text, segment_of, sheet_spelled}
 use Rattle.index_tree.specs.declared.index.Index.{Index}
 use Rattle.index_tree.specs.IndexText.{index_text, index_of}
 use Rattle.segment_cut.specs.Tiles.{Tile, Tiled, has_cell, has_row}
 use Rattle.key_kind.specs.declared.key.Key.{Key}
 use Rattle.key_kind.specs.declared.key.KeyKind.TheVariants as kinds
 use Rattle.key_kind.specs.Keys.{IsKey, FitsFields}
-use Rattle.key_kind.specs.KeyText.{key_at}
+use Rattle.key_kind.specs.KeyText.{key_at, key_text}
 use Rattle.bucket_core.specs.declared.event.PieceName.{PieceName}
 use Rattle.bucket_core.specs.declared.event.Change.TheVariants as changes
 use Rattle.bucket_core.specs.declared.event.Event.{Event}
@@ -99,15 +102,15 @@ element_fits : FitsFields (element_key 2 2)
 element_fits = record { client = lit< tt; serial = lit< tt; version = lit< tt; first = fits_signed_from_abs w64 (pos 0) (lit< tt); last = fits_signed_from_abs w64 (pos 0) (lit< tt) }
 
 tile_claim : MayPut w.written 2 (tile_key 2 0) (segment_text added)
-unfolding segment_of is_utf8 chars encode signed_text
+unfolding segment_text sheet_text cells_text segment_of sheet_spelled sheet_at rows_at count_at stamps_at stamp_at columns_at series_at head_at type_at length_at name_at text_at cells_at is_utf8 chars encode signed_text
 tile_claim = record { key_is = tile_rules; fits = tile_fits; own = refl; next = refl; spelled = refl }
 
 index_claim : MayPut (put_tile 2 0 ∷ w.written) 2 (index_key 2 1) (index_text (index 2 0))
-unfolding index_of key_at is_utf8 chars encode signed_text
+unfolding index_of head_at type_at length_at name_at text_at is_utf8 chars encode key_at key_text signed_text
 index_claim = record { key_is = index_rules; fits = index_fits; own = refl; next = refl; spelled = refl }
 
 element_claim : MayPut (put_index 2 1 0 ∷ put_tile 2 0 ∷ w.written) 2 (element_key 2 2) (entry_text (entry 2 1))
-unfolding entry_of key_at signed_text
+unfolding entry_of key_at key_text signed_text
 element_claim = record { key_is = element_rules; fits = element_fits; own = refl; next = refl; spelled = refl }
 
 rises : pos 1 ≤ℤ pos 2
@@ -135,7 +138,7 @@ tiled = record { inside = ((lit≤ tt, lit≤ tt), ((lit≤ tt, lit≤ tt), tt))
     one_row (suc (suc r)) h = absurd (omega (arith, h))
 
 link_fits : FitsLink prepared 2 S (row 2 1) (record { number = 1; stamp = pos 60; frame = both })
-unfolding segment_of index_of entry_of key_at is_utf8 chars encode signed_text
+unfolding index_of entry_of segment_text sheet_text cells_text segment_of sheet_spelled sheet_at rows_at count_at stamps_at stamp_at columns_at series_at head_at type_at length_at name_at text_at cells_at is_utf8 chars encode signed_text key_at key_text
 link_fits = record {
   number = refl;
   stamp = refl;
@@ -158,7 +161,7 @@ link_fits = record {
 }
 
 append_claim : MayRefer prepared 2 S (Some (w.key kinds.Version 2)) (element_key 2 2) (changes.Appended added (pos 60) ∷ [])
-unfolding entry_of key_at signed_text
+unfolding entry_of key_at key_text signed_text
 append_claim = record {
   kind = refl;
   name = refl;
@@ -197,7 +200,7 @@ abbrev pub discarded : History
 discarded = events.Refer 1 S None (w.key kinds.Version 1) (changes.Discarded (piece ∷ []) ∷ []) ∷ put_discard ∷ staged
 
 piece_claim : MayPut [] 1 piece_key (segment_text w.table)
-unfolding segment_of is_utf8 chars encode signed_text
+unfolding segment_text sheet_text cells_text segment_of sheet_spelled sheet_at rows_at count_at stamps_at stamp_at columns_at series_at head_at type_at length_at name_at text_at cells_at is_utf8 chars encode signed_text
 piece_claim = record {
   key_is = record { name = w.name_S; made = λ e. absurd cc; version = λ e. refl; stamps = λ e. absurd cc };
   fits = record { client = lit< tt; serial = lit< tt; version = lit< tt; first = fits_signed_from_abs w64 (pos 1) (lit< tt); last = fits_signed_from_abs w64 (pos 1) (lit< tt) };
@@ -207,11 +210,11 @@ piece_claim = record {
 }
 
 put_discard_claim : MayPut staged 1 (w.key kinds.Version 1) (entry_text discard_entry)
-unfolding entry_of key_at signed_text
+unfolding entry_of key_at key_text signed_text
 put_discard_claim = record { key_is = w.version_key_rules 1; fits = w.version_fits 1 (lit< tt); own = refl; next = refl; spelled = refl }
 
 discard_claim : MayRefer (put_discard ∷ staged) 1 S None (w.key kinds.Version 1) (changes.Discarded (piece ∷ []) ∷ [])
-unfolding segment_of entry_of key_at is_utf8 chars encode signed_text
+unfolding entry_of segment_text sheet_text cells_text segment_of sheet_spelled sheet_at rows_at count_at stamps_at stamp_at columns_at series_at head_at type_at length_at name_at text_at cells_at is_utf8 chars encode signed_text key_at key_text
 discard_claim = record {
   kind = refl;
   name = refl;

@@ -1,15 +1,18 @@
 -- Small histories, computed: what the library of each is. Elements and tiles are left out where the library does not speak of them.
+use Rattle.segment_bytes.specs.Heads.{head_at, length_at, name_at, text_at, type_at}
+use Rattle.segment_bytes.specs.Sheets.{columns_at, count_at, rows_at, series_at, sheet_at, sheet_text, stamp_at, stamps_at}
+use Rattle.segment_bytes.specs.CellTexts.{cells_at, cells_text}
 use Rattle.std.specs.Prelude.{◌≡◌, ℕ, ℤ, pos, true, false, List, [], ◌∷◌, map, Some, None, refl}
 use Rattle.std.specs.Str.{is_utf8, chars}
 use lib.Utf8.{encode}
 use Rattle.byte_fields.specs.Reading.{signed_text}
 use Rattle.frame_core.specs.Frames.{Frame}
-use Rattle.segment_bytes.specs.SegmentText.{segment_text, segment_of}
+use Rattle.segment_bytes.specs.Segments.{segment_text, segment_of, sheet_spelled}
 use Rattle.key_kind.specs.declared.key.KeyKind.{KeyKind}
 use Rattle.key_kind.specs.declared.key.KeyKind.TheVariants as kinds
 use Rattle.key_kind.specs.declared.key.Key.{Key}
 use Rattle.key_kind.specs.declared.key.Holder.{Holder}
-use Rattle.key_kind.specs.KeyText.{key_at}
+use Rattle.key_kind.specs.KeyText.{key_at, key_text}
 use Rattle.bucket_core.specs.declared.event.Change.{Change}
 use Rattle.bucket_core.specs.declared.event.Change.TheVariants as changes
 use Rattle.bucket_core.specs.declared.event.Event.{Event}
@@ -105,7 +108,7 @@ abbrev pub after_snapshot : History
 after_snapshot = events.Name 1 k (snap_text (snap 1 3)) ∷ commit 1 3 (changes.Held (holder 1 3) 0 ∷ []) ∷ commit 1 2 (wrote 7 ((1, 1) ∷ []) ∷ []) ∷ []
 
 a_snapshot_stands_over_its_versions : snapshots_of after_snapshot ≡ (k, record { holder = holder 1 3; picks = (S, 0) ∷ [] }) ∷ []
-unfolding snap_of key_at signed_text
+unfolding snap_of key_at key_text signed_text
 a_snapshot_stands_over_its_versions = refl
 
 -- and a delete of the version
@@ -126,7 +129,7 @@ a_released_version_is_not_held : is_held (state_of after_release S) 0 ≡ false
 a_released_version_is_not_held = refl
 
 a_deleted_snapshot_does_not_stand : snapshots_of after_release ≡ []
-unfolding snap_of key_at signed_text
+unfolding snap_of key_at key_text signed_text
 a_deleted_snapshot_does_not_stand = refl
 
 -- the snapshots of two clients under one name, of which the first stands and the other's hold is released
@@ -138,7 +141,7 @@ one_hold_is_left_of_two_snapshots_of_one_name : (state_of after_two_snapshots S)
 one_hold_is_left_of_two_snapshots_of_one_name = refl
 
 the_first_of_two_snapshots_stands : snapshots_of after_two_snapshots ≡ (k, record { holder = holder 2 0; picks = (S, 0) ∷ [] }) ∷ []
-unfolding snap_of key_at signed_text
+unfolding snap_of key_at key_text signed_text
 the_first_of_two_snapshots_stands = refl
 
 -- ---- staged pieces
@@ -151,7 +154,7 @@ abbrev pub after_stages : History
 after_stages = stage 2 ((40, 5) ∷ []) ∷ stage 1 ((15, 3) ∷ (30, 4) ∷ []) ∷ stage 0 ((10, 1) ∷ (20, 2) ∷ []) ∷ []
 
 staged_pieces_are_open : map (λ p. p.frame) (open_pieces (state_of after_stages S)) ≡ frame ((40, 5) ∷ []) ∷ frame ((15, 3) ∷ (30, 4) ∷ []) ∷ frame ((10, 1) ∷ (20, 2) ∷ []) ∷ []
-unfolding segment_of is_utf8 chars encode signed_text
+unfolding segment_text sheet_text cells_text segment_of sheet_spelled sheet_at rows_at count_at stamps_at stamp_at columns_at series_at head_at type_at length_at name_at text_at cells_at is_utf8 chars encode signed_text
 staged_pieces_are_open = refl
 
 staged_pieces_are_no_version : (state_of after_stages S).versions ≡ []
@@ -163,5 +166,5 @@ after_finalize = commit 1 5 (wrote 7 ((10, 1) ∷ (15, 3) ∷ (20, 2) ∷ (30, 4
     ∷ changes.Discarded (record { client = 1; serial = 0 } ∷ record { client = 1; serial = 1 } ∷ record { client = 1; serial = 2 } ∷ []) ∷ []) ∷ after_stages
 
 a_finalize_leaves_no_open_piece : open_pieces (state_of after_finalize S) ≡ []
-unfolding segment_of is_utf8 chars encode signed_text
+unfolding segment_text sheet_text cells_text segment_of sheet_spelled sheet_at rows_at count_at stamps_at stamp_at columns_at series_at head_at type_at length_at name_at text_at cells_at is_utf8 chars encode signed_text
 a_finalize_leaves_no_open_piece = refl

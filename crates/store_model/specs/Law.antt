@@ -5,7 +5,7 @@
 use Rattle.std.specs.Prelude.{◌≡◌, ◌⊎◌, ℕ, pos, false, Result, Ok, Err, ⊤, IsOk, unwrap_or}
 use Rattle.std.specs.List.{AllByRecursion}
 use Rattle.frame_core.specs.Frames.{Frame, first_stamp, last_stamp}
-use Rattle.segment_bytes.specs.SegmentText.{segment_of}
+use Rattle.segment_bytes.specs.Segments.{segment_of}
 use Rattle.index_tree.specs.IndexText.{index_of}
 use Rattle.key_kind.specs.declared.key.KeyKind.{KeyKind}
 use Rattle.key_kind.specs.declared.key.KeyKind.TheVariants as kinds

@@ -7,7 +7,7 @@ use Rattle.std.specs.Prelude.{ℕ, suc, ℤ, pos, Bool, true, false, ◌||◌, �
 use Rattle.std.specs.List.{list_any, cons_option}
 use Rattle.byte_fields.specs.Reading.{read_of}
 use Rattle.frame_core.specs.Frames.{Row, Frame, replace_range, first_stamp, last_stamp}
-use Rattle.segment_bytes.specs.SegmentText.{segment_of}
+use Rattle.segment_bytes.specs.Segments.{segment_of}
 use Rattle.key_kind.specs.declared.key.KeyKind.TheVariants as kinds
 use Rattle.key_kind.specs.declared.key.Key.{Key}
 use Rattle.key_kind.specs.declared.key.Holder.{Holder}

@@ -3,6 +3,7 @@ use Rattle.std.specs.Int.{w16, w32}
 use Rattle.byte_fields.proofs.Numbers.{wide16, wide32, wide64, byte_again, number_again, signed_again, bytes_again, magic_again}
 use Rattle.byte_fields.proofs.Lists.{list_takes, list_again}
 use Rattle.byte_fields.proofs.Written.{written_all}
+use Rattle.byte_fields.proofs.Skipping.{list_on}
 use Rattle.byte_fields.proofs.laws.spelled_fields_are_read.Goals as goal
 
 pub returns : goal.returns

@@ -1,7 +1,7 @@
-use Rattle.std.proofs.Common.{◌≡◌, ◌∙◌, ap, sym, length, map}
+use Rattle.std.proofs.Common.{◌∙◌, ap, sym, length, map}
 use Rattle.frame_core.specs.Frames.{Frame}
 use Rattle.frame_core.specs.Columns.{column_cells}
-use Rattle.frame_core.proofs.Rows.{length-rows_from, rows_from-columns, columns-rows_from, row-rows_from}
+use Rattle.frame_core.proofs.Rows.{length-rows_from}
 use Rattle.frame_core.proofs.WholeFrames.{IsFrame-whole}
 use Rattle.frame_core.proofs.frame.Frame.rows.Goals as goal
 

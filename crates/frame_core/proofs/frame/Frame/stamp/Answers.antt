@@ -1,4 +1,4 @@
-use Rattle.std.proofs.Common.{◌≡◌, ◌<◌, ◌∙◌, ap, sym, length, arith, rules, ℤ, pos, Some, get_or, w64, SFits}
+use Rattle.std.proofs.Common.{◌<◌, ◌∙◌, ap, sym, length, arith, rules, pos, Some, get_or, w64, SFits}
 use Rattle.std.proofs.lemmas.Int.{to_z-of_z}
 use Rattle.frame_core.proofs.WholeFrames.{count_rows, stamp_is}
 use Rattle.frame_core.proofs.frame.Frame.stamp.Goals as goal

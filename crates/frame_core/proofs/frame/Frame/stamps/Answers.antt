@@ -1,4 +1,4 @@
-use Rattle.std.proofs.Common.{◌≡◌, ◌∙◌, ap, sym, map}
+use Rattle.std.proofs.Common.{◌∙◌, ap, sym, map}
 use Rattle.frame_core.specs.Frames.{Frame, stamps_of}
 use Rattle.frame_core.specs.Columns.{column_cells}
 use Rattle.frame_core.proofs.Rows.{stamps-rows_from}

@@ -1,0 +1,5 @@
+pub mod Shelves
+pub mod Sinks
+pub mod Clocks
+pub mod FailPlans
+pub mod Memory

@@ -1,0 +1,7 @@
+pub mod Digits
+pub mod RowSteps
+pub mod Words
+pub mod LineSteps
+pub mod Gathered
+pub mod Parts
+pub mod Loaded

@@ -1,0 +1,26 @@
+//! Scripts and files of frames, read from their bytes.
+#![tactic(auto)]
+
+mod command;
+mod draft;
+mod fault;
+mod header;
+mod lines;
+mod load;
+mod name;
+mod number;
+mod plain_file;
+mod plain_word;
+mod rows;
+mod script;
+#[cfg(test)]
+mod tests;
+
+pub use base_types::{Items, NoMemory, Text};
+pub use command::Command;
+pub use fault::{CsvFault, ScriptFault};
+pub use frame_core::{ColType, RawFrame};
+pub use key_kind::Symbol;
+pub use load::{ColTypes, Load, Loads};
+pub use plain_file::read_frame;
+pub use script::{Commands, Script, read_script};

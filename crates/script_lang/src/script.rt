@@ -1,0 +1,52 @@
+ghost use Rattle.std.specs.Prelude.{IfOk};
+ghost use Rattle.script_lang.specs.Scripts.{finished, plain_script_of, AreLoaded};
+ghost use Rattle.script_lang.specs.Answers.{GivesScript};
+
+use crate::command::Command;
+use crate::draft::{Draft, after_lines};
+use crate::fault::ScriptFault;
+use crate::lines::lines_of;
+use crate::load::Loads;
+use base_types::Items;
+use std::alloc::Global;
+
+/// Commands, seen as a list.
+pub type Commands = Items<Command>;
+
+/// A plain script has so many lines at most.
+const MOST_LINES: usize = 1000;
+
+/// A script. A command names its frame by the place among the loads.
+#[derive(Debug, Drop)]
+pub struct Script {
+    pub loads: Loads,
+    pub first: Commands,
+}
+
+fn finished(draft: Draft) -> Result<Script, ScriptFault>
+    ensures { GivesScript (λ script. script) result (finished draft) }
+{
+    let Draft { loads, first } = draft;
+    match first {
+        Some(first) => Ok(Script { loads, first }),
+        None => Err(ScriptFault::BadScript),
+    }
+}
+
+/// The plain script of a text.
+///
+/// Its lines end with LF, at most 1,000, with one space between words: any number of `load FRAME FILE TYPES`, then `first`,
+/// then any number of `write SYM FRAME` and `read SYM`. FRAME is an identifier, distinct among the loads and loaded where it
+/// is written; FILE and SYM are 1 to 32 letters, digits, `_` and `.`; TYPES is 1 to 127 times `int`, joined by commas. Every
+/// other text is BadScript.
+pub fn read_script(alloc: Global, bytes: &[u8]) -> Result<Script, ScriptFault>
+    ensures script { GivesScript (λ script. script) result (plain_script_of bytes.now) }
+    ensures loaded { IfOk result (λ script. AreLoaded script) }
+{
+    let lines = lines_of(alloc, bytes)?;
+    if lines.len() > MOST_LINES {
+        return Err(ScriptFault::BadScript);
+    }
+    let draft = after_lines(alloc, &lines)?;
+    finished(draft)
+}

@@ -1,0 +1,130 @@
+ghost use Rattle.std.specs.Prelude.{IfOk};
+ghost use Rattle.frame_core.specs.Limits.{IsStorable};
+
+use crate::{encode, view};
+use frame_core::{CellRef, ColName, ColType, Column, Frame, Items, RawFrame, TextList};
+use std::alloc::Global;
+use std::test::Fail;
+
+// A frame of one column.
+fn one_column(alloc: Global, stamps: &[i64], name: &str, column: Column) -> Result<Frame, Fail>
+    ensures { IfOk result IsStorable }
+{
+    let mut names = Items::new(alloc);
+    names.push(ColName::make(alloc, name)?)?;
+    let mut columns = Items::new(alloc);
+    columns.push(column)?;
+    let stamps = Items::from_slice(alloc, stamps)?;
+    let raw = RawFrame {
+        stamps,
+        names,
+        columns,
+    };
+    Ok(Frame::make(alloc, &raw)?)
+}
+
+// Stamp 1, and column `a` of the whole number 5.
+const ONE_NUMBER: &[u8] = b"ASG1\0\0\0\x01\0\x01\0\0\0\0\0\0\0\x01\x01\x01a\0\0\0\0\0\0\0\x05";
+
+// Stamps 1 and 2, and column `s` of the text x and the empty text.
+const TWO_TEXTS: &[u8] = b"ASG1\0\0\0\x02\0\x01\0\0\0\0\0\0\0\x01\0\0\0\0\0\0\0\x02\x03\x01s\0\0\0\x01\0\0\0\x01x";
+
+// Stamps 1 and 2, and columns `a` to `d`, one of each type.
+const ALL_TYPES: &[u8] = b"ASG1\0\0\0\x02\0\x04\0\0\0\0\0\0\0\x01\0\0\0\0\0\0\0\x02\
+\x01\x01a\0\0\0\0\0\0\0\x05\xff\xff\xff\xff\xff\xff\xff\xff\
+\x02\x01b\x01\0\
+\x03\x01c\0\0\0\x01\0\0\0\x01x\
+\x04\x01d\0\0\0\0\0\0\0\x07\0\0\0\0\0\0\0\x08";
+
+#[test]
+fn one_whole_number_has_these_29_bytes(rt: HostRuntime) -> Result<(), Fail> {
+    let alloc = rt.alloc();
+    let column = Column::Ints(Items::from_slice(alloc, &[5])?);
+    let frame = one_column(alloc, &[1], "a", column)?;
+    let bytes = encode(alloc, &frame)?;
+    assert_eq!(rt; bytes.as_slice(), ONE_NUMBER);
+    let seen = view(ONE_NUMBER)?;
+    assert!(rt; seen.rows() == 1 && seen.cols() == 1);
+    assert!(rt; seen.stamp(0) == 1);
+    assert!(rt; seen.name(0) == "a" && seen.kind(0) == ColType::Int);
+    let column = seen.column(0);
+    assert!(rt; column.kind() == ColType::Int && column.len() == 1);
+    assert!(rt; column.int(0) == 5);
+    Ok(())
+}
+
+#[test]
+fn a_text_and_the_empty_text_have_these_38_bytes(rt: HostRuntime) -> Result<(), Fail> {
+    let alloc = rt.alloc();
+    let mut texts = TextList::new(alloc);
+    texts.push("x")?;
+    texts.push("")?;
+    let frame = one_column(alloc, &[1, 2], "s", Column::Texts(texts))?;
+    let bytes = encode(alloc, &frame)?;
+    assert_eq!(rt; bytes.as_slice(), TWO_TEXTS);
+    let seen = view(TWO_TEXTS)?;
+    assert!(rt; seen.rows() == 2 && seen.cols() == 1);
+    let column = seen.column(0);
+    assert!(rt; column.kind() == ColType::Text && column.len() == 2);
+    assert!(rt; column.text(0) == "x" && column.text(1) == "");
+    Ok(())
+}
+
+#[test]
+fn cells_of_each_type_are_read(rt: HostRuntime) -> Result<(), Fail> {
+    let seen = view(ALL_TYPES)?;
+    assert!(rt; seen.rows() == 2 && seen.cols() == 4);
+    assert!(rt; seen.stamp(1) == 2);
+    assert!(rt; seen.name(2) == "c");
+    assert!(rt; matches!(seen.cell(1, 0), CellRef::Int(-1)));
+    assert!(rt; matches!(seen.cell(0, 1), CellRef::Flag(true)));
+    assert!(rt; matches!(seen.cell(1, 1), CellRef::Flag(false)));
+    assert!(rt; matches!(seen.cell(0, 2), CellRef::Text("x")));
+    assert!(rt; matches!(seen.cell(1, 3), CellRef::Stamp(8)));
+    Ok(())
+}
+
+#[test]
+fn a_byte_more_or_less_is_a_fault_at_its_field(rt: HostRuntime) -> Result<(), Fail> {
+    let mut longer = Vec::from_slice(rt.alloc(), ONE_NUMBER)?;
+    longer.push(0)?;
+    assert!(rt; matches!(view(&longer), Err(fault) if fault.at == 29));
+    assert!(rt; matches!(view(&ONE_NUMBER[..28]), Err(fault) if fault.at == 21));
+    Ok(())
+}
+
+#[test]
+fn a_segment_that_is_cut_is_refused(rt: HostRuntime) {
+    for length in 0..ALL_TYPES.len() {
+        assert!(rt; view(&ALL_TYPES[..length]).is_err(), "cut at {length}");
+    }
+}
+
+#[test]
+fn each_broken_rule_is_a_fault_at_its_field(rt: HostRuntime) -> Result<(), Fail> {
+    // The place of a byte, another byte for it, and where the fault is.
+    let changes = [
+        (3, b'2', 0),      // another magic
+        (4, 1, 4),         // more than 2,000,000 rows
+        (8, 16, 8),        // more than 4,096 columns
+        (17, 3, 18),       // a stamp that falls
+        (26, 0, 26),       // no type
+        (45, 5, 45),       // no type
+        (27, 0, 27),       // a name without bytes
+        (28, 255, 28),     // a name that is not UTF-8
+        (47, b'a', 47),    // the name of an earlier column
+        (48, 2, 48),       // a flag that is neither 0 nor 1
+        (54, 1, 53),       // a text of more than 65,535 bytes
+        (60, 0, 57),       // an end that falls
+        (61, 255, 61),     // a text that is not UTF-8
+    ];
+    for (place, byte, at) in changes {
+        let mut bytes = Vec::from_slice(rt.alloc(), ALL_TYPES)?;
+        assert!(rt; place < bytes.len());
+        bytes[place] = byte;
+        assert!(rt; matches!(view(&bytes), Err(fault) if fault.at == at), "at {place}");
+    }
+    // 2,000,000 rows of 5 columns are more than 8,000,000 cells.
+    assert!(rt; matches!(view(b"ASG1\0\x1e\x84\x80\0\x05".as_slice()), Err(fault) if fault.at == 8));
+    Ok(())
+}
