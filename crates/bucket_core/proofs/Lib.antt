@@ -1,3 +1,2 @@
 pub mod ContentsLemmas
 pub mod BucketLemmas
-pub mod Histories

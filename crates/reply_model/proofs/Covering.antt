@@ -4,7 +4,7 @@ use Rattle.std.specs.Prelude.{◌&&◌, Any, nat_eq, nat_lt}
 use Rattle.std.specs.List.{list_any}
 use Rattle.std.proofs.lemmas.Bool.{and_parts, cases_lt, le-leb, lt-ltb, eqb-true}
 use Rattle.frame_core.specs.declared.refusal.Refusal.TheVariants as refusals
-use Rattle.base_types.proofs.Lists.{one_passes}
+use Rattle.store_model.proofs.Lists.{one_passes}
 use Rattle.bucket_core.specs.declared.event.Event.{Event}
 use Rattle.bucket_core.specs.History.{History, author, event_at, history_at, newest}
 use Rattle.reply_model.specs.declared.outcome.Outcome.TheVariants as outcomes

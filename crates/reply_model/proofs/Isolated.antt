@@ -11,7 +11,7 @@ use Rattle.frame_core.specs.declared.refusal.Asked.{Asked}
 use Rattle.frame_core.specs.declared.refusal.Asked.TheVariants as asks
 use Rattle.frame_core.specs.declared.refusal.Refusal.{Refusal}
 use Rattle.frame_core.specs.declared.refusal.Refusal.TheVariants as refusals
-use Rattle.base_types.proofs.Lists.{contains_first, contains_later, contains_none, contains_cases, filter_in}
+use Rattle.store_model.proofs.Lists.{contains_first, contains_later, contains_none, contains_cases, filter_in}
 use Rattle.key_kind.specs.Names.{Name}
 use Rattle.bucket_core.specs.declared.event.Change.TheVariants as changes
 use Rattle.bucket_core.specs.declared.event.Event.{Event}

@@ -6,7 +6,7 @@ use Rattle.std.proofs.lemmas.Bool.{true≢false, and_parts, and_from, or_parts, 
 use Rattle.std.proofs.lemmas.List.Elements.{Contains-append_left}
 use Rattle.std.proofs.lemmas.List.Folds.{list_any-append}
 use Rattle.std.proofs.lemmas.List.{reverse-append}
-use Rattle.base_types.proofs.Lists.{contains_first, contains_right, contains_cases, contains_none, contains_append}
+use Rattle.store_model.proofs.Lists.{contains_first, contains_right, contains_cases, contains_none, contains_append}
 use Rattle.bucket_core.specs.declared.event.Event.{Event}
 use Rattle.bucket_core.specs.declared.event.Event.TheVariants as events
 use Rattle.bucket_core.specs.History.{History, author, event_at, history_at, events_within}

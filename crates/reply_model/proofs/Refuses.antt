@@ -13,7 +13,7 @@ use Rattle.bucket_core.specs.declared.event.Change.{Change}
 use Rattle.bucket_core.specs.declared.event.Change.TheVariants as changes
 use Rattle.bucket_core.specs.History.{History, Bytes, stored}
 use Rattle.key_kind.specs.Names.{Name, same_name}
-use Rattle.base_types.proofs.Lists.{all_weaker}
+use Rattle.store_model.proofs.Lists.{all_weaker}
 use Rattle.key_kind.specs.declared.key.Key.{Key}
 use Rattle.key_kind.specs.declared.key.KeyKind.TheVariants as kinds
 use Rattle.key_kind.specs.KeyText.{key_at, key_text}

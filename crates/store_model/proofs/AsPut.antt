@@ -5,7 +5,7 @@ use Rattle.std.specs.List.{cons_option}
 use Rattle.std.proofs.lemmas.Bool.{true≢false}
 use Rattle.frame_core.specs.Frames.{Frame}
 use Rattle.byte_fields.specs.Reading.{read_of}
-use Rattle.base_types.proofs.Lists.{contains_append, contains_cases, contains_none}
+use Rattle.store_model.proofs.Lists.{contains_append, contains_cases, contains_none}
 use Rattle.segment_bytes.specs.Segments.{segment_of}
 use Rattle.index_tree.specs.declared.index.Slot.{Slot}
 use Rattle.index_tree.specs.declared.index.Index.{Index}
@@ -17,7 +17,7 @@ use Rattle.key_kind.proofs.KeyTests.{same_key_self}
 use Rattle.bucket_core.specs.declared.event.Change.{Change}
 use Rattle.bucket_core.specs.declared.event.Event.TheVariants as events
 use Rattle.bucket_core.specs.History.{History, Bytes, body_put, PutOnce, PutsStay}
-use Rattle.bucket_core.proofs.Histories.{put_stays}
+use Rattle.store_model.proofs.Histories.{put_stays}
 use Rattle.store_model.specs.declared.chain.LinkRow.{LinkRow}
 use Rattle.store_model.specs.declared.chain.ChainMark.{ChainMark}
 use Rattle.store_model.specs.declared.chain.ChainMark.TheVariants as marks

@@ -2,7 +2,7 @@
 use Rattle.std.proofs.Common.{◌≡◌, ℕ, true, false, ◌||◌, ◌&&◌, ◌∷◌, refl, sym, ◌∙◌, subst, inl, inr, not}
 use Rattle.std.specs.Prelude.{Contains}
 use Rattle.std.proofs.lemmas.Bool.{true≢false, and_from, not-true}
-use Rattle.base_types.proofs.Lists.{passes, none_passes, one_passes, filter_in}
+use Rattle.store_model.proofs.Lists.{passes, none_passes, one_passes, filter_in}
 use Rattle.key_kind.specs.declared.key.KeyKind.TheVariants as kinds
 use Rattle.key_kind.specs.declared.key.Key.{Key}
 use Rattle.key_kind.specs.Names.{Name}
@@ -10,7 +10,7 @@ use Rattle.key_kind.specs.Keys.{same_key, same_kind}
 use Rattle.key_kind.proofs.KeyTests.{same_key_is, same_key_self}
 use Rattle.bucket_core.specs.declared.event.Event.TheVariants as events
 use Rattle.bucket_core.specs.History.{History}
-use Rattle.bucket_core.proofs.Histories.{stands_at_drop}
+use Rattle.store_model.proofs.Histories.{stands_at_drop}
 use Rattle.store_model.specs.Library.{Piece, state_of, is_consumed, open_pieces, staged_key}
 use Rattle.store_model.specs.Links.{Linked, links, reached, reaches, is_needed, is_reached, entries}
 use Rattle.store_model.specs.Law.{IsDead}

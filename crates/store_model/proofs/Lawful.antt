@@ -2,7 +2,7 @@
 use Rattle.std.proofs.Common.{◌≡◌, ℕ, true, false, [], ◌∷◌, ◌++◌, refl, sym, ◌∙◌, subst, not, nat_eq, Ok, Result}
 use Rattle.std.specs.List.{list_any}
 use Rattle.std.proofs.lemmas.Bool.{not-true, and_parts, eqb-true}
-use Rattle.base_types.proofs.Lists.{contains_none, all_weaker, one_passes, filter_in, passes}
+use Rattle.store_model.proofs.Lists.{contains_none, all_weaker, one_passes, filter_in, passes}
 use Rattle.bucket_core.specs.declared.event.Event.{Event}
 use Rattle.bucket_core.specs.declared.event.Event.TheVariants as events
 use Rattle.bucket_core.specs.History.{History}

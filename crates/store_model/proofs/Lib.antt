@@ -1,3 +1,5 @@
+pub mod Lists
+pub mod Histories
 pub mod Dropping
 pub mod Putting
 pub mod Needing

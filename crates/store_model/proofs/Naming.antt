@@ -4,7 +4,7 @@ use Rattle.std.specs.Prelude.{◌⊎◌, fold, filter}
 use Rattle.std.specs.List.{AllByRecursion}
 use Rattle.std.proofs.lemmas.Bool.{true≢false, and_parts, or_cases, or_left, or_right, or_from, and_right, not_from_false}
 use Rattle.byte_fields.specs.Reading.{read_of}
-use Rattle.base_types.proofs.Lists.{one_passes, passes, in_filter}
+use Rattle.store_model.proofs.Lists.{one_passes, passes, in_filter}
 use Rattle.key_kind.specs.declared.key.Holder.{Holder}
 use Rattle.key_kind.specs.Names.{Name, same_name}
 use Rattle.key_kind.specs.Keys.{same_holder}
@@ -15,7 +15,7 @@ use Rattle.bucket_core.specs.declared.event.Event.{Event}
 use Rattle.bucket_core.specs.declared.event.Event.TheVariants as events
 use Rattle.key_kind.specs.declared.key.Key.{Key}
 use Rattle.bucket_core.specs.History.{History, Bytes, StandsAsPut}
-use Rattle.bucket_core.proofs.Histories.{stands_at_name, stands_at_unname}
+use Rattle.store_model.proofs.Histories.{stands_at_name, stands_at_unname}
 use Rattle.store_model.specs.declared.chain.LinkRow.{LinkRow}
 use Rattle.store_model.specs.declared.snapshot.SnapBody.{SnapBody}
 use Rattle.store_model.specs.ChainText.{snap_of}

@@ -4,7 +4,7 @@ use Rattle.std.specs.Prelude.{Contains, fold, filter}
 use Rattle.std.specs.List.{list_any, AllByRecursion}
 use Rattle.std.proofs.lemmas.Bool.{and_parts, and_from, or_cases, or_parts, or_left, or_right, eqb-true, ne_eqb, not-true}
 use Rattle.std.proofs.lemmas.List.Folds.{list_any-append}
-use Rattle.base_types.proofs.Lists.{one_passes, passes, filter_in, in_filter}
+use Rattle.store_model.proofs.Lists.{one_passes, passes, filter_in, in_filter}
 use Rattle.key_kind.specs.Names.{Name}
 use Rattle.key_kind.specs.Keys.{same_holder}
 use Rattle.bucket_core.specs.declared.event.Change.{Change}

@@ -4,7 +4,7 @@ use Rattle.std.specs.Prelude.{Contains}
 use Rattle.std.proofs.lemmas.Bool.{and_parts, eq-eqb}
 use Rattle.frame_core.specs.Frames.{Frame}
 use Rattle.byte_fields.specs.Reading.{read_of}
-use Rattle.base_types.proofs.Lists.{filter_in, in_filter, contains_append, contains_cases, contains_none}
+use Rattle.store_model.proofs.Lists.{filter_in, in_filter, contains_append, contains_cases, contains_none}
 use Rattle.segment_bytes.specs.Segments.{segment_of}
 use Rattle.key_kind.specs.declared.key.KeyKind.{KeyKind}
 use Rattle.key_kind.specs.declared.key.KeyKind.TheVariants as kinds
@@ -14,7 +14,7 @@ use Rattle.key_kind.specs.Keys.{same_key, same_kind, is_put, has_version, IsKey}
 use Rattle.key_kind.proofs.KeyTests.{same_key_is, same_key_self, same_kind_is, same_name_is}
 use Rattle.bucket_core.specs.declared.event.Event.TheVariants as events
 use Rattle.bucket_core.specs.History.{History, Bytes, body_put, puts_by, stored, StandsAsPut}
-use Rattle.bucket_core.proofs.Histories.{stands_at_put, puts_more}
+use Rattle.store_model.proofs.Histories.{stands_at_put, puts_more}
 use Rattle.store_model.specs.Library.{Piece, state_of, is_consumed, open_pieces, staged_key, piece_of, piece_staged}
 use Rattle.store_model.specs.Law.{MayPut, SpellsKind, HasStamps}
 use Rattle.store_model.specs.Intact.{IsIntact, IsNumbered}

@@ -5,7 +5,7 @@ use Rattle.std.specs.List.{AllZip}
 use Rattle.std.specs.Bool.{OnTrue}
 use Rattle.std.proofs.lemmas.Bool.{or_right}
 use Rattle.std.proofs.lemmas.List.Folds.{list_any-append}
-use Rattle.base_types.proofs.Lists.{contains_append, contains_cases, contains_none, mapped_of, all_weaker}
+use Rattle.store_model.proofs.Lists.{contains_append, contains_cases, contains_none, mapped_of, all_weaker}
 use Rattle.index_tree.specs.declared.index.Slot.{Slot}
 use Rattle.index_tree.specs.declared.index.Index.{Index}
 use Rattle.segment_cut.specs.Tiles.{Tile}
@@ -18,7 +18,7 @@ use Rattle.bucket_core.specs.declared.event.Change.{Change}
 use Rattle.bucket_core.specs.declared.event.Event.{Event}
 use Rattle.bucket_core.specs.declared.event.Event.TheVariants as events
 use Rattle.bucket_core.specs.History.{History, StandsAsPut, reference}
-use Rattle.bucket_core.proofs.Histories.{stands_at_refer, stands_from}
+use Rattle.store_model.proofs.Histories.{stands_at_refer, stands_from}
 use Rattle.store_model.specs.declared.chain.LinkRow.{LinkRow}
 use Rattle.store_model.specs.declared.snapshot.SnapRow.{SnapRow}
 use Rattle.store_model.specs.declared.snapshot.SnapBody.{SnapBody}

@@ -5,7 +5,7 @@ use Rattle.std.specs.List.{list_any}
 use Rattle.std.proofs.lemmas.Bool.{true≢false, and_parts, and_from, and_left, or_from, or_left, or_right, ne_eqb}
 use Rattle.std.proofs.lemmas.List.Folds.{list_any-append}
 use Rattle.byte_fields.specs.Reading.{read_of}
-use Rattle.base_types.proofs.Lists.{contains_append, contains_cases, none_passes, one_passes, passes, all_weaker, mapped_of, contains_first, contains_later}
+use Rattle.store_model.proofs.Lists.{contains_append, contains_cases, none_passes, one_passes, passes, all_weaker, mapped_of, contains_first, contains_later}
 use Rattle.index_tree.specs.declared.index.Slot.{Slot}
 use Rattle.key_kind.specs.declared.key.Key.{Key}
 use Rattle.key_kind.specs.declared.key.Holder.{Holder}

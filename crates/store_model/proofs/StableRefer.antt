@@ -3,7 +3,7 @@ use Rattle.std.proofs.Common.{◌≡◌, ℕ, ◌<◌, true, false, not, List, [
 use Rattle.std.specs.Prelude.{IfSome, is_some}
 use Rattle.std.specs.List.{list_any}
 use Rattle.std.proofs.lemmas.Bool.{true≢false, or_right, or_from, and_left}
-use Rattle.base_types.proofs.Lists.{filter_in, in_filter, all_weaker, one_passes, passes, contains_right}
+use Rattle.store_model.proofs.Lists.{filter_in, in_filter, all_weaker, one_passes, passes, contains_right}
 use Rattle.index_tree.specs.declared.index.Slot.{Slot}
 use Rattle.key_kind.specs.declared.key.KeyKind.TheVariants as kinds
 use Rattle.key_kind.specs.declared.key.Key.{Key}
@@ -19,7 +19,7 @@ use Rattle.bucket_core.specs.declared.event.Event.{Event}
 use Rattle.bucket_core.specs.declared.event.Event.TheVariants as events
 use Rattle.bucket_core.specs.History.{History, author, stored, PutOnce}
 use Rattle.bucket_core.specs.Laws.{refers}
-use Rattle.bucket_core.proofs.Histories.{put_stays}
+use Rattle.store_model.proofs.Histories.{put_stays}
 use Rattle.store_model.specs.declared.chain.LinkRow.{LinkRow}
 use Rattle.store_model.specs.Library.{State, Version, Hold, Piece, state_of, after_changes, new_version, open_pieces, is_consumed, is_live, same_piece, piece_staged}
 use Rattle.store_model.specs.Links.{Linked, links, links_at, reaches, is_reached, entries}
