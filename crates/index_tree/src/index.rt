@@ -1,0 +1,27 @@
+use base_types::Items;
+use frame_core::{Part, Schema};
+use key_kind::Key;
+
+/// Where one tile of a frame lies.
+#[derive(Drop)]
+pub struct Slot {
+    /// The key of the tile's segment.
+    pub key: Key,
+    /// The rows and columns of the frame that the tile has.
+    pub part: Part,
+    /// The stamp of the tile's first row, in nanoseconds since 1970.
+    pub first: i64,
+    /// The stamp of the tile's last row.
+    pub last: i64,
+}
+
+/// Where the tiles of a frame lie.
+#[derive(Drop)]
+pub struct Index {
+    /// The columns of the frame, which is timed.
+    pub schema: Schema,
+    /// How many rows the frame has.
+    pub rows: u64,
+    /// The tiles, in order of their first row and then of their first column.
+    pub slots: Items<Slot>,
+}

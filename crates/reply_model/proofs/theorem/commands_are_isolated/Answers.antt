@@ -1,0 +1,5 @@
+use Rattle.reply_model.proofs.Isolated.{legal_is_isolated}
+use Rattle.reply_model.proofs.theorem.commands_are_isolated.Goals as goal
+
+pub returns : goal.returns
+returns c = legal_is_isolated

@@ -1,0 +1,64 @@
+-- The answers of reads and of versions.
+--     versions_answer         every version ever linked
+--     read_version            the version that a read takes
+--     ask                     the rows in the range, and of these the asked columns
+use Rattle.std.specs.Prelude.{ℕ, zero, suc, not, if◌then◌else◌, List, [], map, reverse, find, slice_get, Option, Some, None, Result, Ok, Err, nat_eq, int_le, count_by, option_map}
+use Rattle.frame_core.specs.Ranges.{Range}
+use Rattle.frame_core.specs.declared.refusal.Asked.TheVariants as asks
+use Rattle.frame_core.specs.declared.refusal.Refusal.{Refusal}
+use Rattle.frame_core.specs.declared.refusal.Refusal.TheVariants as refusals
+use Rattle.frame_core.specs.Texts.{Text}
+use Rattle.frame_core.specs.Frames.{Frame, rows_within}
+use Rattle.frame_core.specs.Selecting.{select}
+use Rattle.key_kind.specs.Names.{Name, same_name}
+use Rattle.store_model.specs.Library.{State, Version, is_buried, live_versions}
+use Rattle.store_model.specs.Snapshots.{Snapshot, Library, snapshot_named}
+use Rattle.reply_model.specs.declared.command.AsOf.{AsOf}
+use Rattle.reply_model.specs.declared.command.AsOf.TheVariants as moments
+use Rattle.reply_model.specs.declared.outcome.VersionRow.{VersionRow}
+use Rattle.reply_model.specs.declared.outcome.Outcome.TheVariants as outcomes
+use Rattle.reply_model.specs.Answering.{Answer, ◌then◌, refuse_if, or_refuse, version_or}
+
+-- a version with its stamp, whether it is live, and its holds
+abbrev pub version_row : State → Version → VersionRow
+version_row st v = record { version = v.number; stamp = v.stamp; live = not (is_buried st v.number); holds = count_by (λ w. nat_eq v.number w.version) st.holds }
+
+-- the answer of versions
+abbrev pub versions_answer : State → Result Answer Refusal
+versions_answer st = refuse_if (not st.has_reference) refusals.NoSuchSymbol (Ok (record { outcome = outcomes.Versions (reverse (map (version_row st) st.versions)); marks = [] }))
+
+-- the version of a number, buried or not
+abbrev pub numbered : State → ℕ → Option Version
+numbered st n = find (λ v. nat_eq v.number n) st.versions
+
+-- the k-th newest live version; there is no 0th
+abbrev pub back : List Version → ℕ → Option Version
+back live zero = None
+back live (suc k) = slice_get live k
+
+-- the version that a symbol has in a snapshot
+abbrev pub picked : Snapshot → Name → Option ℕ
+picked snap symbol = option_map (λ p. p.1) (find (λ p. same_name symbol p.0) snap.picks)
+
+-- the version that a read takes. A buried version is read through a snapshot alone
+abbrev pub read_version : Library → Name → AsOf → Result Version Refusal
+read_version l symbol (moments.Back k) = version_or (l.state symbol) (asks.Back k) (back (live_versions (l.state symbol)) k)
+read_version l symbol (moments.Number n) = version_or (l.state symbol) (asks.Number n) (find (λ v. nat_eq v.number n) (live_versions (l.state symbol)))
+read_version l symbol (moments.Moment t) = version_or (l.state symbol) (asks.Moment t) (find (λ v. int_le v.stamp t) (live_versions (l.state symbol)))
+read_version l symbol (moments.Snapshot snap) =
+    or_refuse (snapshot_named l snap) refusals.NoSuchSnapshot then λ s.
+    or_refuse (picked s symbol) refusals.NoSuchSymbol then λ n.
+    or_refuse (numbered (l.state symbol) n) refusals.NoSuchSymbol
+
+-- the asked columns, or all
+abbrev pub select_columns : Option (List Text) → Frame → Result Frame Refusal
+select_columns None f = Ok f
+select_columns (Some names) f = found (select names f)
+  where
+    found : Result Frame ℕ → Result Frame Refusal
+    found (Ok g) = Ok g
+    found (Err position) = Err (refusals.NoSuchColumn 0 position)
+
+-- the rows in the range, and of these the asked columns
+abbrev pub ask : Frame → Range → Option (List Text) → Result Frame Refusal
+ask f range columns = select_columns columns (record f { rows = rows_within range f.rows })

@@ -1,0 +1,8 @@
+use key_kind::Holder;
+
+/// An unreleased hold of a version.
+#[derive(Clone, Copy, Debug, PartialEq, Eq)]
+pub struct HoldRow {
+    pub holder: Holder,
+    pub version: u64,
+}

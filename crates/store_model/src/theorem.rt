@@ -1,0 +1,58 @@
+ghost use Rattle.bucket_core.specs.Laws.{ClaimsStay, TestsTell};
+ghost use Rattle.bucket_core.specs.Calls.{MovesOn};
+ghost use Rattle.store_model.specs.Law.{IsClaimed};
+ghost use Rattle.store_model.specs.Intact.{IsIntact, IsAsPut, IsShown};
+ghost use Rattle.store_model.specs.Once.{PiecesOnce, NamedOnce};
+ghost use Rattle.store_model.specs.Promises.{InEachLawful, EventsKeep, BeginningsAreLawful};
+ghost use Rattle.store_model.specs.Walks.{LawfulWalks};
+ghost use Rattle.store_model.specs.Listings.{AllListsAgree};
+
+/// In every lawful history nothing that is needed was dropped: what live and held versions reach, the elements of chains and the
+/// staged pieces that are not consumed stand as they were put, and the tiles of each version are its whole frame.
+pub fn nothing_needed_is_dropped()
+    ensures intact { InEachLawful IsIntact }
+    ensures as_put { InEachLawful IsAsPut }
+    ensures shown { InEachLawful IsShown }
+{}
+
+/// Each event that may follow keeps these facts, whatever history they are facts of.
+pub fn each_event_keeps_what_is_needed()
+    ensures { EventsKeep IsIntact }
+{}
+
+/// In every lawful history each staged piece is consumed at most once, and each holder has at most one name.
+pub fn pieces_are_consumed_once()
+    ensures pieces { InEachLawful PiecesOnce }
+    ensures holders { InEachLawful NamedOnce }
+{}
+
+/// Each beginning of a lawful history is lawful, so that a client may stop behind any event.
+pub fn beginnings_are_lawful()
+    ensures { BeginningsAreLawful }
+{}
+
+/// What a client claims of an event stays so while others add lawful events that do not touch it.
+pub fn claims_stay()
+    ensures { ClaimsStay IsClaimed }
+{}
+
+/// The store's test of an event shows that the events which others added do not touch it.
+pub fn tests_tell()
+    ensures { TestsTell IsClaimed }
+{}
+
+/// A reference that has moved on from an entry does not come back to it.
+pub fn references_move_on()
+    ensures { MovesOn IsClaimed }
+{}
+
+/// A walk along the elements of a lawful history finds the symbol's state.
+pub fn walks_give_the_state()
+    ensures { LawfulWalks }
+{}
+
+/// In every history the lists of the library name, in ascending order, exactly the symbols that have a reference and the
+/// snapshots that stand.
+pub fn library_lists_agree()
+    ensures { AllListsAgree }
+{}
