@@ -4,6 +4,8 @@
 mod items;
 mod keep;
 mod memory;
+#[cfg(test)]
+mod tests;
 mod text;
 
 pub use items::Items;
