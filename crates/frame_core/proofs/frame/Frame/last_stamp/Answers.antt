@@ -1,4 +1,4 @@
-use Rattle.std.proofs.Common.{◌≡◌, ◌∙◌}
+use Rattle.std.proofs.Common.{◌∙◌}
 use Rattle.frame_core.proofs.MakerLemmas.{last_lent}
 use Rattle.frame_core.proofs.frame.Frame.last_stamp.Goals as goal
 
