@@ -1,9 +1,12 @@
 -- Lists of fields of one form.
 use Rattle.std.proofs.Common.{◌≡◌, ℕ, zero, suc, ◌+◌, ◌*◌, List, [], ◌∷◌, ◌++◌, length, Result, Ok, refl, ap, subst, ◌∙◌, append_assoc, arith}
+use Rattle.std.specs.Prelude.{FitsSigned}
+use Rattle.std.specs.Int.{w64}
 use Rattle.std.specs.List.{flat_map, AllByRecursion}
 use Rattle.std.proofs.lemmas.List.{length-append}
 use Rattle.std.proofs.lemmas.List.Concat.{flat_map-cons}
-use Rattle.byte_fields.specs.Reading.{Reading, ◌>>=◌, list_at}
+use Rattle.byte_fields.specs.Reading.{Reading, ◌>>=◌, list_at, signed_at, signed_text}
+use Rattle.byte_fields.proofs.Numbers.{signed_takes, signed_again}
 use Rattle.byte_fields.specs.Readers.{IsBytes}
 use Rattle.byte_fields.proofs.Steps.{done, ok_is, bind_ok, bind_is, Takes, Takes-nothing, Takes-then}
 
@@ -46,3 +49,10 @@ list_again item text P field (x ∷ xs) rest each =
 pub length-flat_map : {A : Type 0} (text : A → List ℕ) (width : ℕ) → ((x : A) → length (text x) ≡ width) → (xs : List A) → length (flat_map text xs) ≡ width * length xs
 length-flat_map text width each [] = omega arith
 length-flat_map text width each (x ∷ xs) = rw flat_map-cons (omega (arith, length-append (text x) (flat_map text xs), each x, length-flat_map text width each xs))
+
+-- a number with a sign is such a field
+pub signed_field : IsField signed_at signed_text (FitsSigned w64)
+signed_field = record {
+  takes = λ bytes z rest fits e. let t = signed_takes bytes z rest fits e in (t.takes, t.fits);
+  again = signed_again;
+}

@@ -77,11 +77,11 @@ fn cells_of_each_type_are_read(rt: HostRuntime) -> Result<(), Fail> {
     assert!(rt; seen.rows() == 2 && seen.cols() == 4);
     assert!(rt; seen.stamp(1) == 2);
     assert!(rt; seen.name(2) == "c");
-    assert!(rt; matches!(seen.cell(1, 0), CellRef::Int(-1)));
-    assert!(rt; matches!(seen.cell(0, 1), CellRef::Flag(true)));
+    assert!(rt; matches!(seen.cell(0, 1), CellRef::Int(-1)));
+    assert!(rt; matches!(seen.cell(1, 0), CellRef::Flag(true)));
     assert!(rt; matches!(seen.cell(1, 1), CellRef::Flag(false)));
-    assert!(rt; matches!(seen.cell(0, 2), CellRef::Text("x")));
-    assert!(rt; matches!(seen.cell(1, 3), CellRef::Stamp(8)));
+    assert!(rt; matches!(seen.cell(2, 0), CellRef::Text("x")));
+    assert!(rt; matches!(seen.cell(3, 1), CellRef::Stamp(8)));
     Ok(())
 }
 

@@ -143,8 +143,8 @@ impl<'a> SegView<'a> {
         ColumnView::new(found.kind, self.rows, found.cells)
     }
 
-    /// The cell of a row at a column, both counted from 0.
-    pub fn cell(&self, row: u64, col: u64) -> CellRef<'a>
+    /// The cell of a column at a row, both counted from 0.
+    pub fn cell(&self, col: u64, row: u64) -> CellRef<'a>
         requires row { row < length self.now.rows }
         requires col { col < length self.now.schema.columns }
         ensures { cell_at self.now row col ≡ Some (cell_of result) }
@@ -152,8 +152,8 @@ impl<'a> SegView<'a> {
         self.column(col).cell(row)
     }
 
-    /// The whole number of a row at an `Int` column, both counted from 0.
-    pub fn int(&self, row: u64, col: u64) -> i64
+    /// The whole number of an `Int` column at a row, both counted from 0.
+    pub fn int(&self, col: u64, row: u64) -> i64
         requires row { row < length self.now.rows }
         requires kind { type_at self.now col ≡ Some ColType.Int }
         ensures { cell_at self.now row col ≡ Some (int_cell result) }
@@ -161,8 +161,8 @@ impl<'a> SegView<'a> {
         self.column(col).int(row)
     }
 
-    /// The flag of a row at a `Flag` column, both counted from 0.
-    pub fn flag(&self, row: u64, col: u64) -> bool
+    /// The flag of a `Flag` column at a row, both counted from 0.
+    pub fn flag(&self, col: u64, row: u64) -> bool
         requires row { row < length self.now.rows }
         requires kind { type_at self.now col ≡ Some ColType.Flag }
         ensures { cell_at self.now row col ≡ Some (flag_cell result) }
@@ -170,8 +170,8 @@ impl<'a> SegView<'a> {
         self.column(col).flag(row)
     }
 
-    /// The text of a row at a `Text` column, both counted from 0. It is lent from the viewed bytes.
-    pub fn text(&self, row: u64, col: u64) -> &'a str
+    /// The text of a `Text` column at a row, both counted from 0. It is lent from the viewed bytes.
+    pub fn text(&self, col: u64, row: u64) -> &'a str
         requires row { row < length self.now.rows }
         requires kind { type_at self.now col ≡ Some ColType.Text }
         ensures { cell_at self.now row col ≡ Some (text_cell result.now) }
@@ -179,8 +179,8 @@ impl<'a> SegView<'a> {
         self.column(col).text(row)
     }
 
-    /// The moment of a row at a `Stamp` column, both counted from 0.
-    pub fn stamp_cell(&self, row: u64, col: u64) -> i64
+    /// The moment of a `Stamp` column at a row, both counted from 0.
+    pub fn stamp_cell(&self, col: u64, row: u64) -> i64
         requires row { row < length self.now.rows }
         requires kind { type_at self.now col ≡ Some ColType.Stamp }
         ensures { cell_at self.now row col ≡ Some (stamp_cell result) }
@@ -192,6 +192,7 @@ impl<'a> SegView<'a> {
     pub fn to_frame(&self, alloc: Global) -> Result<Frame, NoMemory>
         ensures { IfOk result (λ frame. frame ≡ self.now) }
     {
+        // Opens the view, so that the proof knows what it keeps of the bytes.
         let _ = &self.bytes;
         let raw = RawFrame {
             stamps: copy_stamps(alloc, self)?,
