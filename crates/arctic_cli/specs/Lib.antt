@@ -1,0 +1,10 @@
+pub mod CommandLine
+pub mod FrameText
+pub mod Replies
+pub mod Transcript
+pub mod Program
+pub mod Causes
+pub mod Endings
+pub mod Performing
+pub mod Views
+pub mod Preparing

@@ -1,0 +1,4 @@
+pub mod Puts
+pub mod PutLaw
+pub mod PutLaws
+pub mod Writes
