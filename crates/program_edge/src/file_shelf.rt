@@ -79,9 +79,13 @@ impl<'a, R: Files> Shelf for FileShelf<'a, R> {
         into.clear();
         match read_file(self.rt, name, into) {
             Ok(()) => Ok(()),
-            Err(error) => {
+            Err(ShelfErr::Failed) => {
                 into.clear();
                 self.faults = self.faults.saturating_add(1);
+                Err(ShelfErr::Failed)
+            }
+            Err(error) => {
+                into.clear();
                 Err(error)
             }
         }

@@ -1,7 +1,7 @@
 ghost use Rattle.std.specs.Prelude.{IfOk};
 ghost use Rattle.frame_core.specs.Limits.{IsStorable};
 
-use crate::{encode, view};
+use crate::{SegView, encode, view};
 use frame_core::{CellRef, ColName, ColType, Column, Frame, Items, RawFrame, TextList};
 use std::alloc::Global;
 use std::test::Fail;
@@ -37,20 +37,75 @@ const ALL_TYPES: &[u8] = b"ASG1\0\0\0\x02\0\x04\0\0\0\0\0\0\0\x01\0\0\0\0\0\0\0\
 \x03\x01c\0\0\0\x01\0\0\0\x01x\
 \x04\x01d\0\0\0\0\0\0\0\x07\0\0\0\0\0\0\0\x08";
 
+// Where the bytes are at fault as a segment; none where they spell a frame.
+fn fault_at(bytes: &[u8]) -> Option<u64> {
+    match view(bytes) {
+        Ok(_) => None,
+        Err(fault) => Some(fault.at),
+    }
+}
+
+// The view of bytes that spell a frame.
+fn seen(bytes: &[u8]) -> Result<SegView<'_>, Fail> {
+    Ok(view(bytes)?)
+}
+
+// The spelling of a frame.
+fn spelled(alloc: Global, frame: &Frame) -> Result<Vec<u8>, Fail>
+    requires { IsStorable frame.now }
+{
+    Ok(encode(alloc, frame)?)
+}
+
+// The spelling of the frame in memory that these bytes give.
+fn spelled_again(alloc: Global, bytes: &[u8]) -> Result<Vec<u8>, Fail> {
+    let seen = view(bytes)?;
+    let frame = seen.to_frame(alloc)?;
+    Ok(encode(alloc, &frame)?)
+}
+
+// The stamp of a row; none outside the segment.
+fn stamp(seen: &SegView<'_>, row: u64) -> Option<i64> {
+    if row < seen.rows() {
+        Some(seen.stamp(row))
+    } else {
+        None
+    }
+}
+
+// The name and the type of a column; none outside the segment.
+fn head<'a>(seen: &SegView<'a>, column: u64) -> Option<(&'a str, ColType)> {
+    if column < seen.cols() {
+        Some((seen.name(column), seen.kind(column)))
+    } else {
+        None
+    }
+}
+
+// The cell of a column and a row, found by its column; none outside the segment.
+fn cell<'a>(seen: &SegView<'a>, column: u64, row: u64) -> Option<CellRef<'a>> {
+    if column >= seen.cols() {
+        return None;
+    }
+    let cells = seen.column(column);
+    if row < cells.len() {
+        Some(cells.cell(row))
+    } else {
+        None
+    }
+}
+
 #[test]
 fn one_whole_number_has_these_29_bytes(rt: HostRuntime) -> Result<(), Fail> {
     let alloc = rt.alloc();
     let column = Column::Ints(Items::from_slice(alloc, &[5])?);
     let frame = one_column(alloc, &[1], "a", column)?;
-    let bytes = encode(alloc, &frame)?;
-    assert_eq!(rt; bytes.as_slice(), ONE_NUMBER);
-    let seen = view(ONE_NUMBER)?;
+    assert_eq!(rt; spelled(alloc, &frame)?.as_slice(), ONE_NUMBER);
+    let seen = seen(ONE_NUMBER)?;
     assert!(rt; seen.rows() == 1 && seen.cols() == 1);
-    assert!(rt; seen.stamp(0) == 1);
-    assert!(rt; seen.name(0) == "a" && seen.kind(0) == ColType::Int);
-    let column = seen.column(0);
-    assert!(rt; column.kind() == ColType::Int && column.len() == 1);
-    assert!(rt; column.int(0) == 5);
+    assert!(rt; stamp(&seen, 0) == Some(1));
+    assert!(rt; head(&seen, 0) == Some(("a", ColType::Int)));
+    assert!(rt; matches!(cell(&seen, 0, 0), Some(CellRef::Int(5))));
     Ok(())
 }
 
@@ -61,36 +116,29 @@ fn a_text_and_the_empty_text_have_these_38_bytes(rt: HostRuntime) -> Result<(), 
     texts.push("x")?;
     texts.push("")?;
     let frame = one_column(alloc, &[1, 2], "s", Column::Texts(texts))?;
-    let bytes = encode(alloc, &frame)?;
-    assert_eq!(rt; bytes.as_slice(), TWO_TEXTS);
-    let seen = view(TWO_TEXTS)?;
-    assert!(rt; seen.rows() == 2 && seen.cols() == 1);
-    let column = seen.column(0);
-    assert!(rt; column.kind() == ColType::Text && column.len() == 2);
-    assert!(rt; column.text(0) == "x" && column.text(1) == "");
+    assert_eq!(rt; spelled(alloc, &frame)?.as_slice(), TWO_TEXTS);
+    let seen = seen(TWO_TEXTS)?;
+    assert!(rt; matches!(cell(&seen, 0, 0), Some(CellRef::Text("x"))));
+    assert!(rt; matches!(cell(&seen, 0, 1), Some(CellRef::Text(""))));
     Ok(())
 }
 
 #[test]
 fn cells_of_each_type_are_read(rt: HostRuntime) -> Result<(), Fail> {
-    let seen = view(ALL_TYPES)?;
-    assert!(rt; seen.rows() == 2 && seen.cols() == 4);
-    assert!(rt; seen.stamp(1) == 2);
-    assert!(rt; seen.name(2) == "c");
-    assert!(rt; matches!(seen.cell(0, 1), CellRef::Int(-1)));
-    assert!(rt; matches!(seen.cell(1, 0), CellRef::Flag(true)));
-    assert!(rt; matches!(seen.cell(1, 1), CellRef::Flag(false)));
-    assert!(rt; matches!(seen.cell(2, 0), CellRef::Text("x")));
-    assert!(rt; matches!(seen.cell(3, 1), CellRef::Stamp(8)));
+    let seen = seen(ALL_TYPES)?;
+    assert!(rt; stamp(&seen, 1) == Some(2) && stamp(&seen, 2).is_none());
+    assert!(rt; head(&seen, 2) == Some(("c", ColType::Text)));
+    assert!(rt; matches!(cell(&seen, 0, 1), Some(CellRef::Int(-1))));
+    assert!(rt; matches!(cell(&seen, 1, 0), Some(CellRef::Flag(true))));
+    assert!(rt; matches!(cell(&seen, 1, 1), Some(CellRef::Flag(false))));
+    assert!(rt; matches!(cell(&seen, 2, 0), Some(CellRef::Text("x"))));
+    assert!(rt; matches!(cell(&seen, 3, 1), Some(CellRef::Stamp(8))));
     Ok(())
 }
 
 #[test]
 fn a_view_in_memory_is_spelled_as_before(rt: HostRuntime) -> Result<(), Fail> {
-    let alloc = rt.alloc();
-    let seen = view(ALL_TYPES)?;
-    assert!(rt; seen.rows() == 2);
-    let bytes = encode(alloc, &seen.to_frame(alloc)?)?;
+    let bytes = spelled_again(rt.alloc(), ALL_TYPES)?;
     assert_eq!(rt; bytes.as_slice(), ALL_TYPES);
     Ok(())
 }
@@ -99,15 +147,15 @@ fn a_view_in_memory_is_spelled_as_before(rt: HostRuntime) -> Result<(), Fail> {
 fn a_byte_more_or_less_is_a_fault_at_its_field(rt: HostRuntime) -> Result<(), Fail> {
     let mut longer = Vec::from_slice(rt.alloc(), ONE_NUMBER)?;
     longer.push(0)?;
-    assert!(rt; matches!(view(&longer), Err(fault) if fault.at == 29));
-    assert!(rt; matches!(view(&ONE_NUMBER[..28]), Err(fault) if fault.at == 21));
+    assert!(rt; fault_at(&longer) == Some(29));
+    assert!(rt; fault_at(&ONE_NUMBER[..28]) == Some(21));
     Ok(())
 }
 
 #[test]
 fn a_segment_that_is_cut_is_refused(rt: HostRuntime) {
     for length in 0..ALL_TYPES.len() {
-        assert!(rt; view(&ALL_TYPES[..length]).is_err(), "cut at {length}");
+        assert!(rt; fault_at(&ALL_TYPES[..length]).is_some(), "cut at {length}");
     }
 }
 
@@ -133,14 +181,9 @@ fn each_broken_rule_is_a_fault_at_its_field(rt: HostRuntime) -> Result<(), Fail>
         let mut bytes = Vec::from_slice(rt.alloc(), ALL_TYPES)?;
         assert!(rt; place < bytes.len());
         bytes[place] = byte;
-        assert!(rt;
-            matches!(view(&bytes), Err(fault) if fault.at == at),
-            "at {place}"
-        );
+        assert!(rt; fault_at(&bytes) == Some(at), "at {place}");
     }
     // 2,000,000 rows of 5 columns are more than 8,000,000 cells.
-    assert!(rt;
-        matches!(view(b"ASG1\0\x1e\x84\x80\0\x05".as_slice()), Err(fault) if fault.at == 8)
-    );
+    assert!(rt; fault_at(b"ASG1\0\x1e\x84\x80\0\x05".as_slice()) == Some(8));
     Ok(())
 }
