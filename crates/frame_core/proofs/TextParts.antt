@@ -155,3 +155,9 @@ pub joined_made : (ends more_ends lent more_lent new : List ℕ) (buffer more_bu
 joined_made ends more_ends lent more_lent new buffer more_buffer first more empty one both texts more_texts are more_are view more_view same more_same lends more_lends none one_is both_is new_is =
     let joined = joined_ends 0 ends more_ends buffer more_buffer are more_are in
     rw (new_is, both_is, one_is, none, same, more_same, lends, more_lends, ← view, ← more_view) joined
+
+-- the fields of a list that another was put behind
+pub appended_made : (ends more_ends reserved more_lent new : List ℕ) (buffer more_buffer first more both : Text) (texts more_texts : List Text) (by : ℕ) → AreEnds 0 ends buffer → AreEnds 0 more_ends more_buffer → texts_between 0 ends buffer ≡ texts → texts_between 0 more_ends more_buffer ≡ more_texts → reserved ≡ ends → more_lent ≡ more_ends → first ≡ buffer → by ≡ length first → more ≡ more_buffer → both ≡ buffer ++ more → new ≡ reserved ++ map (λ end. end + by) more_lent → AreEnds 0 new both × (texts_between 0 new both ≡ texts ++ more_texts)
+appended_made ends more_ends reserved more_lent new buffer more_buffer first more both texts more_texts by are more_are view more_view same more_same lends by_is more_lends both_is new_is =
+    let joined = joined_ends 0 ends more_ends buffer more_buffer are more_are in
+    rw (new_is, both_is, same, more_same, by_is, lends, more_lends, ← view, ← more_view) joined

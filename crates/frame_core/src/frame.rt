@@ -1,9 +1,9 @@
-ghost use Rattle.std.specs.Prelude.{◌≡◌, ◌<◌, length, Some, IfOk};
+ghost use Rattle.std.specs.Prelude.{◌≡◌, ◌<◌, length, map, Some, IfOk};
 ghost use Rattle.frame_core.specs.Frames.{IsFrame, first_stamp, last_stamp, stamps_of, stamp_at, cell_at, type_at, cell_of as lent_cell};
 ghost use Rattle.frame_core.specs.Limits.{IsStorable};
 ghost use Rattle.frame_core.specs.RawFrames.{frame_from};
 ghost use Rattle.frame_core.specs.Refusals.{Answers};
-ghost use Rattle.frame_core.specs.Columns.{column_type, column_cells, cells_of};
+ghost use Rattle.frame_core.specs.Columns.{column_type, column_cells, cells_of, rows_from, IsWhole};
 
 use crate::cell::CellRef;
 use crate::column::Column;
@@ -54,6 +54,18 @@ impl Frame {
             return Err(Refusal::Unsorted { row });
         }
         Ok(making::built(alloc, raw)?)
+    }
+
+    /// The frame of these stamps and columns, which are moved: nothing is copied, and nothing is tested.
+    pub fn from_columns(schema: Schema, stamps: Items<i64>, columns: Items<Column>) -> Frame
+        requires { IsWhole schema stamps columns }
+        ensures { result ≡ record { schema = schema; rows = rows_from stamps (map column_cells columns) } }
+    {
+        Frame {
+            schema,
+            stamps,
+            columns,
+        }
     }
 
     /// The schema, lent.

@@ -1,6 +1,7 @@
 //! Frames: a schema and rows with rising stamps, kept in memory column by column.
 #![tactic(auto)]
 
+mod appending;
 mod cell;
 mod column;
 mod cutting;

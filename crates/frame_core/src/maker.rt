@@ -11,7 +11,6 @@ use crate::column::Column;
 use crate::frame::Frame;
 use crate::name::ColName;
 use crate::schema::Schema;
-use crate::texts::TextList;
 use base_types::{Items, Keep, NoMemory};
 use std::alloc::Global;
 use std::marker::Model;
@@ -97,19 +96,6 @@ impl FrameMaker {
     }
 }
 
-/// A column of this type without cells.
-fn empty_column(alloc: Global, kind: ColType) -> Column
-    ensures kind { column_type result ≡ kind }
-    ensures cells { column_cells result ≡ [] }
-{
-    match kind {
-        ColType::Int => Column::Ints(Items::new(alloc)),
-        ColType::Flag => Column::Flags(Items::new(alloc)),
-        ColType::Text => Column::Texts(TextList::new(alloc)),
-        ColType::Stamp => Column::Stamps(Items::new(alloc)),
-    }
-}
-
 /// A column without cells for each of these names and types.
 fn empty_columns(alloc: Global, heads: &[(ColName, ColType)]) -> Result<Vec<Column>, NoMemory>
     ensures kinds { IfOk result (λ columns. map column_type columns.items ≡ map (λ (c : Head). c.1) heads.now) }
@@ -117,7 +103,7 @@ fn empty_columns(alloc: Global, heads: &[(ColName, ColType)]) -> Result<Vec<Colu
 {
     let mut columns = Vec::with_capacity(alloc, heads.len())?;
     for (_, kind) in heads {
-        columns.push(empty_column(alloc, *kind))?;
+        columns.push(Column::empty(alloc, *kind))?;
     }
     Ok(columns)
 }
