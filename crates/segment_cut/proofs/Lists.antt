@@ -62,3 +62,11 @@ count_by-no p x xs fails = count_by-cons p x xs ∙ rw fails (omega arith)
 
 pub count_by-yes : {X : Type 0} (p : X → Bool) (x : X) (xs : List X) → p x ≡ true → count_by p (x ∷ xs) ≡ 1 + count_by p xs
 count_by-yes p x xs passes = count_by-cons p x xs ∙ rw passes refl
+
+pub all-unmap : {X Y : Type 0} (P : Y → Type 0) (f : X → Y) (xs : List X) → AllByRecursion P (map f xs) → AllByRecursion (λ x. P (f x)) xs
+all-unmap P f [] all = tt
+all-unmap P f (x ∷ xs) all = (all.0, all-unmap P f xs all.1)
+
+pub all-weaken : {X : Type 0} (P Q : X → Type 0) (xs : List X) → ((x : X) → P x → Q x) → AllByRecursion P xs → AllByRecursion Q xs
+all-weaken P Q [] weaker all = tt
+all-weaken P Q (x ∷ xs) weaker all = (weaker x all.0, all-weaken P Q xs weaker all.1)
