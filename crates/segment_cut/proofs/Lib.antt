@@ -2,3 +2,6 @@ pub mod Lists
 pub mod GridLemmas
 pub mod Wholes
 pub mod Cuts
+pub mod Orders
+pub mod Joined
+pub mod JoinSteps

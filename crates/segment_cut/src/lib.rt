@@ -3,11 +3,13 @@
 
 mod cutting;
 mod grid;
+mod joining;
 mod laws;
 mod tile;
 
 pub use base_types::NoMemory;
 pub use cutting::Cutting;
 pub use grid::Grid;
+pub use joining::join;
 pub use laws::parts_tile;
 pub use tile::cut;
