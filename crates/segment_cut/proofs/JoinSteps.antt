@@ -1,6 +1,6 @@
 -- The steps of joining.
-use Rattle.std.proofs.Common.{◌≡◌, ℕ, zero, suc, ◌+◌, ◌-◌, ◌<◌, ◌≤◌, ℤ, Bool, true, false, cond, ◌&&◌, nat_le, nat_lt, List, [], ◌∷◌, ◌++◌, length, map, get_or, take, drop, Some, refl, sym, ap, ◌∙◌, subst, arith, length-drop, Bor}
-use Rattle.std.specs.Prelude.{slice_get, slice_set, slice_range, option_map}
+use Rattle.std.proofs.Common.{◌≡◌, ℕ, zero, suc, ◌+◌, ◌-◌, ◌<◌, ◌≤◌, ℤ, Bool, true, false, cond, ◌&&◌, nat_le, nat_lt, List, [], ◌∷◌, ◌++◌, length, map, get_or, drop, Some, refl, sym, ap, ◌∙◌, subst, arith, Bor}
+use Rattle.std.specs.Prelude.{slice_get, slice_set, option_map}
 use Rattle.std.specs.List.{AllByRecursion}
 use Rattle.std.specs.List.Sorted.{IsPermutation, IsNonDecreasingBy}
 use Rattle.std.proofs.lemmas.List.{drop_all, length-map, get_or-map, get_or-set_other, append_assoc, append-nil}
@@ -10,15 +10,15 @@ use Rattle.frame_core.specs.declared.cell.ColType.{ColType}
 use Rattle.frame_core.specs.declared.cell.Cell.{Cell}
 use Rattle.frame_core.specs.declared.column.Column.{Column}
 use Rattle.frame_core.specs.Schemas.{Head, Schema}
-use Rattle.frame_core.specs.Frames.{Row, Frame, IsFrame, stamps_of, type_at}
+use Rattle.frame_core.specs.Frames.{Row, Frame, stamps_of, type_at}
 use Rattle.frame_core.specs.Columns.{column_type, column_cells, cells_of, columns_from}
 use Rattle.frame_core.proofs.MakerLemmas.{map-set}
 use Rattle.frame_core.proofs.ColumnParts.{slice-map}
-use Rattle.segment_cut.specs.Tiles.{Tile, LiesIn, Tiled, cut}
-use Rattle.segment_cut.specs.Joins.{IsTiledBy, AreTiles, has_column, tile_cells, joined_cells, with_stamps, joined_stamps, FitsKinds}
+use Rattle.segment_cut.specs.Tiles.{Tile, LiesIn, cut}
+use Rattle.segment_cut.specs.Joins.{IsTiledBy, AreTiles, tile_cells, joined_cells, with_stamps, joined_stamps, FitsKinds}
 use Rattle.segment_cut.proofs.Cuts.{get-slice}
-use Rattle.segment_cut.proofs.Orders.{Rising, Rising-from, Tiled-permutation}
-use Rattle.segment_cut.proofs.Joined.{AreParts, OnceFrom, SomeFrom, column-joined, stamps-joined}
+use Rattle.segment_cut.proofs.Orders.{Rising-from, Tiled-permutation}
+use Rattle.segment_cut.proofs.Joined.{AreParts, OnceFrom, column-joined, stamps-joined}
 
 -- one column grew by cells
 pub set-appended : (cols : List Column) (i : ℕ) (old new : Column) (more : List Cell) → i < length cols → old ≡ get_or cols i old → column_cells new ≡ column_cells old ++ more → map column_cells (slice_set cols i new) ≡ slice_set (map column_cells cols) i (get_or (map column_cells cols) i [] ++ more)
@@ -37,6 +37,7 @@ column-step t n at k olds cols new more place within more_is new_is before = by_
   where
     other : ((nat_le t.0.first_col k && nat_lt k (t.0.first_col + (n + 1))) ≡ (nat_le t.0.first_col k && nat_lt k (t.0.first_col + n))) → (k ≡ at → ⊥) → get_or new k [] ≡ get_or olds k [] ++ first_cells (n + 1) k t
     other same differs = ap (λ (cs : List (List Cell)). get_or cs k []) new_is ∙ get_or-set_other cols at k _ [] differs ∙ rw same before
+
     by_sides : (below : Bool) → nat_lt k at ≡ below → (above : Bool) → nat_lt at k ≡ above → get_or new k [] ≡ get_or olds k [] ++ first_cells (n + 1) k t
     by_sides true e above e' = other (grind (arith, e, place)) (λ same. absurd (grind (arith, e, same)))
     by_sides false e true e' = other (grind (arith, e', place)) (λ same. absurd (grind (arith, e', same)))
@@ -156,8 +157,8 @@ made schema copy tiles refs i stamps cols moved f is permuted up all copied move
       stamps_are = sym (ap (joined_stamps stamps) none) ∙ stamps_left ∙ sorted-stamps schema tiles sorted f is permuted up;
       kinds = rw (moves, is.schema_is) kinds;
       cells = rw moves (columns-are (map column_cells cols) 0 (length f.schema.columns) f.rows width (λ k lt.
-        sym (ap (λ (ts : List Tile). get_or (map column_cells cols) k [] ++ joined_cells k ts) none ∙ append-nil (get_or (map column_cells cols) k []))
-        ∙ cells_left k
-        ∙ sorted-column schema tiles sorted f k is permuted up lt
-        ∙ ap (λ n. cells_of n f.rows) (omega arith)));
+          sym (ap (λ (ts : List Tile). get_or (map column_cells cols) k [] ++ joined_cells k ts) none ∙ append-nil (get_or (map column_cells cols) k []))
+          ∙ cells_left k
+          ∙ sorted-column schema tiles sorted f k is permuted up lt
+          ∙ ap (λ n. cells_of n f.rows) (omega arith)));
     }

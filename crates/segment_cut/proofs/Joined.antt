@@ -1,17 +1,16 @@
 -- Tiles that are taken in the order of their first rows make the columns and the stamps of their frame.
-use Rattle.std.proofs.Common.{◌≡◌, ℕ, zero, suc, ◌+◌, ◌-◌, ◌<◌, ◌≤◌, ℤ, Bool, true, false, cond, ◌&&◌, nat_le, nat_lt, List, [], ◌∷◌, ◌++◌, length, map, get_or, take, drop, refl, sym, ap, ◌∙◌, subst, arith, length-drop, length-take}
-use Rattle.std.specs.Prelude.{count_by, slice_range, fold}
+use Rattle.std.proofs.Common.{◌≡◌, ℕ, ◌+◌, ◌-◌, ◌<◌, ◌≤◌, ℤ, Bool, true, false, cond, ◌&&◌, nat_le, nat_lt, List, [], ◌∷◌, ◌++◌, length, take, drop, refl, sym, ap, ◌∙◌, subst, arith, length-take}
+use Rattle.std.specs.Prelude.{count_by, slice_range}
 use Rattle.std.specs.List.{AllByRecursion}
 use Rattle.std.proofs.lemmas.List.{drop_all, take_all, length-map, length-take-le, drop-take, take-append-drop, append-nil, drop-drop}
 use Rattle.std.proofs.lemmas.List.Folds.{drop_split}
 use Rattle.std.proofs.Math.Seq.{take-append-add}
 use Rattle.frame_core.specs.declared.part.Part.{Part}
-use Rattle.frame_core.specs.declared.cell.Cell.{Cell}
 use Rattle.frame_core.specs.Frames.{Row, Frame, IsFrame, stamps_of}
-use Rattle.frame_core.specs.Columns.{cells_of, columns_from}
+use Rattle.frame_core.specs.Columns.{cells_of}
 use Rattle.frame_core.proofs.Rows.{length-cells_of}
 use Rattle.frame_core.proofs.ColumnParts.{slice-map}
-use Rattle.segment_cut.specs.Tiles.{Tile, LiesIn, Tiled, cut, cut_row, has_row, has_cell}
+use Rattle.segment_cut.specs.Tiles.{Tile, LiesIn, cut, has_row, has_cell}
 use Rattle.segment_cut.specs.Joins.{has_column, tile_cells, joined_cells, with_stamps, joined_stamps}
 use Rattle.segment_cut.proofs.Lists.{count_by-no, count_by-yes, and-assoc}
 use Rattle.segment_cut.proofs.Wholes.{widths}
@@ -138,8 +137,8 @@ column-joined f k s [] is lt le are once = by_side (nat_lt s (length f.rows)) re
         sym (drop_all s (cells_of k f.rows) (omega (arith, all, length-cells_of (length f.schema.columns) k f.rows lt (widths f is))))
 column-joined f k s (t ∷ ts) is lt le are once =
     by_tile (has_column t.0 k) refl (nat_lt 0 t.0.rows) refl
-      (λ passed. column-joined f k s ts is lt le (later f t ts are) (once-passed s (length f.rows) k t ts passed once))
-      (λ next. column-joined f k (t.0.first_row + t.0.rows) ts is lt are.inside.0.0 (later f t ts are) next)
+    (λ passed. column-joined f k s ts is lt le (later f t ts are) (once-passed s (length f.rows) k t ts passed once))
+    (λ next. column-joined f k (t.0.first_row + t.0.rows) ts is lt are.inside.0.0 (later f t ts are) next)
   where
     by_tile : (column : Bool) → has_column t.0 k ≡ column → (some : Bool) → nat_lt 0 t.0.rows ≡ some → (((row : ℕ) → has_cell t.0 row k ≡ false) → joined_cells k ts ≡ drop s (cells_of k f.rows)) → (OnceFrom (t.0.first_row + t.0.rows) (length f.rows) k ts → joined_cells k ts ≡ drop (t.0.first_row + t.0.rows) (cells_of k f.rows)) → tile_cells k t ++ joined_cells k ts ≡ drop s (cells_of k f.rows)
     by_tile false column some some_is passed next = rw column (passed (λ row. no-column t.0 row k column))
@@ -193,19 +192,24 @@ stamps-joined f s [] le are some = by_side (nat_lt s (length f.rows)) refl
         take_all s (stamps_of f.rows) (omega (arith, all, length-map f.rows (λ (r : Row). r.stamp)))
 stamps-joined f s (t ∷ ts) le are some =
     by_tile (nat_lt s (t.0.first_row + t.0.rows)) refl (nat_lt 0 t.0.rows) refl
-      (λ same. stamps-joined f s ts le (later f t ts are) same)
-      (λ more. stamps-joined f (t.0.first_row + t.0.rows) ts are.inside.0.0 (later f t ts are) more)
+    (λ same. stamps-joined f s ts le (later f t ts are) same)
+    (λ more. stamps-joined f (t.0.first_row + t.0.rows) ts are.inside.0.0 (later f t ts are) more)
   where
     stamps : List ℤ
     stamps = stamps_of f.rows
+
     reach : length (take s stamps) ≡ s
     reach = length-take-le s stamps (omega (arith, le, length-map f.rows (λ (r : Row). r.stamp)))
+
     adds : with_stamps (take s stamps) t ≡ take s stamps ++ drop (s - t.0.first_row) (slice_range stamps t.0.first_row (t.0.first_row + t.0.rows))
     adds = rw (reach, tile-stamps f t are.parts.0) refl
+
     passes : (m : ℕ) → s ≤ m → ((row : ℕ) → m ≤ row → has_row t.0 row ≡ false) → SomeFrom m (length f.rows) ts
     passes m le_m out = λ row low lt. subst (λ n. 1 ≤ n) (count_by-no (λ (u : Tile). has_row u.0 row) t ts (out row low)) (some row (omega (arith, le_m, low)) lt)
+
     stays : (SomeFrom s (length f.rows) ts → joined_stamps (take s stamps) ts ≡ stamps) → ((row : ℕ) → s ≤ row → has_row t.0 row ≡ false) → drop (s - t.0.first_row) (slice_range stamps t.0.first_row (t.0.first_row + t.0.rows)) ≡ [] → joined_stamps (with_stamps (take s stamps) t) ts ≡ stamps
     stays same out none = ap (λ (us : List ℤ). joined_stamps us ts) (adds ∙ ap (λ (us : List ℤ). take s stamps ++ us) none ∙ append-nil (take s stamps)) ∙ same (passes s (omega arith) out)
+
     by_tile : (beyond : Bool) → nat_lt s (t.0.first_row + t.0.rows) ≡ beyond → (any : Bool) → nat_lt 0 t.0.rows ≡ any → (SomeFrom s (length f.rows) ts → joined_stamps (take s stamps) ts ≡ stamps) → (SomeFrom (t.0.first_row + t.0.rows) (length f.rows) ts → joined_stamps (take (t.0.first_row + t.0.rows) stamps) ts ≡ stamps) → joined_stamps (with_stamps (take s stamps) t) ts ≡ stamps
     by_tile false beyond any any_is same more =
         let le_s : t.0.first_row + t.0.rows ≤ s = grind (arith, beyond) in

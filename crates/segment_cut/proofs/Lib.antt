@@ -1,5 +1,6 @@
 pub mod Lists
 pub mod GridLemmas
+pub mod GridTiles
 pub mod Wholes
 pub mod Cuts
 pub mod Orders

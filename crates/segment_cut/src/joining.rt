@@ -30,11 +30,7 @@ pub fn join(alloc: Global, schema: &Schema, tiles: &[(Part, Frame)]) -> Result<F
         add_columns(&mut columns, tile)?;
     }
     let schema = schema.copy(alloc)?;
-    Ok(Frame::from_columns(
-        schema,
-        stamps,
-        Items::from_vec(columns),
-    ))
+    Ok(Frame::from_columns(schema, stamps, Items::from_vec(columns)))
 }
 
 /// The tiles in the order of their first rows, lent.

@@ -5,6 +5,8 @@ mod cutting;
 mod grid;
 mod joining;
 mod laws;
+#[cfg(test)]
+mod tests;
 mod tile;
 
 pub use base_types::NoMemory;
