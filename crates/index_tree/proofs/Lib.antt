@@ -1,1 +1,3 @@
 pub mod SlotLaws
+pub mod SlotRules
+pub mod IndexLaws
