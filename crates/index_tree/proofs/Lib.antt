@@ -1,3 +1,4 @@
 pub mod SlotLaws
 pub mod SlotRules
 pub mod IndexLaws
+pub mod IndexLoops

@@ -73,7 +73,7 @@ fn is_among(columns: &[(ColName, ColType)], name: &str) -> bool
     ensures { result ≡ list_any (λ (head : Head). same_text name.now head.0) columns.now }
 {
     for (other, _kind) in columns {
-        if other.text() == name {
+        if name == other.text() {
             return true;
         }
     }
