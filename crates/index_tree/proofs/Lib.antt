@@ -2,3 +2,4 @@ pub mod SlotLaws
 pub mod SlotRules
 pub mod IndexLaws
 pub mod IndexLoops
+pub mod Covers

@@ -19,11 +19,10 @@ pub fn covering(
 ) -> Result<Items<u64>, NoMemory>
     ensures { IfOk result (λ places. places ≡ places_where (covers range columns.now) index.now.slots) }
 {
-    let rising = rising(alloc, columns)?;
-    let slots = index.slots.items();
-    let mut places = Items::with_capacity(alloc, slots.len())?;
-    for (place, slot) in slots.iter().enumerate() {
-        if shares_stamps(range, slot) && has_one(&rising, &slot.part) {
+    let columns = rising(alloc, columns)?;
+    let mut places = Items::with_capacity(alloc, index.slots.len())?;
+    for place in 0..index.slots.len() {
+        if is_covered(range, &columns, index.slots.at(place)) {
             places.push(place as u64)?;
         }
     }
@@ -38,6 +37,14 @@ fn rising(alloc: Global, columns: &[u64]) -> Result<Vec<u64>, NoMemory>
     let mut rising = Vec::from_slice(alloc, columns)?;
     rising.sort_unstable();
     Ok(rising)
+}
+
+/// Whether a slot is asked by the range and the columns, which rise.
+fn is_covered(range: Range, columns: &[u64], slot: &Slot) -> bool
+    requires { IsNonDecreasing columns.now }
+    ensures { result ≡ covers range columns.now slot.now }
+{
+    shares_stamps(range, slot) && has_one(columns, &slot.part)
 }
 
 /// Whether the stamps of a slot do not all lie below the range, nor all above it.
