@@ -188,6 +188,7 @@ pub slot_cols_breaks : (total columns : ℕ) (reach : Reach) (b0 b1 b2 b3 b4 b5 
     → takes_cols columns first_col cols ≡ false
     → slot_at total columns reach b0 ≡ Err (length b6)
 slot_cols_breaks total columns reach b0 b1 b2 b3 b4 b5 b6 b7 k first_row rows first last first_col cols h0 h1 r1 h2 r2 h3 r3 h4 r4 h5 r5 h6 r6 = rw (h0, h1, r1, h2, r2, h3, r3, h4, r4, h5, r5, h6, r6) refl
+
 -- ---- both ways
 
 -- a slot was taken, whose fields keep these rules

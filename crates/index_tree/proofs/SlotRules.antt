@@ -110,13 +110,17 @@ start_kept total columns r s fits a =
     let cols = cols_kept columns s.part.first_col s.part.cols (omega arith) a.cols in
     record {
       slot = record {
-        is_tile = a.is_tile; key = fits.key; fields = fits.fields;
+        is_tile = a.is_tile;
+        key = fits.key;
+        fields = fits.fields;
         first = (Decides-int_eq s.key.first s.first).0 first.1;
         last = (Decides-int_eq s.key.last s.last).0 last.1;
         ordered = le_is s.first s.last last.0;
         some_rows = leb-true 1 s.part.rows limits.0;
         most_rows = leb-true s.part.rows 100000 limits.1;
-        some_cols = cols.some_cols; most_cols = cols.most_cols; within = cols.within;
+        some_cols = cols.some_cols;
+        most_cols = cols.most_cols;
+        within = cols.within;
       };
       first_row = eqb-true s.part.first_row (r.first_row + r.rows) a.first_row;
       first_col = first_col;
@@ -138,18 +142,25 @@ same_kept columns before s is left fits a =
     let cols = cols_kept columns s.part.first_col s.part.cols (omega (arith, is.within)) a.cols in
     record {
       slot = record {
-        is_tile = a.is_tile; key = fits.key; fields = fits.fields;
+        is_tile = a.is_tile;
+        key = fits.key;
+        fields = fits.fields;
         first = (Decides-int_eq s.key.first s.first).0 first.1;
         last = (Decides-int_eq s.key.last s.last).0 last.1;
         ordered = subst (λ (t : ℤ). s.first ≤ℤ t) (sym last_is) (subst (λ (t : ℤ). t ≤ℤ before.last) (sym first_is) is.ordered);
         some_rows = omega (arith, is.some_rows);
         most_rows = omega (arith, is.most_rows);
-        some_cols = cols.some_cols; most_cols = cols.most_cols; within = cols.within;
+        some_cols = cols.some_cols;
+        most_cols = cols.most_cols;
+        within = cols.within;
       };
       follows = inl (record {
         left = differ (before.part.first_col + before.part.cols) columns is.within left;
         first_row = eqb-true s.part.first_row before.part.first_row a.first_row;
-        rows = rows; first = first_is; last = last_is; first_col = first_col;
+        rows = rows;
+        first = first_is;
+        last = last_is;
+        first_col = first_col;
       });
     }
 
