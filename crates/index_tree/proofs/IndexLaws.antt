@@ -1,21 +1,21 @@
 -- Each index that keeps the rules has one spelling.
-use Rattle.std.proofs.Common.{◌≡◌, ℕ, zero, suc, ◌+◌, ◌^◌, ◌<◌, ◌≤◌, Bool, true, not, ◌&&◌, ◌||◌, List, [], ◌∷◌, ◌++◌, map, length, Result, Ok, refl, sym, ap, subst, ◌∙◌, append_assoc, arith}
+use Rattle.std.proofs.Common.{◌≡◌, ℕ, zero, suc, ◌^◌, ◌<◌, Bool, true, not, ◌||◌, List, [], ◌∷◌, ◌++◌, map, length, Ok, refl, sym, ap, subst, ◌∙◌, append_assoc}
 use Rattle.std.specs.Int.{w16, w32, to_be_bytes}
 use Rattle.std.specs.List.{AllByRecursion, flat_map, list_any}
 use Rattle.std.proofs.lemmas.List.{append-nil}
 use Rattle.std.proofs.lemmas.List.Concat.{flat_map-cons}
-use Rattle.byte_fields.specs.Reading.{Reading, ◌>>=◌, number_at, magic_at}
+use Rattle.byte_fields.specs.Reading.{◌>>=◌, number_at, magic_at}
 use Rattle.byte_fields.specs.Readers.{IsBytes}
 use Rattle.byte_fields.proofs.Steps.{done, ok_is, bind_ok, bind_is, wanted_ok, wanted_is, both_true, whole_takes, whole_again, Takes, Takes-nothing, Takes-then}
 use Rattle.byte_fields.proofs.Numbers.{wide16, wide32, number_takes, number_again, magic_takes, magic_again}
 use Rattle.byte_fields.proofs.Lists.{flat_map-front}
-use Rattle.frame_core.specs.Texts.{Text, same_text}
-use Rattle.frame_core.specs.Schemas.{Head, IsColName, AreColumns, are_new}
+use Rattle.frame_core.specs.Texts.{same_text}
+use Rattle.frame_core.specs.Schemas.{Head, IsColName, are_new}
 use Rattle.segment_bytes.specs.Heads.{head_text, head_at}
 use Rattle.segment_bytes.proofs.HeadLaws.{IsNew, head_takes, head_again}
 use Rattle.index_tree.specs.declared.index.Slot.{Slot}
 use Rattle.index_tree.specs.declared.index.Index.{Index}
-use Rattle.index_tree.specs.IndexText.{index_magic, slot_text, index_text, heads_at, Reach, no_reach, rules_after, reach_of, slot_at, slots_at, index_at, index_of}
+use Rattle.index_tree.specs.IndexText.{index_magic, slot_text, index_text, heads_at, Reach, no_reach, reach_of, slot_at, slots_at, index_at, index_of}
 use Rattle.index_tree.specs.IndexRules.{FitsSlot, IsSlot, Cover, IsIndex}
 use Rattle.index_tree.proofs.SlotLaws.{slot_takes, slot_again}
 use Rattle.index_tree.proofs.SlotRules.{AllowedFrom, kept_all, allowed_all, fits_all}

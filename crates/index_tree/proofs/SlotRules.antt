@@ -1,5 +1,5 @@
 -- The rules by which slots are read are those of the format.
-use Rattle.std.proofs.Common.{◌≡◌, ℕ, ◌+◌, ◌^◌, ◌<◌, ◌≤◌, ℤ, ◌≤ℤ◌, Bool, true, false, not, ◌&&◌, ◌||◌, List, [], ◌∷◌, refl, sym, ap, subst, ◌∙◌, arith, w64, inl, inr}
+use Rattle.std.proofs.Common.{◌≡◌, ℕ, ◌+◌, ◌^◌, ◌<◌, ◌≤◌, ℤ, ◌≤ℤ◌, Bool, true, false, not, ◌&&◌, ◌||◌, List, [], ◌∷◌, refl, sym, ap, subst, arith, w64, inl, inr}
 use Rattle.std.specs.Prelude.{nat_le, nat_eq, int_le, FitsSigned, if◌then◌else◌}
 use Rattle.std.specs.List.{AllByRecursion}
 use Rattle.std.specs.Ordering.{int_eq}
@@ -8,7 +8,7 @@ use Rattle.std.proofs.lemmas.Bool.{leb-true, le-leb, eqb-true, eq-eqb, and_parts
 use Rattle.std.proofs.lemmas.Bool.Decides.{Decides-int_eq}
 use Rattle.index_tree.specs.declared.index.Slot.{Slot}
 use Rattle.index_tree.specs.IndexText.{Reach, GoesOn, no_reach, rules_after, reach_of}
-use Rattle.index_tree.specs.IndexRules.{FitsSlot, IsSlot, SameBlock, NextBlock, Follows, LeadOn, Cover}
+use Rattle.index_tree.specs.IndexRules.{FitsSlot, IsSlot, SameBlock, Follows, LeadOn, Cover}
 use Rattle.index_tree.proofs.SlotLaws.{takes_cols, Allowed}
 
 -- each slot keeps the rules that follow from those before it, and the last leaves nothing to cover

@@ -1,5 +1,5 @@
-use Rattle.std.proofs.Common.{◌≡◌, ◌∙◌, ◌<◌, ap, sym, length, arith, true, false, List, ℕ, take}
-use Rattle.index_tree.specs.Covering.{covers, places_where}
+use Rattle.std.proofs.Common.{◌≡◌, ◌∙◌, ◌<◌, ap, sym, length, arith, List, ℕ}
+use Rattle.index_tree.specs.Covering.{covers}
 use Rattle.index_tree.proofs.Covers.{places_taken, places_left, covered_all}
 use Rattle.index_tree.proofs.lookup.covering.Goals as goal
 use Rattle.index_tree.proofs.lookup.covering.Goals.{then-is_covered+in_ok-push, else-is_covered}

@@ -1,7 +1,5 @@
-use Rattle.std.proofs.Common.{◌≡◌, ◌∙◌, ◌≤◌, rules, arith, length, sym, false, true}
+use Rattle.std.proofs.Common.{◌≡◌, ◌∙◌, rules, length, sym, false}
 use Rattle.std.specs.Prelude.{nat_lt}
-use Rattle.std.specs.List.Sorted.{IsPartitionPoint}
-use Rattle.std.proofs.lemmas.Bool.{cases_lt, leb-true, lt-leb}
 use Rattle.std.proofs.lemmas.List.Sorted.{IsPartitionPoint-from_clause, IsPartitionedBy-ltb}
 use Rattle.index_tree.proofs.Covers.{had_rising, had_past, not_below}
 use Rattle.index_tree.proofs.lookup.has_one.Goals as goal

@@ -1,7 +1,7 @@
-use Rattle.std.proofs.Common.{◌∙◌, ◌+◌, ◌++◌, ◌∷◌, [], ap, sym, List, ℕ, ◌≡◌}
+use Rattle.std.proofs.Common.{◌∙◌, ◌++◌, ◌∷◌, [], ap, sym, List, ℕ, ◌≡◌}
 use Rattle.std.proofs.lemmas.Result.{err_from_is_err_and}
-use Rattle.frame_core.specs.Schemas.{Head, Schema}
-use Rattle.index_tree.proofs.IndexLoops.{is_named, HeadsSoFar, heads_more, heads_fail, heads_repeat}
+use Rattle.frame_core.specs.Schemas.{Schema}
+use Rattle.index_tree.proofs.IndexLoops.{is_named, heads_more, heads_fail, heads_repeat}
 use Rattle.index_tree.proofs.reading.read_schema.Goals as goal
 
 pub returns-in_err-kind-clause-columns : goal.returns-in_err-kind-clause-columns

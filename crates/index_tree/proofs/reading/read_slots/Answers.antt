@@ -1,9 +1,6 @@
-use Rattle.std.proofs.Common.{◌∙◌, ◌+◌, ap, sym, List}
 use Rattle.std.proofs.lemmas.Result.{err_from_is_err_and}
-use Rattle.index_tree.specs.declared.index.Slot.{Slot}
-use Rattle.index_tree.specs.IndexText.{Reach}
 use Rattle.index_tree.specs.SlotViews.{slot_seen}
-use Rattle.index_tree.proofs.IndexLoops.{SlotsSoFar, slots_more, slots_fail}
+use Rattle.index_tree.proofs.IndexLoops.{slots_more, slots_fail}
 use Rattle.index_tree.proofs.reading.read_slots.Goals as goal
 
 pub returns-in_err-slot : goal.returns-in_err-slot

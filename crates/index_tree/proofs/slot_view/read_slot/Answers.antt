@@ -1,11 +1,9 @@
-use Rattle.std.proofs.Common.{◌∙◌, sym, ap, subst, rules, w64, SFits, to_z, of_z, ℤ, List, ℕ, ◌≡◌, Ok, true, false}
+use Rattle.std.proofs.Common.{◌∙◌, sym, rules, w64, SFits, to_z, of_z, ℤ, ℕ, ◌≡◌, true, false}
 use Rattle.std.specs.Prelude.{◌&&◌, Bool}
 use Rattle.std.specs.Ordering.{int_eq}
 use Rattle.std.proofs.lemmas.Int.{to_z-of_z}
 use Rattle.std.proofs.lemmas.Result.{err_from_is_err_and}
-use Rattle.index_tree.specs.declared.index.Slot.{Slot}
-use Rattle.index_tree.specs.IndexText.{Reach, rules_after, slot_at}
-use Rattle.index_tree.specs.SlotViews.{slot_seen}
+use Rattle.index_tree.specs.IndexText.{Reach, rules_after}
 use Rattle.key_kind.specs.KeyViews.{key_of}
 use Rattle.index_tree.proofs.SlotLaws.{slot_read, slot_first_breaks, slot_last_fails, slot_last_breaks, slot_first_col_fails, slot_first_col_breaks, slot_cols_fails, slot_cols_breaks}
 use Rattle.index_tree.proofs.slot_view.read_slot.Goals as goal
