@@ -26,9 +26,23 @@ impl Model for Reach {
 
     ghost Value = { Reached };
 
-    ghost view = { λ r. record { first_row = r.first_row; rows = r.rows; first = r.first; last = r.last; columns = r.columns; is_open = r.is_open } };
+    ghost view = { λ r. record {
+      first_row = r.first_row;
+      rows = r.rows;
+      first = r.first;
+      last = r.last;
+      columns = r.columns;
+      is_open = r.is_open;
+    } };
 
-    ghost inverse = { λ r. record { first_row = r.first_row; rows = r.rows; first = r.first; last = r.last; columns = r.columns; is_open = r.is_open } };
+    ghost inverse = { λ r. record {
+      first_row = r.first_row;
+      rows = r.rows;
+      first = r.first;
+      last = r.last;
+      columns = r.columns;
+      is_open = r.is_open;
+    } };
 }
 
 impl Reach {

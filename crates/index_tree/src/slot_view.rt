@@ -50,7 +50,8 @@ impl SlotView<'_> {
 
 /// Whether a slice that begins at this column may have so many, of so many in the index.
 fn takes_cols(columns: u16, first_col: u16, cols: u16) -> bool
-    ensures { result ≡ (if nat_eq columns 0 then nat_eq cols 0 else nat_le 1 cols && nat_le cols 127 && nat_le (first_col + cols) columns) }
+    ensures { result ≡ (if nat_eq columns 0 then nat_eq cols 0
+        else nat_le 1 cols && nat_le cols 127 && nat_le (first_col + cols) columns) }
 {
     if columns == 0 {
         cols == 0
