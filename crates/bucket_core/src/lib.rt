@@ -7,6 +7,7 @@ mod bucket;
 mod entry;
 mod event;
 mod event_log;
+mod head;
 mod law;
 mod plain;
 
