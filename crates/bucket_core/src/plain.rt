@@ -1,4 +1,4 @@
-ghost use Rattle.std.specs.Prelude.{◌≡◌, ◌<◌, [], ◌∷◌, not, reverse, true, IfOk};
+ghost use Rattle.std.specs.Prelude.{◌≡◌, ◌↔◌, ◌≤◌, ◌<◌, [], ◌∷◌, not, reverse, true, IsTrue, IfOk};
 ghost use Rattle.std.specs.Arc.{arc_value};
 ghost use Rattle.bucket_core.specs.History.{puts_by};
 ghost use Rattle.bucket_core.specs.Laws.{IsLawful};
@@ -46,6 +46,13 @@ impl<L: Law> PlainBucket<L> {
             log: EventLog::new(alloc),
             law: PhantomData,
         })
+    }
+
+    /// Whether a store of so many events takes no more.
+    fn is_full(&self, count: u64) -> bool
+        ensures { IsTrue result ↔ (self.now.most ≤ count) }
+    {
+        self.most <= count
     }
 
     /// The events of the store, the oldest first.
@@ -107,7 +114,7 @@ impl<L: Law> Bucket<L> for PlainBucket<L> {
 
     fn put<R: Wait>(&mut self, _rt: &R, key: Key, body: Arc<Body>) -> Result<u64, StoreErr> {
         let count = self.log.len();
-        if self.most <= count {
+        if self.is_full(count) {
             return Err(StoreErr::Spent { count });
         }
         match self.log.put(self.alloc, self.number, key, body) {
@@ -132,7 +139,7 @@ impl<L: Law> Bucket<L> for PlainBucket<L> {
             return Err(StoreErr::Moved { now });
         }
         let count = self.log.len();
-        if self.most <= count {
+        if self.is_full(count) {
             return Err(StoreErr::Spent { count });
         }
         match self
@@ -158,7 +165,7 @@ impl<L: Law> Bucket<L> for PlainBucket<L> {
         if self.log.set_at(&key).is_some() {
             return Err(StoreErr::Taken { place: count });
         }
-        if self.most <= count {
+        if self.is_full(count) {
             return Err(StoreErr::Spent { count });
         }
         match self.log.name(self.alloc, self.number, snap, key, body) {
@@ -176,7 +183,7 @@ impl<L: Law> Bucket<L> for PlainBucket<L> {
             return Err(StoreErr::Missing { place });
         }
         let count = self.log.len();
-        if self.most <= count {
+        if self.is_full(count) {
             return Err(StoreErr::Spent { count });
         }
         match self.log.unname(self.alloc, self.number, snap, &key) {
@@ -190,7 +197,7 @@ impl<L: Law> Bucket<L> for PlainBucket<L> {
         if self.log.set_at(key).is_none() {
             return Ok(Dropped::Absent { place: count });
         }
-        if self.most <= count {
+        if self.is_full(count) {
             return Err(StoreErr::Spent { count });
         }
         match self.log.drop_key(self.alloc, self.number, key) {

@@ -1,4 +1,5 @@
-use Rattle.std.proofs.Common.{◌≡◌, suc, ap, ◌∙◌, arith}
+use Rattle.std.proofs.Common.{◌≤◌, sym, ◌≡◌, suc, ap, ◌∙◌, arith}
+use Rattle.std.proofs.lemmas.Bool.{true≢false}
 use Rattle.std.specs.Arc.{arc_value}
 use Rattle.bucket_core.specs.History.{puts_by}
 use Rattle.bucket_core.specs.Calls.{put_event}
@@ -6,7 +7,10 @@ use Rattle.bucket_core.proofs.BucketLemmas.{puts_by-le-length, puts_by-own, IsLa
 use Rattle.bucket_core.proofs.plain.PlainBucketBucket.put.Goals as goal
 
 pub overflow_add-self : goal.overflow_add-self
-overflow_add-self g c = let s = c.args.self.now in omega (arith, s.counted, puts_by-le-length s.number s.log, c.len-count.ensures, c.if-self-count.false)
+overflow_add-self g c =
+    let s = c.args.self.now in
+    let free : (s.most ≤ c.len-count.result → ⊥) = λ full. true≢false (sym (c.is_full.ensures.1 full) ∙ c.if-is_full.false) in
+    omega (arith, s.counted, puts_by-le-length s.number s.log, c.len-count.ensures, free)
 
 pub invariant_of-self : goal.invariant_of-self
 invariant_of-self g c =
