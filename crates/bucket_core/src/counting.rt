@@ -129,21 +129,11 @@ impl<L: Law, B: Bucket<L>> Bucket<L> for Counting<B> {
         self.inner.refer(rt, symbol, was, entry, mark, changes)
     }
 
-    fn name<R: Wait>(
-        &mut self,
-        rt: &R,
-        snap: &SnapName,
-        body: Arc<Body>,
-    ) -> Result<u64, StoreErr> {
+    fn name<R: Wait>(&mut self, rt: &R, snap: &SnapName, body: Arc<Body>) -> Result<u64, StoreErr> {
         self.inner.name(rt, snap, body)
     }
 
-    fn unname<R: Wait>(
-        &mut self,
-        rt: &R,
-        snap: &SnapName,
-        since: u64,
-    ) -> Result<u64, StoreErr> {
+    fn unname<R: Wait>(&mut self, rt: &R, snap: &SnapName, since: u64) -> Result<u64, StoreErr> {
         self.inner.unname(rt, snap, since)
     }
 

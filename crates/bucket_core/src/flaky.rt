@@ -172,12 +172,7 @@ impl<L: Law, B: Bucket<L>> Bucket<L> for Flaky<B> {
         }
     }
 
-    fn name<R: Wait>(
-        &mut self,
-        rt: &R,
-        snap: &SnapName,
-        body: Arc<Body>,
-    ) -> Result<u64, StoreErr> {
+    fn name<R: Wait>(&mut self, rt: &R, snap: &SnapName, body: Arc<Body>) -> Result<u64, StoreErr> {
         match self.plan.begin() {
             None => self.inner.name(rt, snap, body),
             Some(When::Before) => Err(StoreErr::Fault),
@@ -188,12 +183,7 @@ impl<L: Law, B: Bucket<L>> Bucket<L> for Flaky<B> {
         }
     }
 
-    fn unname<R: Wait>(
-        &mut self,
-        rt: &R,
-        snap: &SnapName,
-        since: u64,
-    ) -> Result<u64, StoreErr> {
+    fn unname<R: Wait>(&mut self, rt: &R, snap: &SnapName, since: u64) -> Result<u64, StoreErr> {
         match self.plan.begin() {
             None => self.inner.unname(rt, snap, since),
             Some(When::Before) => Err(StoreErr::Fault),
