@@ -12,6 +12,8 @@ mod flaky;
 mod head;
 mod law;
 mod plain;
+#[cfg(test)]
+mod tests;
 
 pub use answer::{Dropped, Found, Listed, StoreErr};
 pub use base_types::{Items, Keep, NoMemory};
