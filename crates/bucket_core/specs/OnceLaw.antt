@@ -73,16 +73,18 @@ is_new h s symbol entry key fresh same is e =
 moved_by : (h : History) (c : ℕ) (s symbol : Name) (w was : Option Key) (entry : Key) (list : List Change) → was_entry h s entry ≡ false → same_name s symbol ≡ true → ((key : Key) → was ≡ Some key → was_entry h symbol key ≡ true) → HasMovedOn (events.Refer c s w entry list ∷ h) symbol was
 moved_by h c s symbol w None entry list fresh same was_one =
     subst (λ b. cond b (Some entry) (reference h symbol) ≢ None) (sym same) (λ e. true≢false (ap is_some e))
-moved_by h c s symbol w (Some key) entry list fresh same was_one =
-    (subst (λ b. cond b (Some entry) (reference h symbol) ≢ Some key) (sym same) (is_new h s symbol entry key fresh same (was_one key refl)),
-    second (same_name s symbol && same_key entry key) (was_entry h symbol key) (was_one key refl))
+moved_by h c s symbol w (Some key) entry list fresh same was_one = (
+  subst (λ b. cond b (Some entry) (reference h symbol) ≢ Some key) (sym same) (is_new h s symbol entry key fresh same (was_one key refl)),
+  second (same_name s symbol && same_key entry key) (was_entry h symbol key) (was_one key refl),
+)
 
 -- a Refer of another symbol changes nothing of this one
 moved_beside : (h : History) (c : ℕ) (s symbol : Name) (w was : Option Key) (entry : Key) (list : List Change) → same_name s symbol ≡ false → HasMovedOn h symbol was → HasMovedOn (events.Refer c s w entry list ∷ h) symbol was
 moved_beside h c s symbol w None entry list other moved = subst (λ b. cond b (Some entry) (reference h symbol) ≢ None) (sym other) moved
-moved_beside h c s symbol w (Some key) entry list other moved =
-    (subst (λ b. cond b (Some entry) (reference h symbol) ≢ Some key) (sym other) moved.0,
-    second (same_name s symbol && same_key entry key) (was_entry h symbol key) moved.1)
+moved_beside h c s symbol w (Some key) entry list other moved = (
+  subst (λ b. cond b (Some entry) (reference h symbol) ≢ Some key) (sym other) moved.0,
+  second (same_name s symbol && same_key entry key) (was_entry h symbol key) moved.1,
+)
 
 -- an entry that the reference has moved on from
 was_one : (h : History) (symbol : Name) (was : Option Key) → HasMovedOn h symbol was → (key : Key) → was ≡ Some key → was_entry h symbol key ≡ true
