@@ -1,12 +1,14 @@
-//! Encodes, views or copies the segment of a made frame so many times, for bench/segments to time it.
+//! Encodes, views or copies the segment of a made frame, or cuts the frame and joins it, so many times, for bench/segments to
+//! time it.
 #![tactic(auto)]
 
 ghost use Rattle.std.specs.Prelude.{IfOk};
 ghost use Rattle.frame_core.specs.Limits.{IsStorable};
 
 use anyhow::Context;
-use frame_core::{ColName, ColType, Column, Frame, Items, NoMemory, RawFrame, TextList};
+use frame_core::{ColName, ColType, Column, Frame, Items, Keep, NoMemory, RawFrame, TextList};
 use segment_bytes::{ColumnView, encode, view};
+use segment_cut::{Cutting, join, tiles_of};
 use std::alloc::Global;
 use std::env;
 
@@ -87,13 +89,22 @@ fn sum_of_first(bytes: &[u8]) -> i64 {
     }
 }
 
-/// How much is done at once: bytes that are encoded or copied, or the sum of a view.
+/// The frame of the largest tiles, which are cut from a frame and joined again.
+fn cut_and_joined(alloc: Global, frame: &Frame) -> Result<Frame, NoMemory> {
+    let schema = frame.schema();
+    let tiles = tiles_of(alloc, frame, Cutting::largest())?;
+    join(alloc, schema, tiles.items())
+}
+
+/// How much is done at once: bytes that are encoded or copied, rows that are copied or cut and joined, or the sum of a view.
 fn step(alloc: Global, what: &str, frame: &Frame, bytes: &[u8]) -> Result<i64, NoMemory>
     requires { IsStorable frame.now }
 {
     match what {
         "encode" => Ok(encode(alloc, frame)?.len() as i64),
         "view" => Ok(sum_of_first(bytes)),
+        "columns" => Ok(frame.copy(alloc)?.rows() as i64),
+        "cut" => Ok(cut_and_joined(alloc, frame)?.rows() as i64),
         _ => Ok(Vec::from_slice(alloc, bytes)?.len() as i64),
     }
 }
@@ -119,7 +130,7 @@ fn measured(
 fn word(words: &[String], place: usize) -> anyhow::Result<&str> {
     let found = words
         .get(place)
-        .context("words: encode|view|copy int|text ROWS COLUMNS TIMES")?;
+        .context("words: encode|view|copy|columns|cut int|text ROWS COLUMNS TIMES")?;
     Ok(found.as_str())
 }
 

@@ -8,6 +8,7 @@ mod laws;
 #[cfg(test)]
 mod tests;
 mod tile;
+mod tiling;
 
 pub use base_types::NoMemory;
 pub use cutting::Cutting;
@@ -15,3 +16,4 @@ pub use grid::Grid;
 pub use joining::join;
 pub use laws::parts_tile;
 pub use tile::cut;
+pub use tiling::tiles_of;

@@ -7,7 +7,7 @@ use Rattle.segment_cut.proofs.tests.rejoined.Goals as goal
 
 pub join-requires : goal.join-requires
 join-requires c =
-    let moved : IsPermutation (tiles_of c.args.frame.now c.args.cutting) c.deref.result.now = rw (c.deref.ensures.value, ← c.in_ok-tiles_of.ensures, ← c.into_vec-tiles.ensures) c.reverse.ensures.permutation in
+    let moved : IsPermutation (tiles_of c.args.frame.now c.args.cutting) c.deref.result.now = rw (c.deref.ensures.value, ← c.in_ok-tiles_of.ensures.tiles, ← c.into_vec-tiles.ensures) c.reverse.ensures.permutation in
     record {
       frame = c.args.frame.now;
       is = record {

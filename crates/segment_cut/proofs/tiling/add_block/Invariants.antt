@@ -2,7 +2,7 @@ use Rattle.std.proofs.Common.{◌≡◌, ◌++◌, map}
 use Rattle.std.specs.List.{range_with_len}
 use Rattle.segment_cut.specs.Tiles.{cut}
 use Rattle.segment_cut.specs.Grids.{part_at, grid_of}
-use Rattle.segment_cut.proofs.tests.add_block.Given as goal
+use Rattle.segment_cut.proofs.tiling.add_block.Given as goal
 
 -- the tiles of the slices so far stand behind the others
 abbrev pub invariant-loop-slice : goal.invariant-loop-slice
