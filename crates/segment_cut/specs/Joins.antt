@@ -1,6 +1,6 @@
 -- How tiles are joined.
 --     IsTiledBy, AreTiles     a frame of this schema that tiles make; tiles of which there is one
---     has_column, tile_cells, joined_cells    the cells that a tile has of a column of the frame, and that tiles have, one behind another
+--     has_column, tile_cells, joined_cells    the cells that a tile has of a column, and that tiles have, one behind another
 --     with_stamps, joined_stamps      the stamps with those of a tile that lie beyond them, and with those of tiles in turn
 --     FitsKinds               whether a tile's columns are those of these types from its first column on
 use Rattle.std.specs.Prelude.{◌≡◌, ℕ, ◌+◌, ◌-◌, ◌≤◌, ℤ, Bool, ◌&&◌, if◌then◌else◌, nat_le, nat_lt, List, [], ◌++◌, length, map, drop, fold, slice_range}
