@@ -104,7 +104,7 @@ fn step(alloc: Global, what: &str, frame: &Frame, bytes: &[u8]) -> Result<i64, N
         "encode" => Ok(encode(alloc, frame)?.len() as i64),
         "view" => Ok(sum_of_first(bytes)),
         "columns" => Ok(frame.copy(alloc)?.rows() as i64),
-        "cut" => Ok(cut_and_joined(alloc, frame)?.rows() as i64),
+        "cut" => Ok(cut_and_joined(alloc, frame)?.rows().min(1 << 40) as i64),
         _ => Ok(Vec::from_slice(alloc, bytes)?.len() as i64),
     }
 }
