@@ -70,7 +70,8 @@ fn read_index(alloc: Global, bytes: &[u8]) -> Result<Index, Stop>
 /// Whether no earlier column has the name, which is noted.
 fn note_name<'a>(names: &mut BTreeSet<&'a str>, name: &'a str) -> Result<bool, NoMemory>
     ensures is_new { IfOk result (λ new. not new ≡ has_name names.old name.now) }
-    ensures noted { OnOk result ((other : List ℕ) → has_name names.new other ≡ (same_text other name.now || has_name names.old other)) }
+    ensures noted { OnOk result ((other : List ℕ)
+        → has_name names.new other ≡ (same_text other name.now || has_name names.old other)) }
 {
     Ok(names.insert(name)?)
 }
