@@ -3,3 +3,4 @@ pub mod SlotRules
 pub mod IndexLaws
 pub mod IndexLoops
 pub mod Covers
+pub mod NameNotes

@@ -3,3 +3,4 @@ pub mod IndexRules
 pub mod SlotViews
 pub mod IndexFaults
 pub mod Covering
+pub mod Names

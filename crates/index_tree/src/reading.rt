@@ -1,8 +1,6 @@
-ghost use Rattle.std.specs.Prelude.{◌≡◌, [], length, true, IfOk, IfErr, Ok};
-ghost use Rattle.std.specs.List.{list_any, AllByRecursion};
-ghost use Rattle.byte_fields.specs.Readers.{Gives};
+ghost use Rattle.std.specs.Prelude.{◌≡◌, ◌||◌, not, ℕ, List, [], length, true, IfOk, IfErr, OnOk, Ok};
+ghost use Rattle.index_tree.specs.Names.{has_name};
 ghost use Rattle.frame_core.specs.Texts.{same_text};
-ghost use Rattle.frame_core.specs.Schemas.{Head};
 ghost use Rattle.index_tree.specs.IndexText.{no_reach, heads_at, slots_at, index_at, index_text, index_of};
 ghost use Rattle.index_tree.specs.IndexRules.{IsIndex};
 ghost use Rattle.index_tree.specs.IndexFaults.{IsIndexFault, Reads};
@@ -16,6 +14,7 @@ use byte_fields::{read_magic, read_u16, read_u32};
 use frame_core::{ColName, ColType, Schema};
 use segment_bytes::read_head;
 use std::alloc::Global;
+use std::collections::BTreeSet;
 
 /// The fewest bytes that a slot has: the name in its key has one.
 const LEAST_SLOT_BYTES: usize = 67;
@@ -68,16 +67,13 @@ fn read_index(alloc: Global, bytes: &[u8]) -> Result<Index, Stop>
     })
 }
 
-/// Whether one of the columns has the name.
-fn is_among(columns: &[(ColName, ColType)], name: &str) -> bool
-    ensures { result ≡ list_any (λ (head : Head). same_text name.now head.0) columns.now }
+/// Whether no earlier column has the name, which is noted.
+fn note_name<'a>(names: &mut BTreeSet<&'a str>, name: &'a str) -> Result<bool, NoMemory>
+    ensures is_new { IfOk result (λ new. not new ≡ has_name names.old name.now) }
+    ensures noted { OnOk result ((other : List ℕ)
+        → has_name names.new other ≡ (same_text other name.now || has_name names.old other)) }
 {
-    for (other, _kind) in columns {
-        if name == other.text() {
-            return true;
-        }
-    }
-    false
+    Ok(names.insert(name)?)
 }
 
 /// The name of a column, which has 1 to 255 bytes, in memory of its own.
@@ -96,10 +92,11 @@ fn read_schema(alloc: Global, count: u16, bytes: &[u8]) -> Result<(Schema, &[u8]
     ensures timed { IfOk result (λ x. x.0.timed ≡ true) }
 {
     let mut schema = Schema::empty(alloc, true);
+    let mut names = BTreeSet::new(alloc);
     let mut rest = bytes;
     for _ in 0..count {
         let (kind, name, after) = read_head(rest)?;
-        if is_among(schema.columns(), name) {
+        if !note_name(&mut names, name)? {
             return Err(Stop::Bad {
                 left: name.len() + after.len(),
             });
