@@ -1,3 +1,4 @@
 pub mod MarkLaws
 pub mod ElementLaws
 pub mod SnapLaws
+pub mod Steps

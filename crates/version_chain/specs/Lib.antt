@@ -1,4 +1,5 @@
 pub mod Entries
 pub mod SnapBodies
 pub mod ChainFaults
+pub mod Reads
 pub mod States

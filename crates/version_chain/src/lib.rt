@@ -4,8 +4,11 @@
 
 mod elements;
 mod fault;
+mod fields;
 mod law;
 mod laws;
+mod marks;
+mod pieces;
 mod snapshots;
 mod state;
 mod walking;
