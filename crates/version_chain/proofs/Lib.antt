@@ -2,3 +2,4 @@ pub mod MarkLaws
 pub mod ElementLaws
 pub mod SnapLaws
 pub mod Steps
+pub mod Walked

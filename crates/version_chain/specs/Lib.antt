@@ -3,3 +3,4 @@ pub mod SnapBodies
 pub mod ChainFaults
 pub mod Reads
 pub mod States
+pub mod Elements

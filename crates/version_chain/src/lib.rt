@@ -2,11 +2,13 @@
 //! to a store.
 #![tactic(auto)]
 
+mod collecting;
 mod elements;
 mod fault;
 mod fields;
 mod law;
 mod laws;
+mod looking;
 mod marks;
 mod pieces;
 mod snapshots;
