@@ -1,11 +1,15 @@
 -- What a walk meets, where the history is only known to be lawful.
 use Rattle.std.proofs.Common.{◌≡◌, ℕ, zero, suc, ◌+◌, ◌-◌, ◌<◌, ◌≤◌, Bool, true, false, List, [], ◌∷◌, ◌++◌, length, take, refl, ap, sym, ◌∙◌, subst, append_assoc, arith, Option, Some, None, Result, Ok, Err}
-use Rattle.std.specs.Prelude.{Contains, slice_get, is_some, option_map, option_and_then}
-use Rattle.std.specs.List.{AllZip}
+use Rattle.std.specs.Prelude.{⊤, Contains, slice_get, is_some, option_map, option_and_then, map, reverse, cond, IfSome, fold}
+use mathlib.Core.List.{reverse_aux}
+use Rattle.std.specs.Coded.{×_prop, Unit-prop, le_prop}
+use Rattle.std.specs.List.{AllZip, cons_option}
 use Rattle.std.proofs.lemmas.Bool.{true≢false}
 use Rattle.std.proofs.lemmas.List.{length-append, append-nil, take_all, take_more, nil_from_length}
 use Rattle.std.proofs.lemmas.Option.{get_or_from_slice_get, slice_get_within}
-use Rattle.version_chain.specs.Elements.{entry_before, next_of}
+use Rattle.version_chain.specs.declared.state.SymbolState.{SymbolState}
+use Rattle.version_chain.specs.States.{hold_of, IsStateOf}
+use Rattle.version_chain.specs.Elements.{entry_before, next_of, IsCollected}
 use denote.Struct.Props.{props}
 use mathlib.Core.Logic.{∥∥₁_elim}
 use mathlib.Core.HLevel.{⊥_prop}
@@ -16,7 +20,7 @@ use Rattle.version_chain.specs.ChainFaults.{IsFaultOf}
 use Rattle.byte_fields.proofs.Steps.{done, ok_is}
 use Rattle.key_kind.specs.declared.key.KeyKind.TheVariants as kinds
 use Rattle.key_kind.specs.declared.key.Key.{Key}
-use Rattle.key_kind.specs.Names.{Name}
+use Rattle.key_kind.specs.Names.{Name, same_name}
 use Rattle.key_kind.specs.Keys.{is_put, reference_key}
 use Rattle.key_kind.specs.KeyText.{key_text, key_at}
 use Rattle.std.specs.Result.{is_err}
@@ -25,18 +29,26 @@ use Rattle.key_kind.specs.declared.key_bytes.KeyFault.TheVariants as key_faults
 use Rattle.key_kind.specs.KeyFaults.{IsKeyFault}
 use Rattle.key_kind.proofs.KeyReading.{key_again}
 use Rattle.bucket_core.specs.declared.event.Event.{Event}
+use Rattle.bucket_core.specs.declared.event.Event.TheVariants as events
+use Rattle.bucket_core.specs.declared.event.Change.{Change}
+use Rattle.bucket_core.specs.declared.event.Change.TheVariants as changes
 use Rattle.bucket_core.specs.History.{History, Bytes, stored, body_put, reference, StandsAsPut, AllByOthers}
 use Rattle.bucket_core.specs.Laws.{Grown, Looks}
+use Rattle.bucket_core.specs.Calls.{IsSteady}
 use Rattle.store_model.specs.declared.chain.Entry.{Entry}
 use Rattle.store_model.specs.ChainText.{entry_of}
-use Rattle.store_model.specs.Links.{entries, is_entry, element}
-use Rattle.store_model.specs.Walks.{chain, HasElements}
+use Rattle.store_model.specs.declared.chain.LinkRow.{LinkRow}
+use Rattle.store_model.specs.Commits.{Rising}
+use Rattle.store_model.specs.Intact.{IsLinkOf}
+use Rattle.store_model.specs.Library.{State, Version, state_of, number_after, next_number, new_version, after_change, after_changes}
+use Rattle.store_model.specs.Links.{Linked, links, entries, is_entry, element}
+use Rattle.store_model.specs.Walks.{chain, HasElements, rows_in, tombs_in, holds_in, pieces_in}
 use Rattle.store_model.specs.Law.{IsClaimed, IsLawful}
 use Rattle.store_model.proofs.AsPut.{element_stays, elements_as_put}
 use Rattle.store_model.proofs.Histories.{stands_was_put}
 use Rattle.store_model.proofs.Lawful.{lawful_is_intact}
 use Rattle.store_model.proofs.Standing.{lawful_is_shown}
-use Rattle.store_model.proofs.Walking.{has_elements}
+use Rattle.store_model.proofs.Walking.{has_elements, walk_is_state}
 use Rattle.store_model.proofs.Following.{entries-first, chain-prev, chain-at, puts_stay, entry_stays, entry_is_among, among_is_entry, at_is_among, PutKey, put_key}
 
 some_is : {A : Type 0} (a b : A) → Some a ≡ Some b → a ≡ b
@@ -51,13 +63,22 @@ pub others_append : (client : ℕ) (a b : History) → AllByOthers client a → 
 others_append client [] b p q = q
 others_append client (e ∷ a) b p q = (p.0, others_append client a b p.1 q)
 
-pub looks_then : (client : ℕ) (sole : Bool) (old mid new : History) → Looks IsClaimed client sole old mid → Looks IsClaimed client sole mid new → Looks IsClaimed client sole old new
-looks_then client sole old mid new a b = record {
+pub looks_then : (client : ℕ) (sole : Bool) (later : ℕ) (alone : Bool) (old mid new : History) → later ≡ client → (sole ≡ true → alone ≡ true) → Looks IsClaimed client sole old mid → Looks IsClaimed later alone mid new → Looks IsClaimed client sole old new
+looks_then client sole later alone old mid new same stays a b = record {
   others = b.others ++ a.others;
   is = b.is ∙ (ap (λ (h : History). b.others ++ h) a.is ∙ sym (append_assoc b.others a.others old));
-  by_others = others_append client b.others a.others b.by_others a.by_others;
-  alone = λ e. ap (λ (h : History). h ++ a.others) (b.alone e) ∙ a.alone e;
+  by_others = others_append client b.others a.others (subst (λ n. AllByOthers n b.others) same b.by_others) a.by_others;
+  alone = λ e. ap (λ (h : History). h ++ a.others) (b.alone (stays e)) ∙ a.alone e;
   lawful = λ l. b.lawful (a.lawful l);
+}
+
+-- and the bucket stays what it was
+pub steady_then : {B : Type 0} (number limit faults : B → ℕ) (sole : B → Bool) (old mid new : B) → IsSteady number limit faults sole old mid → IsSteady number limit faults sole mid new → IsSteady number limit faults sole old new
+steady_then number limit faults sole old mid new a b = record {
+  same_number = b.same_number ∙ a.same_number;
+  same_limit = b.same_limit ∙ a.same_limit;
+  faults_rise = omega (arith, a.faults_rise, b.faults_rise);
+  stays_sole = λ e. b.stays_sole (a.stays_sole e);
 }
 
 -- nothing happens between
@@ -267,7 +288,7 @@ pub so_far_ends : (client : ℕ) (sole : Bool) (g h : History) (newest : Key) (e
 so_far_ends client sole g h newest es a lawful s none = ∥∥₁_elim lawful prop (λ l.
     let count = same_count g newest.name (lawful_before a.others g (subst IsLawful a.is l)) in
     let past = past_end (entries g newest.name) (length es) (sym s.next ∙ none) in
-    s.elements ∙ take_all (chain g newest.name) (length es) (omega (arith, count, past)))
+    s.elements ∙ take_all (length es) (chain g newest.name) (omega (arith, count, past)))
   where
     prop : IsProp (es ≡ chain g newest.name)
     prop = hlevel props
@@ -278,3 +299,107 @@ no_elements_told g symbol lawful none = ∥∥₁_elim lawful prop (λ l. nil_fr
   where
     prop : IsProp (chain g symbol ≡ [])
     prop = hlevel props
+
+-- ---- the state that the elements give
+
+-- versions fall, the newest first
+abbrev pub Falls : List ℕ → Type 0
+Falls [] = ⊤
+Falls (n ∷ []) = ⊤
+Falls (n ∷ m ∷ more) = (m < n) × Falls (m ∷ more)
+
+one_version : (st : State) (o : Option Version) → IfSome o (λ v. v.number ≡ next_number st) → Falls (map (λ (v : Version). v.number) st.versions) → Falls (map (λ (v : Version). v.number) (cons_option o st.versions))
+one_version st None is falls = falls
+one_version st (Some v) is falls = by st.versions is falls
+  where
+    by : (versions : List Version) → v.number ≡ number_after versions → Falls (map (λ (x : Version). x.number) versions) → Falls (v.number ∷ map (λ (x : Version). x.number) versions)
+    by [] e f = tt
+    by (w ∷ more) e f = (omega (arith, e), f)
+
+new_is_next : (st : State) (c : Change) → IfSome (new_version st c) (λ v. v.number ≡ next_number st)
+new_is_next st (changes.Wrote frame at) = refl
+new_is_next st (changes.Appended frame at) = refl
+new_is_next st (changes.Updated frame range at) = refl
+new_is_next st (changes.Removed versions) = tt
+new_is_next st (changes.Held holder version) = tt
+new_is_next st (changes.Released holder) = tt
+new_is_next st (changes.Discarded pieces) = tt
+
+falls_after : (st : State) (list : List Change) → Falls (map (λ (v : Version). v.number) st.versions) → Falls (map (λ (v : Version). v.number) (fold after_change st list).versions)
+falls_after st [] falls = falls
+falls_after st (c ∷ list) falls = falls_after (after_change st c) list (one_version st (new_version st c) (new_is_next st c) falls)
+
+-- the versions of a symbol fall
+versions_fall : (h : History) (symbol : Name) → Falls (map (λ (v : Version). v.number) (state_of h symbol).versions)
+versions_fall [] symbol = tt
+versions_fall (events.Put c key body ∷ h) symbol = versions_fall h symbol
+versions_fall (events.Refer c s was entry list ∷ h) symbol =
+    elim (same_name s symbol) as (λ b. Falls (map (λ (v : Version). v.number) (cond b (after_changes (state_of h symbol) list) (state_of h symbol)).versions)) [
+      | true ↦ falls_after (state_of h symbol) list (versions_fall h symbol)
+      | false ↦ versions_fall h symbol
+    ]
+versions_fall (events.Name c snap body ∷ h) symbol = versions_fall h symbol
+versions_fall (events.Unname c snap ∷ h) symbol = versions_fall h symbol
+versions_fall (events.Drop c key ∷ h) symbol = versions_fall h symbol
+
+-- so do those of its links
+links_fall : (h : History) (symbol : Name) → IsLawful h → Falls (map (λ (l : Linked). l.row.version) (links h symbol))
+links_fall h symbol l = subst Falls (sym (by (links h symbol) (state_of h symbol).versions ((lawful_is_intact h l).versions symbol))) (versions_fall h symbol)
+  where
+    by : (ls : List Linked) (vs : List Version) → AllZip IsLinkOf ls vs → map (λ (l : Linked). l.row.version) ls ≡ map (λ (v : Version). v.number) vs
+    by [] [] z = refl
+    by [] (v ∷ vs) z = absurd z
+    by (k ∷ ls) [] z = absurd z
+    by (k ∷ ls) (v ∷ vs) z = λ i. z.0.number i ∷ by ls vs z.1 i
+
+rises_reversed : (ns : List ℕ) → Falls ns → Rising (reverse ns)
+rises_reversed [] f = tt
+rises_reversed (n ∷ ns) f = onto n ns [] f tt
+  where
+    onto : (n : ℕ) (ns more : List ℕ) → Falls (n ∷ ns) → Rising (n ∷ more) → Rising (reverse_aux ns (n ∷ more))
+    onto n [] more f r = r
+    onto n (m ∷ ns) more f r = onto m ns (n ∷ more) f.1 (f.0, r)
+
+map_map : {A B C : Type 0} (f : A → B) (g : B → C) (xs : List A) → map g (map f xs) ≡ map (λ x. g (f x)) xs
+map_map f g [] = refl
+map_map f g (x ∷ xs) = ap (λ ys. g (f x) ∷ ys) (map_map f g xs)
+
+map_reverse : {A B : Type 0} (f : A → B) (xs : List A) → map f (reverse xs) ≡ reverse (map f xs)
+map_reverse {A} {B} f xs = onto xs []
+  where
+    onto : (xs more : List A) → map f (reverse_aux xs more) ≡ reverse_aux (map f xs) (map f more)
+    onto [] more = refl
+    onto (x ∷ xs) more = onto xs (x ∷ more)
+
+-- the state of the elements of a chain is the symbol's
+pub collected_told : (g : History) (symbol : Name) (was : Option Key) (es : List Entry) (place : ℕ) (state : SymbolState) → ∥ IsLawful g ∥₁ → was ≡ reference g symbol → es ≡ chain g symbol → IsCollected was es place state → IsStateOf g symbol state
+collected_told g symbol was es place state lawful is_was is_chain c = record {
+  was = c.was ∙ is_was;
+  links = ∥∥₁_elim lawful prop_links (λ l. c.links ∙ ap reverse (ap rows_in is_chain ∙ (walk_is_state g l symbol).rows));
+  tombs = ∥∥₁_elim lawful prop_tombs (λ l. c.tombs ∙ (ap tombs_in is_chain ∙ (walk_is_state g l symbol).tombs));
+  holds = ∥∥₁_elim lawful prop_holds (λ l. c.holds ∙ (ap holds_in is_chain ∙ (walk_is_state g l symbol).holds));
+  consumed = ∥∥₁_elim lawful prop_consumed (λ l. c.consumed ∙ (ap pieces_in is_chain ∙ (walk_is_state g l symbol).pieces));
+}
+  where
+    prop_links : IsProp (state.links ≡ reverse (map (λ (l : Linked). l.row) (links g symbol)))
+    prop_links = hlevel props
+
+    prop_tombs : IsProp (state.tombs ≡ (state_of g symbol).buried)
+    prop_tombs = hlevel props
+
+    prop_holds : IsProp (map hold_of state.holds ≡ (state_of g symbol).holds)
+    prop_holds = hlevel props
+
+    prop_consumed : IsProp (state.consumed ≡ (state_of g symbol).consumed)
+    prop_consumed = hlevel props
+
+-- its links rise
+pub rising_told : (g : History) (symbol : Name) (state : SymbolState) → ∥ IsLawful g ∥₁ → IsStateOf g symbol state → Rising (map (λ (row : LinkRow). row.version) state.links)
+rising_told g symbol state lawful s = ∥∥₁_elim lawful (rising_prop (map (λ (row : LinkRow). row.version) state.links)) (λ l.
+    subst Rising (sym (ap (map (λ (row : LinkRow). row.version)) s.links ∙ (map_reverse (λ (row : LinkRow). row.version) (map (λ (k : Linked). k.row) (links g symbol)) ∙ ap reverse (map_map (λ (k : Linked). k.row) (λ (row : LinkRow). row.version) (links g symbol)))))
+    (rises_reversed (map (λ (k : Linked). k.row.version) (links g symbol)) (links_fall g symbol l)))
+  where
+    rising_prop : (ns : List ℕ) → IsProp (Rising ns)
+    rising_prop [] = Unit-prop
+    rising_prop (n ∷ []) = Unit-prop
+    rising_prop (n ∷ m ∷ more) = ×_prop le_prop (rising_prop (m ∷ more))
