@@ -8,7 +8,7 @@ use Rattle.std.proofs.lemmas.Bool.{true≢false}
 use Rattle.std.proofs.lemmas.List.{length-append, append-nil, take_all, take_more, nil_from_length}
 use Rattle.std.proofs.lemmas.Option.{get_or_from_slice_get, slice_get_within}
 use Rattle.version_chain.specs.declared.state.SymbolState.{SymbolState}
-use Rattle.version_chain.specs.States.{hold_of, IsStateOf}
+use Rattle.version_chain.specs.States.{hold_of, IsStateOf, IsStateAt}
 use Rattle.version_chain.specs.Elements.{entry_before, next_of, IsCollected}
 use denote.Struct.Props.{props}
 use mathlib.Core.Logic.{∥∥₁_elim}
@@ -403,3 +403,13 @@ rising_told g symbol state lawful s = ∥∥₁_elim lawful (rising_prop (map (�
     rising_prop [] = Unit-prop
     rising_prop (n ∷ []) = Unit-prop
     rising_prop (n ∷ m ∷ more) = ×_prop le_prop (rising_prop (m ∷ more))
+
+-- the state at the place of the look at the reference
+pub state_at : (client : ℕ) (sole : Bool) (g h : History) (symbol : Name) (was : Option Key) (es : List Entry) (place : ℕ) (state : SymbolState) → Looks IsClaimed client sole g h → place ≡ length g → ∥ IsLawful g ∥₁ → was ≡ reference g symbol → es ≡ chain g symbol → IsCollected was es place state → IsStateAt h symbol state
+state_at client sole g h symbol was es place state a is_place lawful is_was is_chain c = record {
+  later = a.others;
+  before = g;
+  split = a.is;
+  place = c.place ∙ is_place;
+  is = collected_told g symbol was es place state lawful is_was is_chain c;
+}

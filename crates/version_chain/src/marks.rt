@@ -147,7 +147,7 @@ fn read_mark(
 }
 
 /// The version of a Tomb.
-fn tomb_version(mark: &ChainMark) -> Option<u64>
+pub(crate) fn tomb_version(mark: &ChainMark) -> Option<u64>
     ensures { result ≡ tomb_of mark.now }
 {
     match mark {
