@@ -3,3 +3,4 @@ pub mod ElementLaws
 pub mod SnapLaws
 pub mod Steps
 pub mod Walked
+pub mod Collected

@@ -17,8 +17,7 @@ use Rattle.byte_fields.specs.Reading.{read_of, fault_at}
 use Rattle.version_chain.specs.declared.fault.EntryFault.{EntryFault}
 use Rattle.version_chain.specs.declared.fault.EntryFault.TheVariants as faults
 use Rattle.version_chain.specs.ChainFaults.{IsFaultOf}
-use Rattle.byte_fields.proofs.Steps.{done, ok_is}
-use Rattle.key_kind.specs.declared.key.KeyKind.TheVariants as kinds
+use Rattle.byte_fields.proofs.Steps.{ok_is}
 use Rattle.key_kind.specs.declared.key.Key.{Key}
 use Rattle.key_kind.specs.Names.{Name, same_name}
 use Rattle.key_kind.specs.Keys.{is_put, reference_key}
@@ -28,12 +27,11 @@ use Rattle.key_kind.specs.declared.key_bytes.KeyFault.{KeyFault}
 use Rattle.key_kind.specs.declared.key_bytes.KeyFault.TheVariants as key_faults
 use Rattle.key_kind.specs.KeyFaults.{IsKeyFault}
 use Rattle.key_kind.proofs.KeyReading.{key_again}
-use Rattle.bucket_core.specs.declared.event.Event.{Event}
 use Rattle.bucket_core.specs.declared.event.Event.TheVariants as events
 use Rattle.bucket_core.specs.declared.event.Change.{Change}
 use Rattle.bucket_core.specs.declared.event.Change.TheVariants as changes
 use Rattle.bucket_core.specs.History.{History, Bytes, stored, body_put, reference, StandsAsPut, AllByOthers}
-use Rattle.bucket_core.specs.Laws.{Grown, Looks}
+use Rattle.bucket_core.specs.Laws.{Looks}
 use Rattle.bucket_core.specs.Calls.{IsSteady}
 use Rattle.store_model.specs.declared.chain.Entry.{Entry}
 use Rattle.store_model.specs.ChainText.{entry_of}
@@ -42,14 +40,14 @@ use Rattle.store_model.specs.Commits.{Rising}
 use Rattle.store_model.specs.Intact.{IsLinkOf}
 use Rattle.store_model.specs.Library.{State, Version, state_of, number_after, next_number, new_version, after_change, after_changes}
 use Rattle.store_model.specs.Links.{Linked, links, entries, is_entry, element}
-use Rattle.store_model.specs.Walks.{chain, HasElements, rows_in, tombs_in, holds_in, pieces_in}
+use Rattle.store_model.specs.Walks.{chain, rows_in, tombs_in, holds_in, pieces_in}
 use Rattle.store_model.specs.Law.{IsClaimed, IsLawful}
 use Rattle.store_model.proofs.AsPut.{element_stays, elements_as_put}
 use Rattle.store_model.proofs.Histories.{stands_was_put}
 use Rattle.store_model.proofs.Lawful.{lawful_is_intact}
 use Rattle.store_model.proofs.Standing.{lawful_is_shown}
 use Rattle.store_model.proofs.Walking.{has_elements, walk_is_state}
-use Rattle.store_model.proofs.Following.{entries-first, chain-prev, chain-at, puts_stay, entry_stays, entry_is_among, among_is_entry, at_is_among, PutKey, put_key}
+use Rattle.store_model.proofs.Following.{entries-first, chain-prev, chain-at, puts_stay, entry_stays, entry_is_among, among_is_entry, at_is_among, put_key}
 
 some_is : {A : Type 0} (a b : A) → Some a ≡ Some b → a ≡ b
 some_is a b e = cc

@@ -1,4 +1,4 @@
-ghost use Rattle.std.specs.Prelude.{◌≡◌, ◌++◌, not, map, filter, filter_map, flat_map, fold, reverse, IfOk, OnOk};
+ghost use Rattle.std.specs.Prelude.{◌≡◌, ◌++◌, [], ◌∷◌, not, map, filter, filter_map, flat_map, fold, reverse, IfOk, OnOk};
 ghost use Rattle.key_kind.specs.Keys.{same_holder};
 ghost use Rattle.store_model.specs.ChainText.{tomb_of};
 ghost use Rattle.store_model.specs.Walks.{row_of, pieces_of, holds_after_mark, tombs_in, rows_in, pieces_in, holds_in};
@@ -83,11 +83,7 @@ fn find_pieces(alloc: Global, elements: &[Entry]) -> Result<Items<PieceName>, No
 }
 
 /// The holds without those of a holder.
-fn without(
-    alloc: Global,
-    holds: &[HoldRow],
-    holder: Holder,
-) -> Result<Items<HoldRow>, NoMemory>
+fn without(alloc: Global, holds: &[HoldRow], holder: Holder) -> Result<Items<HoldRow>, NoMemory>
     ensures { IfOk result (λ kept. map hold_of kept ≡ filter (λ w. not (same_holder holder w.holder)) (map hold_of holds.now)) }
 {
     let mut kept = Items::new(alloc);
@@ -146,15 +142,23 @@ fn find_holds(alloc: Global, elements: &[Entry]) -> Result<Items<HoldRow>, NoMem
     Ok(holds)
 }
 
-/// Adds the links among marks, the last first, and moves them.
-fn add_links(links: &mut Items<LinkRow>, marks: Items<ChainMark>) -> Result<(), NoMemory>
-    ensures { OnOk result (links.new ≡ links.old ++ reverse (filter_map row_of marks)) }
+/// Adds the link of a mark, if it has one.
+fn add_link(links: &mut Items<LinkRow>, mark: ChainMark) -> Result<(), NoMemory>
+    ensures { OnOk result (links.new ≡ links.old ++ filter_map row_of (mark ∷ [])) }
 {
-    let mut rest = marks.into_vec();
+    match mark {
+        ChainMark::Link(row) => links.push(row),
+        _ => Ok(()),
+    }
+}
+
+/// Adds the links of an element, the last first, and moves them.
+fn add_links(links: &mut Items<LinkRow>, element: Entry) -> Result<(), NoMemory>
+    ensures { OnOk result (links.new ≡ links.old ++ reverse (filter_map row_of element.changes)) }
+{
+    let mut rest = element.changes.into_vec();
     while let Some(mark) = rest.pop() {
-        if let ChainMark::Link(row) = mark {
-            links.push(row)?;
-        }
+        add_link(links, mark)?;
     }
     Ok(())
 }
@@ -166,7 +170,7 @@ fn take_links(alloc: Global, elements: Items<Entry>) -> Result<Items<LinkRow>, N
     let mut links = Items::new(alloc);
     let mut rest = elements.into_vec();
     while let Some(element) = rest.pop() {
-        add_links(&mut links, element.changes)?;
+        add_links(&mut links, element)?;
     }
     Ok(links)
 }

@@ -27,11 +27,7 @@ fn refusal_of(why: StoreErr) -> Refusal
 }
 
 /// What stands under a key.
-fn look<R: Wait, B: Bucket<StoreLaw>>(
-    rt: &R,
-    bucket: &mut B,
-    key: &Key,
-) -> Result<Found, Refused>
+fn look<R: Wait, B: Bucket<StoreLaw>>(rt: &R, bucket: &mut B, key: &Key) -> Result<Found, Refused>
     ensures looks { Looks IsClaimed (B.number bucket.old) (B.sole bucket.old) (B.seen bucket.old) (B.seen bucket.new) }
     ensures steady { IsSteady B.number B.limit B.faults B.sole bucket.old bucket.new }
     ensures found { IfOk result (IsFound (B.seen bucket.new) key.now) }

@@ -1,9 +1,8 @@
-use Rattle.std.proofs.Common.{◌≡◌, true, ◌∙◌, sym, ap, Some, ℕ, List, Ok, Err}
+use Rattle.std.proofs.Common.{◌≡◌, ◌∙◌, sym, ap, Some}
 use Rattle.std.specs.Prelude.{option_map}
 use Rattle.std.specs.Arc.{arc_value}
 use Rattle.bucket_core.specs.History.{stored}
 use Rattle.store_model.specs.ChainText.{entry_of}
-use Rattle.store_model.specs.Links.{is_entry}
 use Rattle.version_chain.proofs.Walked.{entry_later, fault_told, stands_told, element_told, spelled_told}
 use Rattle.version_chain.proofs.looking.read_element.Goals as goal
 
