@@ -13,6 +13,8 @@ mod marks;
 mod pieces;
 mod snapshots;
 mod state;
+#[cfg(test)]
+mod tests;
 mod walking;
 
 pub use base_types::NoMemory;
