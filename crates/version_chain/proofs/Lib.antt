@@ -4,3 +4,4 @@ pub mod SnapLaws
 pub mod Steps
 pub mod Walked
 pub mod Collected
+pub mod Newest
