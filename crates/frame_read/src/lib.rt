@@ -1,0 +1,11 @@
+//! Reads: which version is asked, and the tiles of its frame in a range.
+#![tactic(auto)]
+
+mod choosing;
+mod resolving;
+mod target;
+
+pub use base_types::NoMemory;
+pub use choosing::choose;
+pub use resolving::resolve;
+pub use target::Target;
