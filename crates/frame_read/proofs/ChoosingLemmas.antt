@@ -57,6 +57,9 @@ nat_prop a b = hlevel props
 int_prop : (a b : ℤ) → IsProp (a ≡ b)
 int_prop a b = hlevel props
 
+pub truth_prop : (a b : Bool) → IsProp (a ≡ b)
+truth_prop a b = hlevel props
+
 alike_prop : (rows : List LinkRow) (vs : List Version) → IsProp (AllZip IsLike rows vs)
 alike_prop [] [] = Unit-prop
 alike_prop [] (v ∷ vs) = ⊥_prop

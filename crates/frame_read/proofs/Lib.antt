@@ -1,2 +1,4 @@
 pub mod ChoosingLemmas
 pub mod ResolvingLemmas
+pub mod FetchLemmas
+pub mod StampLemmas

@@ -38,7 +38,7 @@ use Rattle.reply_model.proofs.Later.{history_at_later}
 use Rattle.reply_model.proofs.Places.{history_at_end}
 use Rattle.frame_read.specs.declared.target.Target.{Target}
 use Rattle.frame_read.specs.Targets.{asked_as, IsOfNumber, IsChosen, IsTarget, IsResolveRefusal}
-use Rattle.frame_read.proofs.ChoosingLemmas.{IsLike, row_in, alike_told, version_asked, read_asked, find_in}
+use Rattle.frame_read.proofs.ChoosingLemmas.{IsLike, row_in, alike_told, truth_prop, version_asked, read_asked, find_in}
 
 -- ---- at the place of a walk
 
@@ -197,9 +197,6 @@ numbered_there n key (l ∷ ls) (v ∷ vs) z there =
         | inr later ↦ numbered_there n key ls vs z.1 later
       ]
     ] refl
-
-truth_prop : (a b : Bool) → IsProp (a ≡ b)
-truth_prop a b = hlevel props
 
 -- where it has one
 pub picked_is_chosen : (h : History) (symbol snap : Name) (body : Bytes) (s : SnapBody) (r : SnapRow) → ∥ IsLawful h ∥₁ → stored h (snapshot_key snap) ≡ Some body → snap_of body ≡ Ok s

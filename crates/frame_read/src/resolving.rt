@@ -154,7 +154,7 @@ fn target(
 }
 
 /// Want of memory, at a place.
-fn out_of_memory(place: u64) -> Refused
+pub(crate) fn out_of_memory(place: u64) -> Refused
     ensures { result ≡ record { place = place; why = Refusal.NoMemory } }
 {
     Refused {
