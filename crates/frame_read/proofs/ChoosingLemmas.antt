@@ -165,7 +165,7 @@ find_in {X} p (y ∷ ys) x e =
     same : (y x : X) → Some y ≡ Some x → y ≡ x
     same y x e = cc
 
-get_in : {X : Type 0} (xs : List X) (k : ℕ) (x : X) → slice_get xs k ≡ Some x → Contains xs x
+pub get_in : {X : Type 0} (xs : List X) (k : ℕ) (x : X) → slice_get xs k ≡ Some x → Contains xs x
 get_in {X} [] k x e = absurd (none_some x e)
   where
     none_some : (x : X) → None ≡ Some x → ⊥

@@ -1,4 +1,5 @@
 pub mod ChoosingLemmas
 pub mod ResolvingLemmas
 pub mod FetchLemmas
+pub mod LoopLemmas
 pub mod StampLemmas

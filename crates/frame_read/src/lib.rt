@@ -2,12 +2,16 @@
 #![tactic(auto)]
 
 mod choosing;
+mod fetching;
 mod objects;
 mod resolving;
 mod target;
+mod tiles;
 
 pub use base_types::NoMemory;
 pub use choosing::choose;
+pub use fetching::fetch;
 pub use objects::index_of;
 pub use resolving::resolve;
 pub use target::Target;
+pub use tiles::{FetchedTile, Tiles};

@@ -2,6 +2,7 @@
 
 ghost use Rattle.std.specs.Prelude.{◌≡◌, true, Some, IfOk, IfErr};
 ghost use Rattle.std.specs.Arc.{arc_value};
+ghost use Rattle.index_tree.specs.IndexRules.{IsIndex};
 ghost use Rattle.bucket_core.specs.History.{body_put};
 ghost use Rattle.bucket_core.specs.Laws.{Looks};
 ghost use Rattle.bucket_core.specs.Calls.{IsSteady};
@@ -31,6 +32,7 @@ pub fn index_of<R: Wait, B: Bucket<StoreLaw>>(
     ensures looks { Looks IsClaimed (B.number bucket.old) (B.sole bucket.old) (B.seen bucket.old) (B.seen bucket.new) }
     ensures steady { IsSteady B.number B.limit B.faults B.sole bucket.old bucket.new }
     ensures index { IfOk result (IsTargetIndex (B.seen bucket.new) target.now) }
+    ensures rules { IfOk result IsIndex }
     // The version is gone only where it is buried and not held, and a key of it is gone.
     ensures refused { IfErr result (RefusesGet (B.faults bucket.old) (B.faults bucket.new) (B.seen bucket.old) (B.seen bucket.new) target.now.symbol target.now.version) }
 {
