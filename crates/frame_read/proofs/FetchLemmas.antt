@@ -22,7 +22,7 @@ use Rattle.store_model.specs.Library.{Version, State, state_of, is_live, is_link
 use Rattle.store_model.specs.Links.{Linked, linked, links, links_at, reached, index_put, tiles_put}
 use Rattle.store_model.specs.Holders.{has_index}
 use Rattle.store_model.specs.Law.{IsLawful}
-use Rattle.store_model.specs.Intact.{IsIntact, IsTableKey}
+use Rattle.store_model.specs.Intact.{IsTableKey}
 use Rattle.store_model.proofs.Lawful.{lawful_is_intact, lawful_as_put}
 use Rattle.store_model.proofs.Lists.{contains_first, contains_cases, contains_none, contains_right, one_passes}
 use Rattle.store_model.proofs.Histories.{stands_was_put}

@@ -1,5 +1,6 @@
 pub mod ChoosingLemmas
 pub mod ResolvingLemmas
 pub mod FetchLemmas
+pub mod PlaceLemmas
 pub mod LoopLemmas
 pub mod StampLemmas

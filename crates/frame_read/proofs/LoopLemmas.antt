@@ -1,13 +1,12 @@
 -- Looks one after another, and what was got stays so.
-use Rattle.std.proofs.Common.{◌≡◌, ℕ, zero, suc, ◌+◌, ◌≤◌, ◌<◌, Bool, true, false, List, [], ◌∷◌, ◌++◌, map, take, length, refl, sym, ap, ◌∙◌, subst, inl, inr, arith, Option, Some, None, Result, Ok, Err}
-use Rattle.std.specs.Prelude.{Contains, slice_get, ⊤, OnOk, is_err}
+use Rattle.std.proofs.Common.{◌≡◌, ℕ, zero, suc, ◌+◌, ◌≤◌, Bool, true, false, List, [], ◌∷◌, ◌++◌, map, take, length, refl, sym, ap, ◌∙◌, subst, inl, inr, arith, Option, Some, None, Result, Ok, Err}
+use Rattle.std.specs.Prelude.{Contains, slice_get, OnOk, is_err}
 use Rattle.std.specs.List.{AllZip, cons_option}
 use Rattle.std.specs.Arc.{arc_value}
 use Rattle.std.proofs.lemmas.Bool.{true≢false}
 use Rattle.std.proofs.lemmas.List.{length-append, append_assoc}
 use mathlib.Core.Logic.{∥∥₁_elim}
 use denote.Struct.Props.{props}
-use Rattle.base_types.specs.Faults.{Rose}
 use Rattle.frame_core.specs.declared.refusal.Refusal.{Refusal}
 use Rattle.frame_core.specs.declared.refusal.Refusal.TheVariants as refusals
 use Rattle.frame_core.specs.declared.refusal.Refused.{Refused}
@@ -20,12 +19,11 @@ use Rattle.bucket_core.specs.declared.event.Event.{Event}
 use Rattle.bucket_core.specs.History.{History, Bytes, body_put, AllByOthers}
 use Rattle.bucket_core.specs.Laws.{Looks}
 use Rattle.bucket_core.specs.Calls.{IsSteady}
-use Rattle.store_model.specs.Links.{links, reached}
+use Rattle.store_model.specs.Links.{links}
 use Rattle.store_model.specs.Law.{IsLawful}
-use Rattle.store_model.proofs.Lawful.{lawful_is_intact, beginning_lawful}
+use Rattle.store_model.proofs.Lawful.{lawful_is_intact}
 use Rattle.store_model.proofs.Histories.{put_stays}
 use Rattle.store_model.proofs.Lists.{contains_first, contains_later, contains_cases, contains_none}
-use Rattle.version_chain.specs.States.{IsWithin}
 use Rattle.frame_read.specs.declared.target.Target.{Target}
 use Rattle.frame_read.specs.declared.tiles.FetchedTile.{FetchedTile}
 use Rattle.frame_read.specs.Fetches.{Reaches, IsTargetIndex, IsGetRefusal, RefusesGet}

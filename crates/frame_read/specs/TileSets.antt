@@ -17,7 +17,6 @@ use Rattle.frame_core.specs.Selecting.{then_map}
 use Rattle.index_tree.specs.declared.index.Slot.{Slot}
 use Rattle.index_tree.specs.declared.index.Index.{Index}
 use Rattle.index_tree.specs.Covering.{covers, places_where}
-
 use Rattle.bucket_core.specs.History.{History, body_put}
 use Rattle.reply_model.specs.ReadAnswers.{select_columns}
 use Rattle.frame_read.specs.declared.target.Target.{Target}

@@ -1,13 +1,11 @@
-use Rattle.std.proofs.Common.{◌≡◌, ◌+◌, List, take, get_or, refl, sym, ◌∙◌, subst}
+use Rattle.std.proofs.Common.{◌+◌, List, take, get_or, refl, sym, ◌∙◌, subst}
 use Rattle.std.specs.List.{AllZip}
 use Rattle.std.proofs.lemmas.Option.{slice_get-get_or}
 use Rattle.frame_core.specs.Selecting.{at_places}
-use Rattle.bucket_core.specs.Laws.{Looks}
-use Rattle.bucket_core.specs.Calls.{IsSteady}
 use Rattle.store_model.specs.Law.{IsClaimed}
 use Rattle.frame_read.specs.declared.tiles.FetchedTile.{FetchedTile}
 use Rattle.frame_read.specs.TileSets.{IsGot}
-use Rattle.frame_read.proofs.LoopLemmas.{looks_none, looks_more, steady_none, steady_more, refuses_wider, index_later, slot_reached, got_more, at_ok}
+use Rattle.frame_read.proofs.LoopLemmas.{looks_more, steady_more, index_later, slot_reached, got_more, at_ok}
 use Rattle.frame_read.proofs.fetching.get_tiles.Goals as goal
 
 pub get_reached-requires : goal.get_reached-requires

@@ -1,4 +1,4 @@
-use Rattle.std.proofs.Common.{◌≡◌, take}
+use Rattle.std.proofs.Common.{take}
 use Rattle.std.specs.List.{AllZip}
 use Rattle.frame_core.specs.Selecting.{at_places}
 use Rattle.bucket_core.specs.Laws.{Looks}
