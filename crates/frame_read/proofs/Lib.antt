@@ -4,3 +4,5 @@ pub mod FetchLemmas
 pub mod PlaceLemmas
 pub mod LoopLemmas
 pub mod StampLemmas
+pub mod SliceLemmas
+pub mod WholeLemmas

@@ -1,8 +1,9 @@
 -- The places at which a test holds, and what stands there.
-use Rattle.std.proofs.Common.{◌≡◌, ℕ, zero, suc, ◌+◌, ◌<◌, Bool, true, false, List, [], ◌∷◌, map, length, refl, ap, ◌∙◌, subst, cond, arith, Some}
-use Rattle.std.specs.Prelude.{slice_get}
+use Rattle.std.proofs.Common.{◌≡◌, ℕ, zero, suc, ◌+◌, ◌<◌, Bool, true, false, List, [], ◌∷◌, map, length, refl, sym, ap, ◌∙◌, subst, cond, arith, Some}
+use Rattle.std.specs.Prelude.{Contains, slice_get}
 use Rattle.std.specs.List.{filter, enumerate_from, cons_option, AllByRecursion}
 use Rattle.frame_core.specs.Selecting.{at_places}
+use Rattle.store_model.proofs.Lists.{contains_first, contains_later}
 use Rattle.index_tree.specs.Covering.{places_where}
 
 -- the places of those that pass, where the first has the place n
@@ -39,3 +40,24 @@ pub places_where_below : {X : Type 0} (test : X → Bool) (xs : List X) → AllB
 places_where_below test xs =
     let none : 0 + length xs ≡ length xs = omega arith in
     subst (λ (m : ℕ). AllByRecursion (λ (p : ℕ). p < m) (places_where test xs)) none (below_from test 0 xs)
+
+in_from : {X : Type 0} (test : X → Bool) (n : ℕ) (xs : List X) (k : ℕ) (x : X) → slice_get xs k ≡ Some x → test x ≡ true → Contains (places_from test n xs) (n + k)
+in_from test n [] k x at passes = absurd cc
+in_from {X} test n (y ∷ ys) zero x at passes =
+    let same : y ≡ x = cc in
+    let none : n + zero ≡ n = omega arith in
+    let here : test y ≡ true = ap test same ∙ passes in
+    subst (λ (m : ℕ). Contains (places_from test n (y ∷ ys)) m) (sym none)
+    (subst (λ b. Contains (map (λ (e : ℕ × X). e.0) (cond b ((n, y) ∷ filter (λ (e : ℕ × X). test e.1) (enumerate_from (n + 1) ys)) (filter (λ (e : ℕ × X). test e.1) (enumerate_from (n + 1) ys)))) n) (sym here)
+    (contains_first n (places_from test (n + 1) ys)))
+in_from {X} test n (y ∷ ys) (suc k) x at passes =
+    let step : n + 1 + k ≡ n + suc k = omega arith in
+    let rest : Contains (places_from test (n + 1) ys) (n + suc k) = subst (λ (m : ℕ). Contains (places_from test (n + 1) ys) m) step (in_from test (n + 1) ys k x at passes) in
+    elim (test y) as (λ b. Contains (map (λ (e : ℕ × X). e.0) (cond b ((n, y) ∷ filter (λ (e : ℕ × X). test e.1) (enumerate_from (n + 1) ys)) (filter (λ (e : ℕ × X). test e.1) (enumerate_from (n + 1) ys)))) (n + suc k)) [
+      | true ↦ contains_later (n + suc k) n (places_from test (n + 1) ys) rest
+      | false ↦ rest
+    ]
+
+-- the place of one that passes is among them
+pub where_in : {X : Type 0} (test : X → Bool) (xs : List X) (k : ℕ) (x : X) → slice_get xs k ≡ Some x → test x ≡ true → Contains (places_where test xs) k
+where_in test xs k x at passes = let none : 0 + k ≡ k = omega arith in subst (λ (m : ℕ). Contains (places_where test xs) m) none (in_from test 0 xs k x at passes)

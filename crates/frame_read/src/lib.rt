@@ -3,14 +3,18 @@
 
 mod choosing;
 mod fetching;
+mod laws;
 mod objects;
 mod resolving;
 mod target;
+#[cfg(test)]
+mod tests;
 mod tiles;
 
 pub use base_types::NoMemory;
 pub use choosing::choose;
 pub use fetching::fetch;
+pub use laws::fetched_tiles_have_what_is_asked;
 pub use objects::index_of;
 pub use resolving::resolve;
 pub use target::Target;
