@@ -14,7 +14,7 @@ pub use answer::{Dropped, Found, Listed, StoreErr};
 pub use base_types::{Items, Keep, NoMemory};
 pub use body::{Body, SharedBody};
 pub use bucket::Bucket;
-pub use event::{Change, Event, PieceName};
+pub use event::{Change, Event, PieceName, SharedChanges};
 use key_kind::Key;
 pub use law::Law;
 pub use plain::PlainBucket;

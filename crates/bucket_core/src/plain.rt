@@ -3,14 +3,15 @@ ghost use Rattle.std.specs.Arc.{arc_value};
 ghost use Rattle.bucket_core.specs.History.{puts_by};
 ghost use Rattle.bucket_core.specs.Laws.{IsLawful};
 
-use crate::answer::{Found, Listed, StoreErr};
+use crate::Changes;
+use crate::answer::{Dropped, Found, Listed, StoreErr};
 use crate::body::Body;
 use crate::bucket::Bucket;
 use crate::event::Event;
 use crate::event_log::EventLog;
 use crate::law::Law;
 use base_types::NoMemory;
-use key_kind::{Key, KeyKind, Name};
+use key_kind::{Key, KeyKind, Name, SnapName, Symbol};
 use std::alloc::Global;
 use std::marker::PhantomData;
 use std::sync::{Arc, Wait};
@@ -115,5 +116,38 @@ impl<L: Law> Bucket<L> for PlainBucket<L> {
             }
             Err(NoMemory) => Err(StoreErr::NoMemory),
         }
+    }
+
+    fn refer<R: Wait>(
+        &mut self,
+        _rt: &R,
+        _symbol: &Symbol,
+        _was: Option<&Key>,
+        _entry: &Key,
+        _mark: Arc<Body>,
+        _changes: Arc<Changes>,
+    ) -> Result<u64, StoreErr> {
+        Err(StoreErr::NoMemory)
+    }
+
+    fn name<R: Wait>(
+        &mut self,
+        _rt: &R,
+        _snap: &SnapName,
+        _body: Arc<Body>,
+    ) -> Result<u64, StoreErr> {
+        Err(StoreErr::NoMemory)
+    }
+
+    fn unname<R: Wait>(&mut self, _rt: &R, _snap: &SnapName, _since: u64) -> Result<u64, StoreErr> {
+        Err(StoreErr::NoMemory)
+    }
+
+    fn drop_key<R: Wait>(&mut self, _rt: &R, _key: &Key) -> Result<Dropped, StoreErr> {
+        Err(StoreErr::NoMemory)
+    }
+
+    fn unchanged(&mut self, _symbol: &Symbol, _place: u64) -> bool {
+        false
     }
 }
