@@ -15,9 +15,9 @@ use Rattle.byte_fields.proofs.Numbers.{bytes_takes, bytes_again, byte_takes, byt
 use Rattle.key_kind.specs.declared.key.KeyKind.{KeyKind}
 use Rattle.key_kind.specs.declared.key.Key.{Key}
 use Rattle.key_kind.specs.Names.{Name, IsName, is_graphic}
-use Rattle.key_kind.specs.Keys.{IsKey, FitsFields, kind_code, is_put, has_version, has_stamps}
-use Rattle.key_kind.specs.KeyText.{key_text, name_text, key_at, kind_at, kind_found, kind_of, all_kinds, name_at, zero_unless, int_zero_unless}
-use Rattle.key_kind.proofs.KeyTests.{kind_back}
+use Rattle.key_kind.specs.Keys.{IsKey, FitsFields, kind_code, same_kind, is_put, has_version, has_stamps}
+use Rattle.key_kind.specs.KeyText.{key_text, name_text, key_at, key_of_at, kind_at, kind_found, kind_of, all_kinds, name_at, zero_unless, int_zero_unless}
+use Rattle.key_kind.proofs.KeyTests.{kind_back, same_kind_is}
 
 -- ---- a spelled field is read again
 
@@ -38,7 +38,7 @@ int_zero_again free field reading n rest e rule =
     bind_is reading (n, rest) (λ x. wanted (free || int_eq x.0 (pos 0)) field (Ok x)) e ∙ wanted_is (free || int_eq n (pos 0)) field (Ok (n, rest)) rule
 
 -- a name
-name_again : (name rest : List ℕ) → IsName name → name_at (length name ∷ (name ++ rest)) ≡ Ok (name, rest)
+pub name_again : (name rest : List ℕ) → IsName name → name_at (length name ∷ (name ++ rest)) ≡ Ok (name, rest)
 name_again name rest rules =
     bind_is (number_at w8 (length name ∷ (name ++ rest))) (length name, name ++ rest) _ (byte_again (length name) (name ++ rest))
     ∙ (bind_is (wanted (nat_le 1 (length name)) (length name ∷ (name ++ rest)) (bytes_at (length name) (name ++ rest))) (name, rest) _
@@ -108,12 +108,12 @@ kind_takes bytes kind rest fits e =
     found (Some k) after e = let both : (k, after) ≡ (kind, rest) = ok_is (k, after) (kind, rest) e in (ap (λ (p : KeyKind × List ℕ). Some p.0) both, ap (λ (p : KeyKind × List ℕ). p.1) both)
 
 -- a name was taken
-record NameRead (bytes : List ℕ) (name : Name) (rest : List ℕ) : Type 0 where
+pub record NameRead (bytes : List ℕ) (name : Name) (rest : List ℕ) : Type 0 where
   pub takes : Takes bytes (name_text name) rest
   pub is_name : IsName name
 
 -- a name
-name_takes : (bytes : List ℕ) (name rest : List ℕ) → IsBytes bytes → name_at bytes ≡ Ok (name, rest) → NameRead bytes name rest
+pub name_takes : (bytes : List ℕ) (name rest : List ℕ) → IsBytes bytes → name_at bytes ≡ Ok (name, rest) → NameRead bytes name rest
 name_takes bytes name rest fits e =
     let a = bind_ok (number_at w8 bytes) _ (name, rest) e in
     let one = byte_takes bytes a.0.0 a.0.1 fits a.1 in
@@ -185,6 +185,36 @@ key_takes bytes k rest fits e =
       is_key = record { name = t2.is_name; made = λ free. (z3.1 free, z4.1 free); version = z5.1; stamps = λ free. (z6.1 free, z7.1 free) };
       fits = record { client = t3.below; serial = t4.below; version = t5.below; first = t6.fits; last = t7.fits };
     })
+
+-- ---- keys of one kind
+
+-- a spelled key begins with its kind
+kind_first : (k : Key) (rest : List ℕ) → (after : List ℕ) × (kind_at (key_text k ++ rest) ≡ Ok (k.kind, after))
+unfolding key_text
+kind_first k rest = let after = name_text k.name ++ to_be_bytes w32 k.client ++ to_be_bytes w64 k.serial ++ to_be_bytes w64 k.version ++ signed_text k.first ++ signed_text k.last ++ rest in (after, kind_again k.kind after)
+
+-- a key of its kind, whatever follows
+pub key_of_again : (k : Key) (rest : List ℕ) → IsKey k → FitsFields k → key_of_at k.kind (key_text k ++ rest) ≡ Ok (k, rest)
+key_of_again k rest rules fits =
+    let first = kind_first k rest in
+    bind_is (kind_at (key_text k ++ rest)) (k.kind, first.0) (λ x. wanted (same_kind x.0 k.kind) (key_text k ++ rest) (key_at (key_text k ++ rest))) first.1
+    ∙ (wanted_is (same_kind k.kind k.kind) (key_text k ++ rest) (key_at (key_text k ++ rest)) (eq-eqb (kind_code k.kind) (kind_code k.kind) refl)
+    ∙ key_again k rest rules fits)
+
+-- a key of a kind was taken
+pub record KeyOfRead (kind : KeyKind) (bytes : List ℕ) (k : Key) (rest : List ℕ) : Type 0 where
+  pub kind_is : k.kind ≡ kind
+  pub read : KeyRead bytes k rest
+
+-- a key of a kind
+pub key_of_takes : (kind : KeyKind) (bytes : List ℕ) (k : Key) (rest : List ℕ) → IsBytes bytes → key_of_at kind bytes ≡ Ok (k, rest) → KeyOfRead kind bytes k rest
+key_of_takes kind bytes k rest fits e =
+    let a = bind_ok (kind_at bytes) (λ x. wanted (same_kind x.0 kind) bytes (key_at bytes)) (k, rest) e in
+    let w = wanted_ok (same_kind a.0.0 kind) bytes (key_at bytes) (k, rest) a.2 in
+    let read = key_takes bytes k rest fits w.1 in
+    let first = kind_first k rest in
+    let same : (k.kind, first.0) ≡ a.0 = ok_is (k.kind, first.0) a.0 (sym first.1 ∙ (ap kind_at (sym read.takes.parts) ∙ a.1)) in
+    record { kind_is = ap (λ (p : KeyKind × List ℕ). p.0) same ∙ same_kind_is a.0.0 kind w.0; read = read }
 
 -- ---- spellings do not begin each other
 

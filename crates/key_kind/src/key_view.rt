@@ -77,8 +77,9 @@ fn read_kind(bytes: &[u8]) -> Result<(KeyKind, &[u8]), usize>
     }
 }
 
-/// The next name, lent, and what follows. The error is how many bytes are left at the field that breaks its rule.
-fn read_name(bytes: &[u8]) -> Result<(&str, &[u8]), usize>
+/// The name that the bytes begin with, behind its length in a byte, and what follows. The name is lent. Where there is none, the
+/// error is how many bytes are left at the field that breaks its rule.
+pub fn view_name(bytes: &[u8]) -> Result<(&str, &[u8]), usize>
     ensures { Gives (λ x. (x.0.now, x.1.now)) result (name_at bytes.now) }
 {
     let (length, after) = read_u8(bytes)?;
@@ -134,7 +135,7 @@ fn read_fields(bytes: &[u8]) -> Result<(KeyView<'_>, &[u8]), usize>
     ensures { Gives (λ x. (key_of x.0, x.1.now)) result (key_at bytes.now) }
 {
     let (kind, rest) = read_kind(bytes)?;
-    let (name, rest) = read_name(rest)?;
+    let (name, rest) = view_name(rest)?;
     let (client, rest) = read_client(kind.is_put(), rest)?;
     let (serial, rest) = read_number(kind.is_put(), rest)?;
     let (version, rest) = read_number(kind.has_version(), rest)?;

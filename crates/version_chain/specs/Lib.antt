@@ -1,0 +1,4 @@
+pub mod Entries
+pub mod SnapBodies
+pub mod ChainFaults
+pub mod States

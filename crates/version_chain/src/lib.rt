@@ -1,6 +1,18 @@
-//! The chain of versions of a symbol, and the law under which clients add to a store.
+//! The chain of versions of a symbol: its elements and snapshots as bytes, the walk along it, and the law under which clients add
+//! to a store.
 #![tactic(auto)]
 
+mod elements;
+mod fault;
 mod law;
+mod snapshots;
+mod state;
+mod walking;
 
+pub use base_types::NoMemory;
+pub use elements::{entry_bytes, entry_read};
+pub use fault::EntryFault;
 pub use law::StoreLaw;
+pub use snapshots::{snap_bytes, snap_read};
+pub use state::SymbolState;
+pub use walking::walk;
