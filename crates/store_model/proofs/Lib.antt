@@ -24,3 +24,4 @@ pub mod WitnessMet
 pub mod WitnessCleared
 pub mod Refuses
 pub mod Listing
+pub mod OwnPuts
