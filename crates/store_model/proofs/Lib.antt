@@ -25,3 +25,6 @@ pub mod WitnessCleared
 pub mod Refuses
 pub mod Listing
 pub mod OwnPuts
+pub mod Untouched
+pub mod Numbering
+pub mod Writing
