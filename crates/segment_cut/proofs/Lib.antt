@@ -1,0 +1,4 @@
+pub mod Lists
+pub mod GridLemmas
+pub mod Wholes
+pub mod Cuts

@@ -1,1 +1,4 @@
 pub mod Tiles
+pub mod Cuttings
+pub mod Grids
+pub mod Joins
