@@ -5,6 +5,7 @@
 mod elements;
 mod fault;
 mod law;
+mod laws;
 mod snapshots;
 mod state;
 mod walking;
@@ -13,6 +14,7 @@ pub use base_types::NoMemory;
 pub use elements::{entry_bytes, entry_read};
 pub use fault::EntryFault;
 pub use law::StoreLaw;
+pub use laws::{elements_have_one_spelling, snapshots_have_one_spelling};
 pub use snapshots::{snap_bytes, snap_read};
 pub use state::SymbolState;
 pub use walking::walk;
