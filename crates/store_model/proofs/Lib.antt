@@ -25,3 +25,8 @@ pub mod WitnessMet
 pub mod WitnessCleared
 pub mod Refuses
 pub mod Listing
+pub mod OwnPuts
+pub mod Untouched
+pub mod Numbering
+pub mod Writing
+pub mod Told

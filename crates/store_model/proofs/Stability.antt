@@ -153,7 +153,7 @@ module _ (h : History) (client : ℕ) (was : Option Key) (entry : Key) (list : L
       ]))
 
   -- a key of another client that apart link reached is reached by none after a Refer
-  unreached_stays : (owner : ℕ) → (client ≡ owner → ⊥) → key.client ≡ owner → is_reached h key ≡ false → list_any (λ l. reaches l key) (links_at h entry ++ links h key.name) ≡ false
+  pub unreached_stays : (owner : ℕ) → (client ≡ owner → ⊥) → key.client ≡ owner → is_reached h key ≡ false → list_any (λ l. reaches l key) (links_at h entry ++ links h key.name) ≡ false
   unreached_stays owner apart own e = none_pass _ _ (λ l there. is_false _ (λ reach.
       elim (contains_append (links_at h entry) (links h key.name) l there) [
         | inl new ↦ elim (new_source h client was entry list key may i l new reach) [
@@ -165,7 +165,7 @@ module _ (h : History) (client : ℕ) (was : Option Key) (entry : Key) (list : L
         | inr old ↦ true≢false (sym reach ∙ none_passes (λ l. reaches l key) (links h key.name) l e old)
       ]))
 
-  no_entry_stays : (owner : ℕ) → (client ≡ owner → ⊥) → key.client ≡ owner → is_entry h key.name key ≡ false → list_any (λ k. same_key k key) (entry ∷ entries h key.name) ≡ false
+  pub no_entry_stays : (owner : ℕ) → (client ≡ owner → ⊥) → key.client ≡ owner → is_entry h key.name key ≡ false → list_any (λ k. same_key k key) (entry ∷ entries h key.name) ≡ false
   no_entry_stays owner apart own e = or_from _ _ (is_false (same_key entry key) (λ s. apart (sym may.own ∙ (ap (λ (k : Key). k.client) (same_key_is entry key s) ∙ own)))) e
 
 consumed_grows : (list : List Change) (st : State) (name : PieceName) → list_any (same_piece name) st.consumed ≡ true → list_any (same_piece name) (fold after_change st list).consumed ≡ true
