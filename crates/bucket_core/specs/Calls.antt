@@ -4,15 +4,18 @@
 --     MayTryRefer, MayTryDrop      when a refer and a drop may be called: the event may follow, or the store will refuse it
 --     IsSteady            what no call changes of a bucket
 --     IsFound, IsListed      what a get and a list answer
---     RefusesLook, DidChange, DidDrop      the refusals of a look; what a changing call and a drop did
+--     refers_after        whether the symbol was referred after a place
+--     RefusesLook, DidChange, DidUnname, DidDrop      the refusals of a look; what a changing call, an unname and a drop did
+--     StandsSince, IsMissingAt      a snapshot's name that was set at a place, and one that was not
 --     RefusesPut, RefusesRefer, RefusesName, RefusesUnname      the refusals of each changing call, with their causes
-use Rattle.std.specs.Prelude.{◌≡◌, ◌≢◌, ◌⊎◌, ◌≤◌, ℕ, suc, Bool, true, false, ◌&&◌, ◌||◌, List, [], ◌∷◌, ◌++◌, length, drop, filter, Option, Some, None, Result, Ok, Err, ⊤, is_some, option_map}
+use Rattle.std.specs.Prelude.{◌≡◌, ◌≢◌, ◌⊎◌, ◌≤◌, ℕ, suc, Bool, true, false, ◌&&◌, ◌||◌, List, [], ◌∷◌, ◌++◌, length, ◌-◌, take, drop, filter, Option, Some, None, Result, Ok, Err, ⊤, is_some, option_map}
+use Rattle.std.specs.List.{list_any}
 use Rattle.std.specs.Arc.{arc_value}
 use Rattle.base_types.specs.Faults.{Rose}
 use Rattle.key_kind.specs.Names.{Name, same_name}
 use Rattle.key_kind.specs.declared.key.KeyKind.{KeyKind}
 use Rattle.key_kind.specs.declared.key.Key.{Key}
-use Rattle.key_kind.specs.Keys.{same_key, same_kind, reference_key, snapshot_key}
+use Rattle.key_kind.specs.Keys.{same_key, same_kind, snapshot_key}
 use Rattle.bucket_core.specs.declared.event.Change.{Change}
 use Rattle.bucket_core.specs.declared.event.Event.{Event}
 use Rattle.bucket_core.specs.declared.event.Event.TheVariants as events
@@ -22,8 +25,8 @@ use Rattle.bucket_core.specs.declared.answer.Found.{Found}
 use Rattle.bucket_core.specs.declared.answer.Listed.{Listed}
 use Rattle.bucket_core.specs.declared.answer.Dropped.{Dropped}
 use Rattle.bucket_core.specs.declared.answer.Dropped.TheVariants as drops
-use Rattle.bucket_core.specs.History.{History, Bytes, stored, stored_keys, body_put, reference, since}
-use Rattle.bucket_core.specs.Laws.{IsTested, MayFollow, IsLawful, Looks, Adds}
+use Rattle.bucket_core.specs.History.{History, Bytes, stored, stored_keys, body_put, reference, referred_at, since}
+use Rattle.bucket_core.specs.Laws.{refers, IsTested, MayFollow, IsLawful, Looks, Adds}
 
 -- ---- references that have moved on
 
@@ -111,6 +114,10 @@ pub record IsListed (h : History) (kind : Option KeyKind) (name : Option Name) (
   pub keys : listed.keys ≡ keys_that_match h kind name
   pub place : listed.place ≡ length h
 
+-- whether the symbol has a Refer above the place
+abbrev pub refers_after : History → Name → ℕ → Bool
+refers_after h symbol place = list_any (refers symbol) (take (length h - place) h)
+
 -- the history is at least as long as the limit, and this is its length
 abbrev pub IsFull : ℕ → History → ℕ → Type 0
 IsFull limit h count = (count ≡ length h) × (limit ≤ count)
@@ -128,9 +135,9 @@ abbrev pub RefusesPut : ℕ → History → StoreErr → Type 0
 RefusesPut limit h (errs.Spent count) = IsFull limit h count
 RefusesPut limit h _ = ⊥
 
--- the refusals of a `refer`: Moved, with the place of the Refer that set the present reference; else Spent
+-- the refusals of a `refer`: Moved, with the place of the Refer that set the present reference, or 0; else Spent
 abbrev pub RefusesRefer : ℕ → Name → Option Key → History → StoreErr → Type 0
-RefusesRefer limit symbol was h (errs.Moved at) = (reference h symbol ≢ was) × (at ≡ since h (reference_key symbol))
+RefusesRefer limit symbol was h (errs.Moved at) = (reference h symbol ≢ was) × (at ≡ referred_at h symbol)
 RefusesRefer limit symbol was h (errs.Spent count) = (reference h symbol ≡ was) × IsFull limit h count
 RefusesRefer limit symbol was h _ = ⊥
 
@@ -140,13 +147,30 @@ RefusesName limit snap h (errs.Taken at) = (is_some (stored h (snapshot_key snap
 RefusesName limit snap h (errs.Spent count) = (is_some (stored h (snapshot_key snap)) ≡ false) × IsFull limit h count
 RefusesName limit snap h _ = ⊥
 
--- the refusals of an `unname`: Missing where the name does not stand, or was set at another place, of which the place before it is told; else Spent
-abbrev pub RefusesUnname : ℕ → Name → ℕ → History → StoreErr → Type 0
-RefusesUnname limit snap set h (errs.Missing at) =
+-- the name stands, and was set at this place
+abbrev pub StandsSince : History → Name → ℕ → Type 0
+StandsSince h snap set = (is_some (stored h (snapshot_key snap)) ≡ true) × (since h (snapshot_key snap) ≡ set)
+
+-- the name does not stand, which is so at this place; or it was set at another place than this one, and the place before that is told
+abbrev pub IsMissingAt : History → Name → ℕ → ℕ → Type 0
+IsMissingAt h snap set at =
     ((is_some (stored h (snapshot_key snap)) ≡ false) × (at ≡ length h))
     ⊎ ((is_some (stored h (snapshot_key snap)) ≡ true) × (since h (snapshot_key snap) ≢ set) × (suc at ≡ since h (snapshot_key snap)))
-RefusesUnname limit snap set h (errs.Spent count) = (is_some (stored h (snapshot_key snap)) ≡ true) × (since h (snapshot_key snap) ≡ set) × IsFull limit h count
+
+-- the refusals of an `unname`: Missing where the name does not stand, or was set at another place; else Spent
+abbrev pub RefusesUnname : ℕ → Name → ℕ → History → StoreErr → Type 0
+RefusesUnname limit snap set h (errs.Missing at) = IsMissingAt h snap set at
+RefusesUnname limit snap set h (errs.Spent count) = StandsSince h snap set × IsFull limit h count
 RefusesUnname limit snap set h _ = ⊥
+
+-- what an `unname` did: it added its Unname of a name set at this place, below the limit; or it refused with a cause; after a fault that event stands or not
+abbrev pub DidUnname : (History → Event → Type 0) → ℕ → Bool → ℕ → ℕ → ℕ → History → History → Name → ℕ → Result ℕ StoreErr → Type 0
+DidUnname claimed client sole limit before now old new snap set (Ok place) =
+    Adds claimed client sole old new (unname_event client snap) × (place ≡ length new) × (place ≤ limit) × StandsSince (drop 1 new) snap set
+DidUnname claimed client sole limit before now old new snap set (Err errs.Fault) =
+    Rose before now × ((Adds claimed client sole old new (unname_event client snap) × StandsSince (drop 1 new) snap set) ⊎ Looks claimed client sole old new)
+DidUnname claimed client sole limit before now old new snap set (Err errs.NoMemory) = Looks claimed client sole old new
+DidUnname claimed client sole limit before now old new snap set (Err why) = Looks claimed client sole old new × RefusesUnname limit snap set new why
 
 -- what a `drop_key` did: it added its Drop, or found nothing under the key, or refused
 abbrev pub DidDrop : (History → Event → Type 0) → ℕ → Bool → ℕ → ℕ → ℕ → History → History → Key → Result Dropped StoreErr → Type 0

@@ -3,7 +3,7 @@
 --     stored, since                what stands under a key, and the place of the event that set it
 --     stored_keys                  the keys under which something stands, ascending
 --     body_put                     with which body a key was put, whatever was dropped since
---     reference                    the entry that the symbol's newest Refer set
+--     reference, referred_at       the entry that the symbol's newest Refer set, and the place of that Refer
 --     puts_by                      how many Puts a client made: its next serial
 --     history_at, event_at, events_within      the history at a place, the event of a place, the events of a window
 --     IsLater, AllByOthers         a history goes on from another; events of other clients alone
@@ -82,6 +82,12 @@ abbrev pub reference : History → Name → Option Key
 reference [] symbol = None
 reference (events.Refer c s was entry changes ∷ h) symbol = if same_name s symbol then Some entry else reference h symbol
 reference (_ ∷ h) symbol = reference h symbol
+
+-- the place of the symbol's newest Refer, or 0
+abbrev pub referred_at : History → Name → ℕ
+referred_at [] symbol = 0
+referred_at (events.Refer c s was entry changes ∷ h) symbol = if same_name s symbol then suc (length h) else referred_at h symbol
+referred_at (_ ∷ h) symbol = referred_at h symbol
 
 -- how many Puts the client made, which is the serial of its next one
 abbrev pub puts_by : ℕ → History → ℕ

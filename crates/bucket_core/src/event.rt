@@ -1,7 +1,12 @@
+ghost use Rattle.std.specs.Prelude.{◌≡◌};
+ghost use Rattle.std.specs.Arc.{arc_value};
+
 use crate::body::SharedBody;
 use base_types::Items;
 use frame_core::{Frame, Range};
 use key_kind::{Holder, Key, SnapName, Symbol};
+use std::marker::Model;
+use std::sync::Arc;
 
 /// The name of a staged piece: the client that staged it and the serial of its key.
 #[derive(Clone, Copy, Debug, PartialEq, Eq)]
@@ -29,6 +34,38 @@ pub enum Change {
     Discarded { pieces: Items<PieceName> },
 }
 
+/// The changes of one commit, which an event shares with its caller. Contracts see the list.
+#[derive(Drop)]
+pub struct SharedChanges {
+    shared: Arc<Items<Change>>,
+}
+
+impl Model for SharedChanges {
+    ghost use Rattle.std.specs.Prelude.{List};
+    ghost use Rattle.std.specs.Arc.{arc_value};
+    ghost use Rattle.bucket_core.specs.declared.event.Change.{Change};
+
+    ghost Value = { List Change };
+
+    ghost view = { λ c. arc_value c.shared };
+}
+
+impl SharedChanges {
+    /// Shares these changes, and takes no memory.
+    pub fn make(shared: Arc<Items<Change>>) -> SharedChanges
+        ensures { result ≡ arc_value shared }
+    {
+        SharedChanges { shared }
+    }
+
+    /// The changes, lent, in their order.
+    pub fn items(&self) -> &[Change]
+        ensures { result.now ≡ self.now }
+    {
+        self.shared.items()
+    }
+}
+
 /// One event of a store. Each sets one key: to a body, or to nothing.
 #[derive(Drop)]
 pub enum Event {
@@ -44,7 +81,7 @@ pub enum Event {
         symbol: Symbol,
         was: Option<Key>,
         entry: Key,
-        changes: Items<Change>,
+        changes: SharedChanges,
     },
     /// The snapshot's name stands from now on.
     Name {
