@@ -1,0 +1,4 @@
+pub mod Growth
+pub mod SoleSeats
+pub mod RowLemmas
+pub mod Unreferred

@@ -1,0 +1,14 @@
+//! One store for many clients: passes over one shared history.
+#![tactic(auto)]
+
+mod event_name;
+mod pass;
+mod row;
+mod shared;
+mod splitting;
+mod store;
+mod turn;
+
+pub use pass::Pass;
+pub use shared::Shared;
+pub use splitting::SplitFault;

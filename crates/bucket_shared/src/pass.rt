@@ -1,0 +1,147 @@
+// A pass: a client's way to a shared store.
+ghost use Rattle.std.specs.Prelude.{◌≡◌, ◌≤◌, ◌^◌, length, IfOk};
+ghost use Rattle.std.specs.Arc.{arc_value};
+ghost use Rattle.turn_cell.specs.Seats.{view, seen, Rests};
+ghost use Rattle.turn_cell.specs.Views.{first_view};
+ghost use Rattle.bucket_core.specs.History.{puts_by};
+ghost use Rattle.bucket_core.specs.Laws.{IsLawful};
+ghost use Rattle.store_model.specs.Law.{IsClaimed};
+ghost use Rattle.bucket_shared.specs.Sole.{is_sole};
+ghost use Rattle.bucket_shared.specs.Stories.{history};
+
+use crate::row::row_of;
+use crate::store::Store;
+use base_types::NoMemory;
+use bucket_core::{Body, Bucket, Changes, Dropped, Found, Listed, StoreErr};
+use key_kind::{Key, KeyKind, Name, SnapName, Symbol};
+use std::alloc::Global;
+use std::sync::{Arc, Wait};
+use turn_cell::{Seat, TurnCell};
+use version_chain::StoreLaw;
+
+/// One client's way to a shared store. Its changing calls, `get`, `list`, `split` and `join` may wait for the turn, which each
+/// takes once; the others wait for nobody. No call fails.
+#[derive(Drop)]
+pub struct Pass {
+    pub(crate) alloc: Global,
+    pub(crate) cell: Arc<TurnCell<Store>>,
+    pub(crate) seat: Seat<Store>,
+    pub(crate) number: u32,
+    pub(crate) most: u64,
+    pub(crate) count: u64,
+    pub(crate) next: u64,
+    ghost seated: { seat.table_id ≡ arc_value cell },
+    ghost rests: { Rests seat },
+    ghost numbered: { (view seat).badge.number ≡ number },
+    ghost limited: { most ≤ 2 ^ 62 },
+    ghost counted: { count ≡ length (seen seat) },
+    ghost served: { next ≡ puts_by (view seat).badge.number (history seat) },
+    ghost lawful: { ∥ IsLawful IsClaimed (history seat) ∥₁ },
+}
+
+impl Pass {
+    /// The first pass of a store that has a cell, with its first seat.
+    pub(crate) fn first(
+        alloc: Global,
+        cell: TurnCell<Store>,
+        seat: Seat<Store>,
+        limit: u64,
+        number: u32,
+    ) -> Result<Pass, NoMemory>
+        requires cell { seat.table_id ≡ cell }
+        requires view { view seat ≡ first_view number }
+        requires rests { Rests seat }
+        requires limit { limit ≤ 2 ^ 62 }
+        ensures seat { IfOk result (λ pass. pass.seat ≡ seat) }
+        ensures limit { IfOk result (λ pass. pass.most ≡ limit) }
+    {
+        let cell = Arc::new(alloc, cell)?;
+        Ok(Pass {
+            alloc,
+            cell,
+            seat,
+            number,
+            most: limit,
+            count: 0,
+            next: 0,
+        })
+    }
+}
+
+impl Bucket<StoreLaw> for Pass {
+    ghost seen = { λ p. history p.seat };
+
+    ghost number = { λ p. p.seat.me.0.badge.number };
+
+    ghost limit = { λ p. p.most };
+
+    ghost faults = { λ p. 0 };
+
+    ghost sole = { λ p. is_sole p.seat.me.0.badge };
+
+    ghost lawful = { λ p. p.lawful };
+
+    fn place(&self) -> u64 {
+        self.count
+    }
+
+    fn client(&self) -> u32 {
+        self.number
+    }
+
+    fn serial(&self) -> u64 {
+        self.next
+    }
+
+    fn get<R: Wait>(&mut self, _rt: &R, _key: &Key) -> Result<Found, StoreErr> {
+        Err(StoreErr::NoMemory)
+    }
+
+    fn list<R: Wait>(
+        &mut self,
+        _rt: &R,
+        _kind: Option<KeyKind>,
+        _name: Option<&Name>,
+    ) -> Result<Listed, StoreErr> {
+        Err(StoreErr::NoMemory)
+    }
+
+    fn put<R: Wait>(&mut self, _rt: &R, _key: Key, _body: Arc<Body>) -> Result<u64, StoreErr> {
+        Err(StoreErr::NoMemory)
+    }
+
+    fn refer<R: Wait>(
+        &mut self,
+        _rt: &R,
+        _symbol: &Symbol,
+        _was: Option<&Key>,
+        _entry: &Key,
+        _mark: Arc<Body>,
+        _changes: Arc<Changes>,
+    ) -> Result<u64, StoreErr> {
+        Err(StoreErr::NoMemory)
+    }
+
+    fn name<R: Wait>(
+        &mut self,
+        _rt: &R,
+        _snap: &SnapName,
+        _body: Arc<Body>,
+    ) -> Result<u64, StoreErr> {
+        Err(StoreErr::NoMemory)
+    }
+
+    fn unname<R: Wait>(&mut self, _rt: &R, _snap: &SnapName, _since: u64) -> Result<u64, StoreErr> {
+        Err(StoreErr::NoMemory)
+    }
+
+    fn drop_key<R: Wait>(&mut self, _rt: &R, _key: &Key) -> Result<Dropped, StoreErr> {
+        Err(StoreErr::NoMemory)
+    }
+
+    /// One look at the word of the symbol's row.
+    fn unchanged(&mut self, symbol: &Symbol, place: u64) -> bool {
+        let row = row_of(symbol.name());
+        self.cell.unchanged(&mut self.seat, row, place)
+    }
+}
