@@ -2,3 +2,4 @@ pub mod Growth
 pub mod SoleSeats
 pub mod RowLemmas
 pub mod Unreferred
+pub mod Adding

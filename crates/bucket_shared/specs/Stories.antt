@@ -3,7 +3,7 @@
 --     StandsFor      what the shared value says of the events
 --     IsNewSeat      a seat that another one gave the next number
 --     history        what a seat has seen, as buckets tell it: the newest event first
-use Rattle.std.specs.Prelude.{◌≡◌, ℕ, ◌<◌, ◌≤◌, ◌^◌, ◌⊎◌, suc, List, Option, Some, None, length, reverse}
+use Rattle.std.specs.Prelude.{◌≡◌, ℕ, ◌<◌, ◌≤◌, ◌^◌, ◌⊎◌, suc, List, Option, Some, None, reverse}
 use Rattle.atomic_table.specs.declared.shared.Seat.{Seat}
 use Rattle.turn_cell.specs.declared.view.View.{View}
 use Rattle.turn_cell.specs.declared.badge.Badge.{Badge}
@@ -11,6 +11,8 @@ use Rattle.turn_cell.specs.Badges.{Among, badge_after_split, new_badge}
 use Rattle.bucket_core.specs.declared.event.Event.{Event}
 use Rattle.bucket_core.specs.declared.event.Event.TheVariants as events
 use Rattle.bucket_core.specs.History.{History, AllByOthers, puts_by}
+use Rattle.bucket_core.specs.declared.contents.Contents.{Contents}
+use Rattle.bucket_core.specs.Showing.{Shows}
 use Rattle.bucket_core.specs.Laws.{IsLawful}
 use Rattle.store_model.specs.Law.{IsClaimed}
 use Rattle.bucket_shared.specs.Rows.{row}
@@ -20,9 +22,9 @@ abbrev pub event_row : Event → Option ℕ
 event_row (events.Refer client symbol was entry changes) = Some (row symbol)
 event_row _ = None
 
--- there are so many events, the oldest first, and each was lawful after those before it
-pub record StandsFor (count : ℕ) (log : List Event) : Type 0 where
-  pub counted : count ≡ length log
+-- the contents are what these events leave, the oldest first, and each event was lawful after those before it
+pub record StandsFor (contents : Contents) (log : List Event) : Type 0 where
+  pub shows : Shows contents (reverse log)
   pub lawful : IsLawful IsClaimed (reverse log)
 
 -- the events that a seat has seen, the newest first

@@ -2,7 +2,9 @@
 #![tactic(auto)]
 
 mod event_name;
+mod looking;
 mod pass;
+mod putting;
 mod row;
 mod shared;
 mod splitting;

@@ -9,12 +9,15 @@ ghost use Rattle.store_model.specs.Law.{IsClaimed};
 ghost use Rattle.bucket_shared.specs.Sole.{is_sole};
 ghost use Rattle.bucket_shared.specs.Stories.{history};
 
+use crate::looking::{find, list};
+use crate::putting::put;
 use crate::row::row_of;
 use crate::store::Store;
 use base_types::NoMemory;
 use bucket_core::{Body, Bucket, Changes, Dropped, Found, Listed, StoreErr};
 use key_kind::{Key, KeyKind, Name, SnapName, Symbol};
 use std::alloc::Global;
+use std::marker::Brand;
 use std::sync::{Arc, Wait};
 use turn_cell::{Seat, TurnCell};
 use version_chain::StoreLaw;
@@ -93,21 +96,37 @@ impl Bucket<StoreLaw> for Pass {
         self.next
     }
 
-    fn get<R: Wait>(&mut self, _rt: &R, _key: &Key) -> Result<Found, StoreErr> {
-        Err(StoreErr::NoMemory)
+    fn get<R: Wait>(&mut self, rt: &R, key: &Key) -> Result<Found, StoreErr> {
+        let (found, count) = find(rt, &self.cell, &mut self.seat, key);
+        self.count = count;
+        match found {
+            Ok(found) => Ok(found),
+            Err(NoMemory) => Err(StoreErr::NoMemory),
+        }
     }
 
     fn list<R: Wait>(
         &mut self,
-        _rt: &R,
-        _kind: Option<KeyKind>,
-        _name: Option<&Name>,
+        rt: &R,
+        kind: Option<KeyKind>,
+        name: Option<&Name>,
     ) -> Result<Listed, StoreErr> {
-        Err(StoreErr::NoMemory)
+        let (keys, count) = list(rt, self.alloc, &self.cell, &mut self.seat, kind, name);
+        self.count = count;
+        match keys {
+            Ok(keys) => Ok(Listed { keys, place: count }),
+            Err(NoMemory) => Err(StoreErr::NoMemory),
+        }
     }
 
-    fn put<R: Wait>(&mut self, _rt: &R, _key: Key, _body: Arc<Body>) -> Result<u64, StoreErr> {
-        Err(StoreErr::NoMemory)
+    fn put<R: Wait>(&mut self, rt: &R, key: Key, body: Arc<Body>) -> Result<u64, StoreErr> {
+        let (answer, count) =
+            put::<Brand, R>(rt, &self.cell, &mut self.seat, self.most, key, body);
+        self.count = count;
+        if answer.is_ok() {
+            self.next += 1;
+        }
+        answer
     }
 
     fn refer<R: Wait>(

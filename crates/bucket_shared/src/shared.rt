@@ -5,7 +5,7 @@ ghost use Rattle.bucket_shared.specs.Passes.{given_out};
 use crate::pass::Pass;
 use crate::store::Store;
 use base_types::NoMemory;
-use bucket_core::Bucket;
+use bucket_core::{Bucket, Contents};
 use std::alloc::Global;
 use turn_cell::TurnCell;
 use version_chain::StoreLaw;
@@ -25,7 +25,7 @@ impl Shared {
         ensures given { IfOk result (λ pass. given_out pass ≡ first_client) }
     {
         let empty = Store {
-            count: 0,
+            contents: Contents::new(alloc),
             given: first_client,
         };
         let (cell, seat) = TurnCell::make(alloc, empty)?;

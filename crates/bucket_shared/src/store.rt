@@ -1,11 +1,11 @@
 // The value that passes take by turns.
-use bucket_core::Event;
+use bucket_core::{Contents, Event};
 use turn_cell::Storied;
 
-/// What passes share: how many events there are, and the greatest client number that was given out.
+/// What passes share: what the history leaves, and the greatest client number that was given out.
 #[derive(Drop)]
 pub(crate) struct Store {
-    pub(crate) count: u64,
+    pub(crate) contents: Contents,
     pub(crate) given: u32,
 }
 
@@ -15,7 +15,7 @@ impl Storied for Store {
 
     type Entry = Event;
 
-    ghost stands = { λ s log. StandsFor s.count log };
+    ghost stands = { λ s log. StandsFor s.contents log };
 
     ghost author = { client_of };
 

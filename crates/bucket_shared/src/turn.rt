@@ -6,6 +6,7 @@ ghost use Rattle.turn_cell.specs.Entries.{entries_by};
 ghost use Rattle.turn_cell.specs.Seats.{view, seen, Rests, Holds};
 ghost use Rattle.bucket_core.specs.History.{author as client_of, puts_by};
 ghost use Rattle.bucket_core.specs.Laws.{IsLawful, Looks};
+ghost use Rattle.bucket_core.specs.Showing.{Shows, events_of};
 ghost use Rattle.store_model.specs.Law.{IsClaimed};
 ghost use Rattle.bucket_shared.specs.Sole.{is_sole};
 ghost use Rattle.bucket_shared.specs.Stories.{StandsFor, event_row, history, IsNewSeat};
@@ -24,7 +25,8 @@ pub(crate) fn take<R: Wait>(rt: &R, cell: &TurnCell<Store>, seat: &mut Seat<Stor
     ensures holds { Holds seat.new }
     ensures none_begun { (view seat.new).begun ≡ None }
     ensures badge { (view seat.new).badge ≡ (view seat.old).badge }
-    ensures stands { StandsFor result.count (seen seat.new) }
+    ensures stands { StandsFor result.contents (seen seat.new) }
+    ensures counted { events_of result.contents ≡ length (seen seat.new) }
     ensures lawful { ∥ IsLawful IsClaimed (history seat.new) ∥₁ }
     ensures given { result.given ≡ (view seat.new).top }
     ensures numbers { (view seat.old).badge.number ≤ result.given }
@@ -44,7 +46,7 @@ pub(crate) fn look<R: Wait>(rt: &R, cell: &TurnCell<Store>, seat: &mut Seat<Stor
     ensures cell { seat.new.table_id ≡ seat.old.table_id }
     ensures rests { Rests seat.new }
     ensures badge { (view seat.new).badge ≡ (view seat.old).badge }
-    ensures stands { StandsFor result (seen seat.new) }
+    ensures lawfully { IsLawful IsClaimed (history seat.new) }
     ensures counted { result ≡ length (seen seat.new) }
     ensures lawful { ∥ IsLawful IsClaimed (history seat.new) ∥₁ }
     ensures looks { Looks IsClaimed (view seat.old).badge.number (is_sole (view seat.old).badge) (history seat.old) (history seat.new) }
@@ -53,7 +55,7 @@ pub(crate) fn look<R: Wait>(rt: &R, cell: &TurnCell<Store>, seat: &mut Seat<Stor
     ensures later { IsPrefix (seen seat.old) (seen seat.new) }
 {
     let store = take(rt, cell, seat);
-    let count = store.count;
+    let count = store.contents.len();
     cell.give(seat, store);
     count
 }
@@ -65,12 +67,14 @@ pub(crate) fn add<K: EventName>(cell: &TurnCell<Store>, seat: &mut Seat<Store>, 
     requires author { client_of K.event ≡ (view seat.old).badge.number }
     requires row { event_row K.event ≡ (view seat.old).begun }
     requires room { length (seen seat.old) < 2 ^ 62 }
-    requires stands { StandsFor store.count (seen seat.old ++ K.event ∷ []) }
+    requires shows { Shows store.contents (K.event ∷ history seat.old) }
+    requires lawful { IsLawful IsClaimed (K.event ∷ history seat.old) }
     requires given { store.given ≡ (view seat.old).top }
     ensures cell { seat.new.table_id ≡ seat.old.table_id }
     ensures rests { Rests seat.new }
     ensures badge { (view seat.new).badge ≡ (view seat.old).badge }
     ensures seen { seen seat.new ≡ seen seat.old ++ K.event ∷ [] }
+    ensures history { history seat.new ≡ K.event ∷ history seat.old }
 {
     cell.step::<Named<K>>(seat);
     cell.give(seat, store);
@@ -99,7 +103,7 @@ pub(crate) fn share<R: Wait>(
     ensures last { IfNone result.0 ((view seat.new).top ≡ 2 ^ 32 - 1) }
 {
     let mut store = take(rt, cell, seat);
-    let count = store.count;
+    let count = store.contents.len();
     if store.given == u32::MAX {
         cell.give(seat, store);
         return (None, count);

@@ -28,12 +28,12 @@ other_own g c =
 pub returns-clause-looks : goal.returns-clause-looks
 returns-clause-looks g c =
     Looks-later c.args.seat.now.me.0.badge.number c.args.seat.now.me.0.seen c.look.new.seat.me.0.seen
-    (prefix_trans _ _ _ c.join.ensures.later c.look.ensures.later) (own g c) c.look.ensures.stands.lawful
+    (prefix_trans _ _ _ c.join.ensures.later c.look.ensures.later) (own g c) c.look.ensures.lawfully
 
 pub returns-clause-other_looks : goal.returns-clause-other_looks
 returns-clause-other_looks g c =
     Looks-later c.args.other.me.0.badge.number c.args.other.me.0.seen c.look.new.seat.me.0.seen
-    (prefix_trans _ _ _ c.join.ensures.other_later c.look.ensures.later) (other_own g c) c.look.ensures.stands.lawful
+    (prefix_trans _ _ _ c.join.ensures.other_later c.look.ensures.later) (other_own g c) c.look.ensures.lawfully
 
 pub returns-clause-serial : goal.returns-clause-serial
 returns-clause-serial g c =

@@ -1,4 +1,5 @@
-use Rattle.std.proofs.Common.{ℕ, ◌≤◌, sym, subst}
+use Rattle.std.proofs.Common.{ℕ, ◌≤◌, sym, subst, ◌∙◌}
+use Rattle.std.proofs.lemmas.List.{length-reverse}
 use Rattle.bucket_shared.proofs.Growth.{Looks-finds, puts_by-later}
 use Rattle.bucket_shared.proofs.turn.take.Goals as goal
 
@@ -12,3 +13,6 @@ returns-clause-serial g c =
 
 pub returns-clause-gave : goal.returns-clause-gave
 returns-clause-gave g c = λ n a. subst (λ (z : ℕ). n ≤ z) (sym c.take.ensures.greatest) (c.take.ensures.finds.gave n a)
+
+pub returns-clause-counted : goal.returns-clause-counted
+returns-clause-counted g c = c.take.ensures.stands.shows.count ∙ length-reverse c.take.new.seat.me.0.seen
