@@ -1,9 +1,11 @@
 -- An event that is added in a turn, after events of others.
 use Rattle.std.proofs.Common.{◌≡◌, ℕ, Bool, true, false, ◌∷◌, sym, ap, ◌∙◌, subst}
-use Rattle.std.specs.Prelude.{Result, Ok, Err, OnOk, is_ok, is_err}
+use Rattle.std.specs.Prelude.{Result, Ok, Err, OnOk, is_ok, is_err, is_some, Option, Some, None}
+use Rattle.key_kind.specs.declared.key.Key.{Key}
+use Rattle.bucket_core.specs.Contents.{IsSetAt}
 use Rattle.std.proofs.lemmas.Bool.{true≢false}
 use Rattle.bucket_core.specs.declared.event.Event.{Event}
-use Rattle.bucket_core.specs.History.{History, author, AllByOthers}
+use Rattle.bucket_core.specs.History.{History, author, stored, AllByOthers}
 use Rattle.bucket_core.specs.Laws.{IsLawful, IsTested, IsUntouched, Looks, Adds}
 use Rattle.store_model.specs.Law.{IsClaimed}
 use Rattle.store_model.proofs.Stable.{claims_stay}
@@ -32,3 +34,8 @@ not_err (Err x) e p = absurd (true≢false e)
 pub was_ok : {T E P : Type 0} (r : Result T E) → is_ok r ≡ true → OnOk r P → P
 was_ok (Ok x) e p = p
 was_ok (Err x) e p = absurd (true≢false (sym e))
+
+-- something stands where a place is told
+pub set_tells : (h : History) (key : Key) (at : Option ℕ) → IsSetAt h key at → is_some at ≡ is_some (stored h key)
+set_tells h key None set = sym (ap is_some set)
+set_tells h key (Some at) set = sym set.0

@@ -3,6 +3,7 @@
 
 mod event_name;
 mod looking;
+mod naming;
 mod pass;
 mod putting;
 mod row;

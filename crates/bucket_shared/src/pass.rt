@@ -10,6 +10,7 @@ ghost use Rattle.bucket_shared.specs.Sole.{is_sole};
 ghost use Rattle.bucket_shared.specs.Stories.{history};
 
 use crate::looking::{find, list};
+use crate::naming::name;
 use crate::putting::put;
 use crate::row::row_of;
 use crate::store::Store;
@@ -143,11 +144,18 @@ impl Bucket<StoreLaw> for Pass {
 
     fn name<R: Wait>(
         &mut self,
-        _rt: &R,
-        _snap: &SnapName,
-        _body: Arc<Body>,
+        rt: &R,
+        snap: &SnapName,
+        body: Arc<Body>,
     ) -> Result<u64, StoreErr> {
-        Err(StoreErr::NoMemory)
+        let key = match Key::snapshot(self.alloc, snap) {
+            Ok(key) => key,
+            Err(NoMemory) => return Err(StoreErr::NoMemory),
+        };
+        let (answer, count) =
+            name::<Brand, R>(rt, &self.cell, &mut self.seat, self.most, snap, key, body);
+        self.count = count;
+        answer
     }
 
     fn unname<R: Wait>(&mut self, _rt: &R, _snap: &SnapName, _since: u64) -> Result<u64, StoreErr> {
