@@ -11,6 +11,7 @@ mod shared;
 mod splitting;
 mod store;
 mod turn;
+mod unnaming;
 
 pub use pass::Pass;
 pub use shared::Shared;

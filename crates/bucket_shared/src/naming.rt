@@ -1,4 +1,4 @@
-// The name and the unname of a pass: one turn each.
+// The name of a pass: one turn.
 ghost use Rattle.std.specs.Prelude.{◌≡◌, ◌≤◌, ◌^◌, length, is_some};
 ghost use Rattle.std.specs.Arc.{arc_value};
 ghost use Rattle.key_kind.specs.Keys.{snapshot_key};

@@ -14,6 +14,7 @@ use crate::naming::name;
 use crate::putting::put;
 use crate::row::row_of;
 use crate::store::Store;
+use crate::unnaming::unname;
 use base_types::NoMemory;
 use bucket_core::{Body, Bucket, Changes, Dropped, Found, Listed, StoreErr};
 use key_kind::{Key, KeyKind, Name, SnapName, Symbol};
@@ -158,8 +159,15 @@ impl Bucket<StoreLaw> for Pass {
         answer
     }
 
-    fn unname<R: Wait>(&mut self, _rt: &R, _snap: &SnapName, _since: u64) -> Result<u64, StoreErr> {
-        Err(StoreErr::NoMemory)
+    fn unname<R: Wait>(&mut self, rt: &R, snap: &SnapName, since: u64) -> Result<u64, StoreErr> {
+        let key = match Key::snapshot(self.alloc, snap) {
+            Ok(key) => key,
+            Err(NoMemory) => return Err(StoreErr::NoMemory),
+        };
+        let (answer, count) =
+            unname::<Brand, R>(rt, &self.cell, &mut self.seat, self.most, snap, &key, since);
+        self.count = count;
+        answer
     }
 
     fn drop_key<R: Wait>(&mut self, _rt: &R, _key: &Key) -> Result<Dropped, StoreErr> {
