@@ -3,3 +3,4 @@ pub mod Stories
 pub mod Sole
 pub mod Passes
 pub mod Splits
+pub mod Ready

@@ -6,6 +6,8 @@ mod looking;
 mod naming;
 mod pass;
 mod putting;
+mod ready;
+mod referring;
 mod row;
 mod shared;
 mod splitting;

@@ -12,6 +12,8 @@ ghost use Rattle.bucket_shared.specs.Stories.{history};
 use crate::looking::{find, list};
 use crate::naming::name;
 use crate::putting::put;
+use crate::ready::make_ready;
+use crate::referring::refer;
 use crate::row::row_of;
 use crate::store::Store;
 use crate::unnaming::unname;
@@ -133,14 +135,31 @@ impl Bucket<StoreLaw> for Pass {
 
     fn refer<R: Wait>(
         &mut self,
-        _rt: &R,
-        _symbol: &Symbol,
-        _was: Option<&Key>,
-        _entry: &Key,
-        _mark: Arc<Body>,
-        _changes: Arc<Changes>,
+        rt: &R,
+        symbol: &Symbol,
+        was: Option<&Key>,
+        entry: &Key,
+        mark: Arc<Body>,
+        changes: Arc<Changes>,
     ) -> Result<u64, StoreErr> {
-        Err(StoreErr::NoMemory)
+        let made = match make_ready(self.alloc, symbol, entry, mark) {
+            Ok(made) => made,
+            Err(NoMemory) => return Err(StoreErr::NoMemory),
+        };
+        let (answer, count) = refer::<Brand, R>(
+            rt,
+            self.alloc,
+            &self.cell,
+            &mut self.seat,
+            self.most,
+            symbol,
+            was,
+            entry,
+            made,
+            changes,
+        );
+        self.count = count;
+        answer
     }
 
     fn name<R: Wait>(
