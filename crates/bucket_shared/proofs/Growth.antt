@@ -1,18 +1,17 @@
 -- How what a seat has seen grows, as buckets tell it.
-use Rattle.std.proofs.Common.{◌≡◌, ◌≢◌, ℕ, suc, Bool, true, false, cond, nat_eq, List, [], ◌∷◌, ◌++◌, length, filter, reverse, refl, sym, ap, ◌∙◌, subst, arith, length-append, eqb-true, append-nil}
+use Rattle.std.proofs.Common.{◌≡◌, ℕ, suc, true, false, cond, nat_eq, List, [], ◌∷◌, ◌++◌, length, reverse, refl, sym, ap, ◌∙◌, subst, arith, length-append, eqb-true, append-nil}
 use Rattle.std.specs.Prelude.{◌==◌}
 use mathlib.Core.List.{IsPrefix}
 use Rattle.std.proofs.lemmas.Bool.{true≢false, eq-eqb}
 use Rattle.std.proofs.lemmas.List.{reverse-append}
 use Rattle.std.proofs.lemmas.List.Elements.{filter-append}
 use Rattle.turn_cell.specs.declared.view.View.{View}
-use Rattle.turn_cell.specs.Badges.{IsSole}
 use Rattle.turn_cell.specs.Entries.{entries_by}
 use Rattle.turn_cell.specs.Finds.{Finds}
 use Rattle.bucket_core.specs.declared.event.Event.{Event}
 use Rattle.bucket_core.specs.declared.event.Event.TheVariants as events
 use Rattle.bucket_core.specs.History.{History, author, puts_by, AllByOthers}
-use Rattle.bucket_core.specs.Laws.{IsLawful, Looks, Grown}
+use Rattle.bucket_core.specs.Laws.{IsLawful, Looks}
 use Rattle.store_model.specs.Law.{IsClaimed}
 use Rattle.bucket_shared.specs.Sole.{is_sole}
 use Rattle.bucket_shared.specs.Stories.{event_row}

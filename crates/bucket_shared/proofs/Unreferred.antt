@@ -1,5 +1,5 @@
 -- Where no event after a place has a symbol's row, the symbol was not referred after that place.
-use Rattle.std.proofs.Common.{◌≡◌, ◌≢◌, ℕ, ◌-◌, ◌≤◌, Bool, true, false, List, [], ◌∷◌, ◌++◌, length, take, drop, reverse, get_or, Option, Some, refl, sym, ap, ◌∙◌, subst, arith}
+use Rattle.std.proofs.Common.{◌≡◌, ◌≢◌, ℕ, ◌-◌, Bool, true, false, List, [], ◌∷◌, ◌++◌, length, take, drop, reverse, get_or, Some, refl, sym, ap, ◌∙◌, subst, arith}
 use Rattle.std.specs.Prelude.{◌||◌, All}
 use Rattle.std.specs.List.{list_any}
 use Rattle.std.proofs.lemmas.Bool.{true≢false}
@@ -63,4 +63,4 @@ pub refers_after-row : (xs : List Event) (symbol : Name) (q place : ℕ) → q �
 refers_after-row xs symbol q place is none =
     ap (list_any (refers symbol)) (newest_after xs place)
     ∙ any_reverse (refers symbol) (drop place xs)
-      (list_any_none (refers symbol) (drop place xs) (λ k d less. not_referred symbol (get_or (drop place xs) k d) (subst (λ (n : ℕ). event_row (get_or (drop place xs) k d) ≢ Some n) is (none k d less))))
+    (list_any_none (refers symbol) (drop place xs) (λ k d less. not_referred symbol (get_or (drop place xs) k d) (subst (λ (n : ℕ). event_row (get_or (drop place xs) k d) ≢ Some n) is (none k d less))))

@@ -3,7 +3,7 @@
 --     StandsFor      what the shared value says of the events
 --     IsNewSeat      a seat that another one gave the next number
 --     history        what a seat has seen, as buckets tell it: the newest event first
-use Rattle.std.specs.Prelude.{◌≡◌, ℕ, ◌<◌, ◌≤◌, ◌^◌, ◌⊎◌, suc, List, Option, Some, None, reverse}
+use Rattle.std.specs.Prelude.{◌≡◌, ℕ, ◌<◌, ◌⊎◌, List, Option, Some, None, reverse}
 use Rattle.atomic_table.specs.declared.shared.Seat.{Seat}
 use Rattle.turn_cell.specs.declared.view.View.{View}
 use Rattle.turn_cell.specs.declared.badge.Badge.{Badge}

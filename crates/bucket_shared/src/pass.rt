@@ -124,8 +124,7 @@ impl Bucket<StoreLaw> for Pass {
     }
 
     fn put<R: Wait>(&mut self, rt: &R, key: Key, body: Arc<Body>) -> Result<u64, StoreErr> {
-        let (answer, count) =
-            put::<Brand, R>(rt, &self.cell, &mut self.seat, self.most, key, body);
+        let (answer, count) = put::<Brand, R>(rt, &self.cell, &mut self.seat, self.most, key, body);
         self.count = count;
         if answer.is_ok() {
             self.next += 1;
@@ -162,18 +161,20 @@ impl Bucket<StoreLaw> for Pass {
         answer
     }
 
-    fn name<R: Wait>(
-        &mut self,
-        rt: &R,
-        snap: &SnapName,
-        body: Arc<Body>,
-    ) -> Result<u64, StoreErr> {
+    fn name<R: Wait>(&mut self, rt: &R, snap: &SnapName, body: Arc<Body>) -> Result<u64, StoreErr> {
         let key = match Key::snapshot(self.alloc, snap) {
             Ok(key) => key,
             Err(NoMemory) => return Err(StoreErr::NoMemory),
         };
-        let (answer, count) =
-            name::<Brand, R>(rt, &self.cell, &mut self.seat, self.most, snap, key, body);
+        let (answer, count) = name::<Brand, R>(
+            rt,
+            &self.cell,
+            &mut self.seat,
+            self.most,
+            snap,
+            key,
+            body,
+        );
         self.count = count;
         answer
     }
@@ -183,8 +184,15 @@ impl Bucket<StoreLaw> for Pass {
             Ok(key) => key,
             Err(NoMemory) => return Err(StoreErr::NoMemory),
         };
-        let (answer, count) =
-            unname::<Brand, R>(rt, &self.cell, &mut self.seat, self.most, snap, &key, since);
+        let (answer, count) = unname::<Brand, R>(
+            rt,
+            &self.cell,
+            &mut self.seat,
+            self.most,
+            snap,
+            &key,
+            since,
+        );
         self.count = count;
         answer
     }

@@ -13,9 +13,9 @@ ghost use Rattle.bucket_shared.specs.Sole.{is_sole};
 ghost use Rattle.bucket_shared.specs.Stories.{history};
 
 use crate::event_name::EventName;
+use crate::ready::Reference;
 use crate::store::Store;
 use crate::turn::{add, take};
-use crate::ready::Reference;
 use bucket_core::{Changes, Contents, StoreErr};
 use key_kind::{Key, Symbol};
 use std::alloc::Global;

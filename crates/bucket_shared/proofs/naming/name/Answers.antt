@@ -1,4 +1,4 @@
-use Rattle.std.proofs.Common.{rules, ◌≡◌, ◌+◌, ◌≤◌, ◌∷◌, ℕ, length, drop, arith, false, refl, sym, ap, ◌∙◌, subst, Some}
+use Rattle.std.proofs.Common.{rules, ◌≡◌, ◌+◌, ◌≤◌, ◌∷◌, ℕ, length, drop, arith, false, refl, sym, ap, ◌∙◌, subst}
 use Rattle.std.specs.Prelude.{is_err, is_some}
 use Rattle.std.specs.Arc.{arc_value}
 use Rattle.bucket_core.specs.declared.event.Event.{Event}
@@ -51,8 +51,7 @@ pub returns-clause-did : goal.returns-clause-did
 returns-clause-did g c =
     let n : ℕ = c.args.seat.now.me.0.badge.number in
     let e : Event = name_event n c.args.snap.now (arc_value c.args.body) in
-    let below : c.len-count.result + 1 ≤ c.args.limit = search rules in
-    (
+    let below : c.len-count.result + 1 ≤ c.args.limit = search rules in (
       Adds-look n (is_sole c.args.seat.now.me.0.badge) (history c.args.seat.now) (history c.take-store.new.seat) (history c.add.new.seat) e c.take-store.ensures.looks (added g c) (free g c) (claim g c),
       omega (arith, c.len-count.ensures, c.take-store.ensures.stands.shows.count, ap length (added g c)),
       below,

@@ -1,4 +1,4 @@
-use Rattle.std.proofs.Common.{rules, ◌≡◌, Option, Some, None, sym, ap, ◌∙◌}
+use Rattle.std.proofs.Common.{rules, ◌≡◌, ap, ◌∙◌}
 use Rattle.std.specs.Prelude.{is_some}
 use Rattle.key_kind.specs.declared.key.Key.{Key}
 use Rattle.bucket_core.specs.History.{stored}

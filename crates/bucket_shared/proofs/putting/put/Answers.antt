@@ -1,4 +1,4 @@
-use Rattle.std.proofs.Common.{rules, ◌≡◌, ◌<◌, ◌≤◌, ◌∷◌, ℕ, length, arith, false, refl, sym, ap, ◌∙◌, subst, Some}
+use Rattle.std.proofs.Common.{rules, ◌≡◌, ◌<◌, ◌≤◌, ◌∷◌, ℕ, length, arith, false, refl, sym, subst}
 use Rattle.std.specs.Prelude.{is_err}
 use Rattle.std.specs.Arc.{arc_value}
 use Rattle.bucket_core.specs.declared.event.Event.{Event}

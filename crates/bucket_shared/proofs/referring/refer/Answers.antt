@@ -1,4 +1,4 @@
-use Rattle.std.proofs.Common.{rules, ◌≡◌, ◌+◌, ◌≤◌, ◌∷◌, ◌++◌, [], ℕ, List, length, length-append, drop, reverse, option_copied, arith, false, refl, sym, ap, ◌∙◌, subst, Some}
+use Rattle.std.proofs.Common.{rules, ◌≡◌, ◌+◌, ◌≤◌, ◌∷◌, ◌++◌, [], ℕ, length, length-append, drop, reverse, option_copied, arith, false, sym, ap, ◌∙◌, subst, Some}
 use mathlib.Core.Logic.{∥∥₁_map}
 use Rattle.std.specs.Prelude.{is_err}
 use Rattle.std.specs.Arc.{arc_value}
@@ -65,8 +65,7 @@ returns-clause-serial g c = ap (puts_by c.args.seat.now.me.0.badge.number) (adde
 pub returns-clause-did : goal.returns-clause-did
 returns-clause-did g c =
     let n : ℕ = c.args.seat.now.me.0.badge.number in
-    let below : c.len-count.result + 1 ≤ c.args.limit = search rules in
-    (
+    let below : c.len-count.result + 1 ≤ c.args.limit = search rules in (
       Adds-look n (is_sole c.args.seat.now.me.0.badge) (history c.args.seat.now) (history c.take-store.new.seat) (history c.add.new.seat) (refer_event c.args.seat.now.me.0.badge.number c.args.symbol.now (option_copied c.args.was) c.args.entry.now (arc_value c.args.changes)) c.take-store.ensures.looks (added g c) c.in_default.ensures (claim g c),
       omega (arith, c.len-count.ensures, c.take-store.ensures.stands.shows.count, ap length (added g c)),
       below,

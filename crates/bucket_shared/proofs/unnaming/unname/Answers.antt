@@ -49,8 +49,7 @@ pub returns-clause-did : goal.returns-clause-did
 returns-clause-did g c =
     let n : ℕ = c.args.seat.now.me.0.badge.number in
     let e : Event = unname_event n c.args.snap.now in
-    let below : c.len-count.result + 1 ≤ c.args.limit = search rules in
-    (
+    let below : c.len-count.result + 1 ≤ c.args.limit = search rules in (
       Adds-look n (is_sole c.args.seat.now.me.0.badge) (history c.args.seat.now) (history c.take-store.new.seat) (history c.add.new.seat) e c.take-store.ensures.looks (added g c) (stood g c) (claim g c),
       omega (arith, c.len-count.ensures, c.take-store.ensures.stands.shows.count, ap length (added g c)),
       below,
