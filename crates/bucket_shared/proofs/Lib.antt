@@ -3,3 +3,4 @@ pub mod SoleSeats
 pub mod RowLemmas
 pub mod Unreferred
 pub mod Adding
+pub mod Gone

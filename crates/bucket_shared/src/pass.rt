@@ -9,6 +9,7 @@ ghost use Rattle.store_model.specs.Law.{IsClaimed};
 ghost use Rattle.bucket_shared.specs.Sole.{is_sole};
 ghost use Rattle.bucket_shared.specs.Stories.{history};
 
+use crate::dropping::drop_key;
 use crate::looking::{find, list};
 use crate::naming::name;
 use crate::putting::put;
@@ -197,8 +198,10 @@ impl Bucket<StoreLaw> for Pass {
         answer
     }
 
-    fn drop_key<R: Wait>(&mut self, _rt: &R, _key: &Key) -> Result<Dropped, StoreErr> {
-        Err(StoreErr::NoMemory)
+    fn drop_key<R: Wait>(&mut self, rt: &R, key: &Key) -> Result<Dropped, StoreErr> {
+        let (answer, count) = drop_key::<Brand, R>(rt, &self.cell, &mut self.seat, self.most, key);
+        self.count = count;
+        answer
     }
 
     /// One look at the word of the symbol's row.
