@@ -3,3 +3,4 @@ pub mod BucketLemmas
 pub mod HeadLemmas
 pub mod AfterEvents
 pub mod ReferLemmas
+pub mod ShowingLemmas

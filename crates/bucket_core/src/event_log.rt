@@ -322,7 +322,7 @@ fn copied(alloc: Global, key: Option<&Key>) -> Result<Option<Key>, NoMemory>
 }
 
 /// Whether both are the same key, or both are none.
-fn same_entry(entry: Option<&Key>, was: Option<&Key>) -> bool
+pub(crate) fn same_entry(entry: Option<&Key>, was: Option<&Key>) -> bool
     ensures { IsTrue result ↔ (option_copied entry.entry ≡ option_copied was.entry) }
 {
     match (entry, was) {
@@ -333,7 +333,7 @@ fn same_entry(entry: Option<&Key>, was: Option<&Key>) -> bool
 }
 
 /// Whether a key is of this kind and of this name, where they are given.
-fn matches(kind: Option<KeyKind>, name: Option<&Name>, key: &Key) -> bool
+pub(crate) fn matches(kind: Option<KeyKind>, name: Option<&Name>, key: &Key) -> bool
     ensures { result ≡ matches kind (option_copied name.entry) key.now }
 {
     kind.is_none_or(|kind| kind.code() == key.kind.code())

@@ -4,6 +4,7 @@
 mod answer;
 mod body;
 mod bucket;
+mod contents;
 mod counting;
 mod entry;
 mod event;
@@ -19,6 +20,7 @@ pub use answer::{Dropped, Found, Listed, StoreErr};
 pub use base_types::{Items, Keep, NoMemory};
 pub use body::{Body, SharedBody};
 pub use bucket::Bucket;
+pub use contents::Contents;
 pub use counting::Counting;
 pub use event::{Change, Event, PieceName, SharedChanges};
 pub use flaky::{Flaky, When};

@@ -1,0 +1,6 @@
+pub mod Growth
+pub mod SoleSeats
+pub mod RowLemmas
+pub mod Unreferred
+pub mod Adding
+pub mod Gone

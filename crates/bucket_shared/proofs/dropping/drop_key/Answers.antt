@@ -1,0 +1,57 @@
+use Rattle.std.proofs.Common.{rules, ◌≡◌, ◌+◌, ◌≤◌, ◌∷◌, ℕ, length, drop, arith, true, refl, sym, ap, ◌∙◌, subst}
+use Rattle.std.specs.Prelude.{is_some}
+use Rattle.bucket_core.specs.declared.event.Event.{Event}
+use Rattle.bucket_core.specs.History.{History, stored}
+use mathlib.Core.Logic.{∥∥₁_map}
+use Rattle.bucket_core.specs.Showing.{Shows}
+use Rattle.bucket_core.specs.Laws.{IsLawful}
+use Rattle.bucket_core.specs.Calls.{drop_event}
+use Rattle.store_model.specs.Law.{IsClaimed}
+use Rattle.bucket_shared.specs.Sole.{is_sole}
+use Rattle.bucket_shared.specs.Stories.{history}
+use Rattle.bucket_shared.proofs.Adding.{Adds-look}
+use Rattle.bucket_shared.proofs.Gone.{drop-later}
+use Rattle.bucket_shared.proofs.dropping.drop_key.Given.{Over}
+use Rattle.bucket_shared.proofs.dropping.drop_key.Goals as goal
+
+pub add-requires-clause-shows : goal.add-requires-clause-shows
+add-requires-clause-shows g c =
+    let h = history c.take-store.new.seat in
+    subst (λ (e : Event). Shows c.drop_key.new.self (e ∷ h)) (sym c.requires.event)
+    (c.drop_key.ensures h (drop_event c.args.seat.now.me.0.badge.number c.args.key.now) c.take-store.ensures.stands.shows refl refl (λ s. refl))
+
+pub add-requires-clause-lawful : goal.add-requires-clause-lawful
+add-requires-clause-lawful g c =
+    let stood : is_some (stored (history c.take-store.new.seat) c.args.key.now) ≡ true = (let there : c.stands.result ≡ true = search rules in sym c.stands.ensures ∙ there) in
+    let n : ℕ = c.args.seat.now.me.0.badge.number in
+    let old = history c.args.seat.now in
+    let h = history c.take-store.new.seat in
+    subst (λ (e : Event). IsLawful IsClaimed (e ∷ h)) (sym c.requires.event)
+    ((stood, drop-later n (is_sole c.args.seat.now.me.0.badge) old h c.args.key.now c.take-store.ensures.looks c.take-store.ensures.stands.lawful c.requires.may stood), c.take-store.ensures.stands.lawful)
+
+-- the name stood, the claim holds of the whole history, and the event was added to it
+stood : (g : Over) (c : goal.After-add g) → is_some (stored (history c.take-store.new.seat) c.args.key.now) ≡ true
+stood g c = (let there : c.stands.result ≡ true = search rules in sym c.stands.ensures ∙ there)
+
+claim : (g : Over) (c : goal.After-add g) → IsClaimed (history c.take-store.new.seat) (drop_event c.args.seat.now.me.0.badge.number c.args.key.now)
+claim g c =
+    let n : ℕ = c.args.seat.now.me.0.badge.number in
+    drop-later n (is_sole c.args.seat.now.me.0.badge) (history c.args.seat.now) (history c.take-store.new.seat) c.args.key.now c.take-store.ensures.looks c.take-store.ensures.stands.lawful c.requires.may (stood g c)
+
+added : (g : Over) (c : goal.After-add g) → history c.add.new.seat ≡ drop_event c.args.seat.now.me.0.badge.number c.args.key.now ∷ history c.take-store.new.seat
+added g c = c.add.ensures.history ∙ ap (λ (e : Event). e ∷ history c.take-store.new.seat) c.requires.event
+
+pub returns-clause-lawful : goal.returns-clause-lawful
+returns-clause-lawful g c =
+    ∥∥₁_map c.take-store.ensures.lawful (λ (l : IsLawful IsClaimed (history c.take-store.new.seat)). subst (λ (h : History). IsLawful IsClaimed h) (sym (added g c)) ((stood g c, claim g c), l))
+
+pub returns-clause-did : goal.returns-clause-did
+returns-clause-did g c =
+    let n : ℕ = c.args.seat.now.me.0.badge.number in
+    let e : Event = drop_event n c.args.key.now in
+    let below : c.len-count.result + 1 ≤ c.args.limit = search rules in (
+      Adds-look n (is_sole c.args.seat.now.me.0.badge) (history c.args.seat.now) (history c.take-store.new.seat) (history c.add.new.seat) e c.take-store.ensures.looks (added g c) (stood g c) (claim g c),
+      omega (arith, c.len-count.ensures, c.take-store.ensures.stands.shows.count, ap length (added g c)),
+      below,
+      subst (λ (h : History). is_some (stored (drop 1 h) c.args.key.now) ≡ true) (sym (added g c)) (stood g c),
+    )

@@ -1,0 +1,59 @@
+use Rattle.std.proofs.Common.{rules, ◌≡◌, ◌+◌, ◌≤◌, ◌∷◌, ℕ, length, drop, arith, false, refl, sym, ap, ◌∙◌, subst}
+use Rattle.std.specs.Prelude.{is_err, is_some}
+use Rattle.std.specs.Arc.{arc_value}
+use Rattle.bucket_core.specs.declared.event.Event.{Event}
+use Rattle.key_kind.specs.Keys.{snapshot_key}
+use Rattle.bucket_core.specs.History.{History, stored}
+use mathlib.Core.Logic.{∥∥₁_map}
+use Rattle.bucket_core.specs.Showing.{Shows}
+use Rattle.bucket_core.specs.Laws.{IsLawful}
+use Rattle.bucket_core.specs.Calls.{name_event}
+use Rattle.store_model.specs.Law.{IsClaimed}
+use Rattle.bucket_shared.specs.Sole.{is_sole}
+use Rattle.bucket_shared.specs.Stories.{history}
+use Rattle.bucket_shared.proofs.Adding.{claim-later, Adds-look, not_err}
+use Rattle.bucket_shared.proofs.naming.name.Given.{Over}
+use Rattle.bucket_shared.proofs.naming.name.Goals as goal
+
+pub add-requires-clause-shows : goal.add-requires-clause-shows
+add-requires-clause-shows g c =
+    let ok : is_err c.set.result ≡ false = search rules in
+    let h = history c.take-store.new.seat in
+    subst (λ (e : Event). Shows c.set.new.self (e ∷ h)) (sym c.requires.event)
+    (not_err c.set.result ok c.set.ensures.ok h (name_event c.args.seat.now.me.0.badge.number c.args.snap.now (arc_value c.args.body)) c.take-store.ensures.stands.shows (sym c.requires.key) refl (λ s. refl))
+
+pub add-requires-clause-lawful : goal.add-requires-clause-lawful
+add-requires-clause-lawful g c =
+    let free : is_some (stored (history c.take-store.new.seat) (snapshot_key c.args.snap.now)) ≡ false = sym c.stands.ensures ∙ c.if-stands.false in
+    let n : ℕ = c.args.seat.now.me.0.badge.number in
+    let old = history c.args.seat.now in
+    let h = history c.take-store.new.seat in
+    subst (λ (e : Event). IsLawful IsClaimed (e ∷ h)) (sym c.requires.event)
+    ((free, claim-later n (is_sole c.args.seat.now.me.0.badge) old h (name_event n c.args.snap.now (arc_value c.args.body)) c.take-store.ensures.looks c.take-store.ensures.stands.lawful refl tt c.requires.claim), c.take-store.ensures.stands.lawful)
+
+-- the name was free, the claim holds of the whole history, and the event was added to it
+free : (g : Over) (c : goal.After-add g) → is_some (stored (history c.take-store.new.seat) (snapshot_key c.args.snap.now)) ≡ false
+free g c = sym c.stands.ensures ∙ c.if-stands.false
+
+claim : (g : Over) (c : goal.After-add g) → IsClaimed (history c.take-store.new.seat) (name_event c.args.seat.now.me.0.badge.number c.args.snap.now (arc_value c.args.body))
+claim g c =
+    let n : ℕ = c.args.seat.now.me.0.badge.number in
+    claim-later n (is_sole c.args.seat.now.me.0.badge) (history c.args.seat.now) (history c.take-store.new.seat) (name_event n c.args.snap.now (arc_value c.args.body)) c.take-store.ensures.looks c.take-store.ensures.stands.lawful refl tt c.requires.claim
+
+added : (g : Over) (c : goal.After-add g) → history c.add.new.seat ≡ name_event c.args.seat.now.me.0.badge.number c.args.snap.now (arc_value c.args.body) ∷ history c.take-store.new.seat
+added g c = c.add.ensures.history ∙ ap (λ (e : Event). e ∷ history c.take-store.new.seat) c.requires.event
+
+pub returns-clause-lawful : goal.returns-clause-lawful
+returns-clause-lawful g c =
+    ∥∥₁_map c.take-store.ensures.lawful (λ (l : IsLawful IsClaimed (history c.take-store.new.seat)). subst (λ (h : History). IsLawful IsClaimed h) (sym (added g c)) ((free g c, claim g c), l))
+
+pub returns-clause-did : goal.returns-clause-did
+returns-clause-did g c =
+    let n : ℕ = c.args.seat.now.me.0.badge.number in
+    let e : Event = name_event n c.args.snap.now (arc_value c.args.body) in
+    let below : c.len-count.result + 1 ≤ c.args.limit = search rules in (
+      Adds-look n (is_sole c.args.seat.now.me.0.badge) (history c.args.seat.now) (history c.take-store.new.seat) (history c.add.new.seat) e c.take-store.ensures.looks (added g c) (free g c) (claim g c),
+      omega (arith, c.len-count.ensures, c.take-store.ensures.stands.shows.count, ap length (added g c)),
+      below,
+      subst (λ (h : History). is_some (stored (drop 1 h) (snapshot_key c.args.snap.now)) ≡ false) (sym (added g c)) (free g c),
+    )

@@ -1,0 +1,73 @@
+use Rattle.std.proofs.Common.{rules, ◌≡◌, ◌+◌, ◌≤◌, ◌∷◌, ◌++◌, [], ℕ, length, length-append, drop, reverse, option_copied, arith, false, sym, ap, ◌∙◌, subst, Some}
+use mathlib.Core.Logic.{∥∥₁_map}
+use Rattle.std.specs.Prelude.{is_err}
+use Rattle.std.specs.Arc.{arc_value}
+use Rattle.turn_cell.specs.declared.view.View.{View}
+use Rattle.key_kind.specs.declared.key.Key.{Key}
+use Rattle.key_kind.specs.Names.{Name}
+use Rattle.key_kind.specs.Keys.{reference_key}
+use Rattle.key_kind.specs.KeyText.{key_text}
+use Rattle.bucket_core.specs.declared.event.Event.{Event}
+use Rattle.bucket_core.specs.History.{History, reference, puts_by}
+use Rattle.bucket_core.specs.Showing.{Shows}
+use Rattle.bucket_core.specs.Laws.{IsLawful}
+use Rattle.bucket_core.specs.Calls.{refer_event}
+use Rattle.store_model.specs.Law.{IsClaimed}
+use Rattle.bucket_shared.specs.Sole.{is_sole}
+use Rattle.bucket_shared.specs.Stories.{history, event_row}
+use Rattle.bucket_shared.proofs.Adding.{refer-later, Adds-look, not_err}
+use Rattle.bucket_shared.proofs.referring.refer.Given.{Over}
+use Rattle.bucket_shared.proofs.referring.refer.Goals as goal
+
+pub add-requires-clause-row : goal.add-requires-clause-row
+add-requires-clause-row g c =
+    ap event_row c.requires.event ∙ (ap Some (sym c.requires.ready.row_is) ∙ sym (ap (λ (v : View Event). v.begun) c.begin.ensures.view))
+
+pub add-requires-clause-shows : goal.add-requires-clause-shows
+add-requires-clause-shows g c =
+    let ok : is_err c.refer.result ≡ false = search rules in
+    let h = history c.take-store.new.seat in
+    let n : ℕ = c.args.seat.now.me.0.badge.number in
+    let ready = c.requires.ready in
+    let shows = not_err c.refer.result ok c.refer.ensures.ok h n (option_copied c.args.was) (arc_value c.args.changes) c.take-store.ensures.stands.shows
+    (ready.key ∙ ap (λ (s : Name). reference_key s) (sym ready.name)) (ready.mark ∙ ap (λ (k : Key). key_text k) (sym ready.entry_is)) in
+    subst (λ (x : History). Shows c.refer.new.self (g.K.EventName.event ∷ x)) (sym (ap (λ (v : View Event). reverse v.seen) c.begin.ensures.view))
+    (subst (λ (e : Event). Shows c.refer.new.self (e ∷ h)) ((λ i. refer_event n (ready.name i) (option_copied c.args.was) (ready.entry_is i) (arc_value c.args.changes)) ∙ sym c.requires.event) shows)
+
+pub add-requires-clause-lawful : goal.add-requires-clause-lawful
+add-requires-clause-lawful g c =
+    let n : ℕ = c.args.seat.now.me.0.badge.number in
+    let h = history c.take-store.new.seat in
+    let claim = refer-later n (is_sole c.args.seat.now.me.0.badge) (history c.args.seat.now) h c.args.symbol.now (option_copied c.args.was) c.args.entry.now (arc_value c.args.changes) c.take-store.ensures.looks c.take-store.ensures.stands.lawful c.requires.may c.in_default.ensures in
+    subst (λ (x : History). IsLawful IsClaimed (g.K.EventName.event ∷ x)) (sym (ap (λ (v : View Event). reverse v.seen) c.begin.ensures.view))
+    (subst (λ (e : Event). IsLawful IsClaimed (e ∷ h)) (sym c.requires.event) ((c.in_default.ensures, claim), c.take-store.ensures.stands.lawful))
+
+-- the claim holds of the whole history, and the event was added to it
+claim : (g : Over) (c : goal.After-drop-changes-2 g) → IsClaimed (history c.take-store.new.seat) (refer_event c.args.seat.now.me.0.badge.number c.args.symbol.now (option_copied c.args.was) c.args.entry.now (arc_value c.args.changes))
+claim g c =
+    refer-later c.args.seat.now.me.0.badge.number (is_sole c.args.seat.now.me.0.badge) (history c.args.seat.now) (history c.take-store.new.seat) c.args.symbol.now (option_copied c.args.was) c.args.entry.now (arc_value c.args.changes) c.take-store.ensures.looks c.take-store.ensures.stands.lawful c.requires.may c.in_default.ensures
+
+added : (g : Over) (c : goal.After-drop-changes-2 g) → history c.add.new.seat ≡ (refer_event c.args.seat.now.me.0.badge.number c.args.symbol.now (option_copied c.args.was) c.args.entry.now (arc_value c.args.changes)) ∷ history c.take-store.new.seat
+added g c = c.add.ensures.history ∙ (λ i. c.requires.event i ∷ reverse (c.begin.ensures.view i).seen)
+
+pub returns-clause-lawful : goal.returns-clause-lawful
+returns-clause-lawful g c =
+    ∥∥₁_map c.take-store.ensures.lawful (λ (l : IsLawful IsClaimed (history c.take-store.new.seat)). subst (λ (h : History). IsLawful IsClaimed h) (sym (added g c)) ((c.in_default.ensures, claim g c), l))
+
+pub returns-clause-counted : goal.returns-clause-counted
+returns-clause-counted g c =
+    let s : c.add.new.seat.me.0.seen ≡ c.take-store.new.seat.me.0.seen ++ g.K.EventName.event ∷ [] = c.add.ensures.seen ∙ ap (λ (v : View Event). v.seen ++ g.K.EventName.event ∷ []) c.begin.ensures.view in
+    omega (arith, c.take-store.ensures.counted, c.len-count.ensures, ap length s, length-append c.take-store.new.seat.me.0.seen (g.K.EventName.event ∷ []))
+
+pub returns-clause-serial : goal.returns-clause-serial
+returns-clause-serial g c = ap (puts_by c.args.seat.now.me.0.badge.number) (added g c) ∙ c.take-store.ensures.serial
+
+pub returns-clause-did : goal.returns-clause-did
+returns-clause-did g c =
+    let n : ℕ = c.args.seat.now.me.0.badge.number in
+    let below : c.len-count.result + 1 ≤ c.args.limit = search rules in (
+      Adds-look n (is_sole c.args.seat.now.me.0.badge) (history c.args.seat.now) (history c.take-store.new.seat) (history c.add.new.seat) (refer_event c.args.seat.now.me.0.badge.number c.args.symbol.now (option_copied c.args.was) c.args.entry.now (arc_value c.args.changes)) c.take-store.ensures.looks (added g c) c.in_default.ensures (claim g c),
+      omega (arith, c.len-count.ensures, c.take-store.ensures.stands.shows.count, ap length (added g c)),
+      below,
+      subst (λ (h : History). reference (drop 1 h) c.args.symbol.now ≡ option_copied c.args.was) (sym (added g c)) c.in_default.ensures,
+    )

@@ -1,0 +1,6 @@
+pub mod Rows
+pub mod Stories
+pub mod Sole
+pub mod Passes
+pub mod Splits
+pub mod Ready

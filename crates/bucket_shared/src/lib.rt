@@ -1,0 +1,21 @@
+//! One store for many clients: passes over one shared history.
+#![tactic(auto)]
+
+mod dropping;
+mod event_name;
+mod looking;
+mod naming;
+mod pass;
+mod putting;
+mod ready;
+mod referring;
+mod row;
+mod shared;
+mod splitting;
+mod store;
+mod turn;
+mod unnaming;
+
+pub use pass::Pass;
+pub use shared::Shared;
+pub use splitting::SplitFault;

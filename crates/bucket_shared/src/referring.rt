@@ -1,0 +1,85 @@
+// The refer of a pass: one turn.
+ghost use Rattle.std.specs.Prelude.{◌≡◌, ◌≤◌, ◌^◌, length, option_copied};
+ghost use Rattle.std.specs.Arc.{arc_value};
+ghost use Rattle.bucket_shared.specs.Ready.{IsReady};
+ghost use Rattle.turn_cell.specs.Seats.{view, seen, Rests};
+ghost use Rattle.bucket_core.specs.History.{puts_by};
+ghost use Rattle.bucket_core.specs.Heads.{HasMoved};
+ghost use Rattle.bucket_core.specs.Laws.{IsLawful};
+ghost use Rattle.bucket_core.specs.Calls.{DidChange, RefusesRefer, MayTryRefer, refer_event};
+ghost use Rattle.bucket_core.specs.Showing.{Shows};
+ghost use Rattle.store_model.specs.Law.{IsClaimed};
+ghost use Rattle.bucket_shared.specs.Sole.{is_sole};
+ghost use Rattle.bucket_shared.specs.Stories.{history};
+
+use crate::event_name::EventName;
+use crate::ready::Reference;
+use crate::store::Store;
+use crate::turn::{add, take};
+use bucket_core::{Changes, Contents, StoreErr};
+use key_kind::{Key, Symbol};
+use std::alloc::Global;
+use std::sync::{Arc, Wait};
+use turn_cell::{Seat, TurnCell};
+
+/// Where the symbol's reference is another than `was`, the place of its newest Refer, or 0.
+fn moved(contents: &Contents, seat: &Seat<Store>, symbol: &Symbol, was: Option<&Key>) -> Option<u64>
+    requires shows { Shows contents.now (history seat.now) }
+    ensures { HasMoved (history seat.now) symbol.now (option_copied was.entry) result }
+{
+    contents.moved_at(symbol, was)
+}
+
+/// Sets a symbol's reference, which is the event that `K` names. It tells how many events there are.
+pub(crate) fn refer<K: EventName, R: Wait>(
+    rt: &R,
+    alloc: Global,
+    cell: &TurnCell<Store>,
+    seat: &mut Seat<Store>,
+    limit: u64,
+    symbol: &Symbol,
+    was: Option<&Key>,
+    entry: &Key,
+    made: Reference,
+    changes: Arc<Changes>,
+) -> (Result<u64, StoreErr>, u64)
+    requires cell { seat.old.table_id ≡ cell.now }
+    requires rests { Rests seat.old }
+    requires limit { limit ≤ 2 ^ 62 }
+    requires ready { IsReady made symbol.now entry.now }
+    requires event { K.event ≡ refer_event (view seat.old).badge.number symbol.now (option_copied was) entry.now (arc_value changes) }
+    requires may { MayTryRefer IsClaimed (history seat.old) (view seat.old).badge.number symbol.now (option_copied was) entry.now (arc_value changes) }
+    ensures cell { seat.new.table_id ≡ seat.old.table_id }
+    ensures rests { Rests seat.new }
+    ensures badge { (view seat.new).badge ≡ (view seat.old).badge }
+    ensures counted { result.1 ≡ length (seen seat.new) }
+    ensures lawful { ∥ IsLawful IsClaimed (history seat.new) ∥₁ }
+    ensures did { DidChange IsClaimed (view seat.old).badge.number (is_sole (view seat.old).badge) limit 0 0 (history seat.old) (history seat.new) (refer_event (view seat.old).badge.number symbol.now (option_copied was.entry) entry.now (arc_value changes)) (RefusesRefer limit symbol.now (option_copied was.entry)) result.0 }
+    ensures serial { puts_by (view seat.old).badge.number (history seat.new) ≡ puts_by (view seat.old).badge.number (history seat.old) }
+{
+    let _changes = changes;
+    let mut store = take(rt, cell, seat);
+    let count = store.contents.len();
+    if let Some(now) = moved(&store.contents, seat, symbol, was) {
+        cell.give(seat, store);
+        return (Err(StoreErr::Moved { now }), count);
+    }
+    if limit <= count {
+        cell.give(seat, store);
+        return (Err(StoreErr::Spent { count }), count);
+    }
+    let Reference {
+        row,
+        name,
+        key,
+        entry,
+        mark,
+    } = made;
+    if store.contents.refer(alloc, name, key, entry, mark).is_err() {
+        cell.give(seat, store);
+        return (Err(StoreErr::NoMemory), count);
+    }
+    cell.begin(seat, row);
+    add::<K>(cell, seat, store);
+    (Ok(count + 1), count + 1)
+}
