@@ -128,9 +128,9 @@ fn measured(
 
 /// A word of the command line.
 fn word(words: &[String], place: usize) -> anyhow::Result<&str> {
-    let found = words
-        .get(place)
-        .context("words: encode|view|copy|columns|cut int|text ROWS COLUMNS TIMES")?;
+    let found = words.get(place).context(
+        "words: encode|view|copy|columns|cut int|text ROWS COLUMNS TIMES",
+    )?;
     Ok(found.as_str())
 }
 

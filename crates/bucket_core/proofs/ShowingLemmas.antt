@@ -23,9 +23,9 @@ pub Shows-body : (old new : Contents) (key : Key) (entry : Entry) (h : History) 
 Shows-body old new key entry h e shows added place count is body heads = record {
   count = count ∙ ap suc shows.count;
   entries = ap (map shown) added
-  ∙ (shown-insert_entry old.entries.entries key entry
-  ∙ (ap (λ (es : List Shown). insert_entry key_cmp es key (arc_value entry.body, entry.since)) shows.entries
-  ∙ (λ i. with_event (sym is i) (sym body i) ((place ∙ ap suc shows.count) i) (contents_of h))));
+      ∙ (shown-insert_entry old.entries.entries key entry
+      ∙ (ap (λ (es : List Shown). insert_entry key_cmp es key (arc_value entry.body, entry.since)) shows.entries
+      ∙ (λ i. with_event (sym is i) (sym body i) ((place ∙ ap suc shows.count) i) (contents_of h))));
   heads = heads;
 }
 
@@ -39,9 +39,9 @@ pub Sets-none : (old new : Contents) (key : Key) → IsStrictlySortedBy key_cmp 
 Sets-none old new key sorted removed count heads = λ h e shows is body same. record {
   count = count ∙ ap suc shows.count;
   entries = ap (map shown) removed
-  ∙ (shown-remove_entry key old.entries.entries sorted
-  ∙ (ap (λ (es : List Shown). with_event key None 0 es) shows.entries
-  ∙ (λ i. with_event (sym is i) (sym body i) (suc (length h)) (contents_of h))));
+      ∙ (shown-remove_entry key old.entries.entries sorted
+      ∙ (ap (λ (es : List Shown). with_event key None 0 es) shows.entries
+      ∙ (λ i. with_event (sym is i) (sym body i) (suc (length h)) (contents_of h))));
   heads = λ s. heads s ∙ (shows.heads s ∙ sym (same s));
 }
 
