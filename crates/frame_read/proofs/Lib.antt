@@ -4,5 +4,8 @@ pub mod FetchLemmas
 pub mod PlaceLemmas
 pub mod LoopLemmas
 pub mod StampLemmas
+pub mod RangeLemmas
+pub mod GatherSteps
+pub mod GatherLemmas
 pub mod SliceLemmas
 pub mod WholeLemmas
