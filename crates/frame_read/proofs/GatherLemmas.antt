@@ -127,7 +127,7 @@ apart earlier (x ∷ hs) zero (suc j) g h new lt at_i at_j =
 apart earlier (x ∷ hs) (suc i) (suc j) g h new lt at_i at_j = apart (x.0 ∷ earlier) hs i j g h (and_parts _ _ new).1 (omega (arith, lt)) at_i at_j
 
 -- another place has another name
-other_name : (hs : List Head) (i k : ℕ) (g h : Head) → AreColumns hs → (i ≡ k → ⊥) → slice_get hs i ≡ Some g → slice_get hs k ≡ Some h → same_text h.0 g.0 ≡ false
+pub other_name : (hs : List Head) (i k : ℕ) (g h : Head) → AreColumns hs → (i ≡ k → ⊥) → slice_get hs i ≡ Some g → slice_get hs k ≡ Some h → same_text h.0 g.0 ≡ false
 other_name hs i k g h are differs at_i at_k = by_side (nat_lt i k) refl
   where
     flip : (b : Bool) → same_text h.0 g.0 ≡ b → same_text g.0 h.0 ≡ false → same_text h.0 g.0 ≡ false
@@ -146,7 +146,7 @@ other_name hs i k g h are differs at_i at_k = by_side (nat_lt i k) refl
         by_more true e' = grind (arith, e')
         by_more false e' = let same : i ≡ k = grind (arith, e, e') in absurd (differs same)
 
-slice_below : {X : Type 0} (xs : List X) (a n i : ℕ) (x : X) → slice_get (slice_range xs a (a + n)) i ≡ Some x → (i < n) × (slice_get xs (a + i) ≡ Some x)
+pub slice_below : {X : Type 0} (xs : List X) (a n i : ℕ) (x : X) → slice_get (slice_range xs a (a + n)) i ≡ Some x → (i < n) × (slice_get xs (a + i) ≡ Some x)
 slice_below xs a n i x at =
     let long : (a + n) - a ≡ n = omega arith in
     let lt : i < n = omega (arith, got_below (slice_range xs a (a + n)) i x at, length-take ((a + n) - a) (drop a xs), long) in

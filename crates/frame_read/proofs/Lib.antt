@@ -7,5 +7,7 @@ pub mod StampLemmas
 pub mod RangeLemmas
 pub mod GatherSteps
 pub mod GatherLemmas
+pub mod AskLemmas
+pub mod FrameLemmas
 pub mod SliceLemmas
 pub mod WholeLemmas
