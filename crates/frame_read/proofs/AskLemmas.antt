@@ -1,7 +1,6 @@
 -- The frame that is asked, column by column.
-use Rattle.std.proofs.Common.{◌≡◌, ℕ, zero, suc, ◌+◌, ◌≤◌, ◌<◌, ℤ, pos, Bool, true, false, ◌&&◌, not, int_lt, nat_eq, List, [], ◌∷◌, length, map, Option, Some, None, Result, Ok, Err, refl, sym, ap, ◌∙◌, subst, arith}
-use Rattle.std.specs.Prelude.{slice_get, option_map, filter, int_le, ◌≤ℤ◌, FitsSigned, ⊤}
-use Rattle.std.specs.Int.{w64}
+use Rattle.std.proofs.Common.{◌≡◌, ℕ, zero, suc, ◌≤◌, ◌<◌, ℤ, pos, Bool, true, false, nat_eq, List, [], ◌∷◌, length, map, Option, Some, None, Result, Ok, Err, refl, sym, ap, ◌∙◌, subst, arith}
+use Rattle.std.specs.Prelude.{slice_get, filter, ◌≤ℤ◌}
 use Rattle.std.specs.List.{AllByRecursion, AllZip, list_any, cons_option}
 use Rattle.std.proofs.lemmas.Bool.{and_from, or_left, or_right}
 use Rattle.std.proofs.lemmas.Int.{ints}
@@ -10,7 +9,7 @@ use Rattle.frame_core.specs.declared.refusal.Refusal.{Refusal}
 use Rattle.frame_core.specs.declared.refusal.Refusal.TheVariants as refusals
 use Rattle.frame_core.specs.Texts.{Text, same_text}
 use Rattle.frame_core.specs.Ranges.{Range, is_within}
-use Rattle.frame_core.specs.Schemas.{Head, Schema, AreColumns, IsColName}
+use Rattle.frame_core.specs.Schemas.{Head, Schema, IsColName}
 use Rattle.frame_core.specs.Frames.{Row, Frame, IsFrame, IsCell, FitsColumns, NeverFall, stamps_of, rows_within, type_of}
 use Rattle.frame_core.specs.Columns.{cells_of}
 use Rattle.frame_core.specs.Selecting.{then_map, places_of, at_places, pick_cells, pick_columns}

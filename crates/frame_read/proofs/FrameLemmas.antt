@@ -1,28 +1,25 @@
 -- What is gathered from fetched tiles is the frame that is asked.
-use Rattle.std.proofs.Common.{◌≡◌, ℕ, zero, suc, ◌+◌, ◌-◌, ◌≤◌, ◌<◌, ℤ, Bool, true, false, cond, ◌&&◌, ◌||◌, nat_le, nat_lt, nat_eq, List, [], ◌∷◌, length, map, get_or, drop, Option, Some, None, Result, Ok, Err, refl, sym, ap, ◌∙◌, subst, arith}
-use Rattle.std.specs.Prelude.{slice_get, slice_range, count_by, option_map}
+use Rattle.std.proofs.Common.{◌≡◌, ℕ, suc, ◌+◌, ◌≤◌, ℤ, Bool, true, false, ◌&&◌, ◌||◌, nat_le, nat_lt, nat_eq, List, [], ◌∷◌, length, map, Option, Some, Result, Ok, refl, sym, ap, ◌∙◌, subst, arith}
+use Rattle.std.specs.Prelude.{slice_get, count_by, option_map}
 use Rattle.std.specs.List.{AllByRecursion, AllZip, list_any}
 use Rattle.std.specs.List.Sorted.{IsPermutation, IsNonDecreasingBy}
 use Rattle.std.proofs.lemmas.Bool.{true≢false}
-use Rattle.std.proofs.lemmas.List.{get_or-map, length-map}
 use Rattle.std.proofs.lemmas.List.Sorted.{sum_by-IsPermutation}
-use Rattle.std.proofs.lemmas.Option.{slice_get-get_or, slice_get-map}
 use Rattle.frame_core.specs.declared.part.Part.{Part}
 use Rattle.frame_core.specs.declared.cell.Cell.{Cell}
 use Rattle.frame_core.specs.declared.column.Column.{Column}
 use Rattle.frame_core.specs.Texts.{Text, same_text}
-use Rattle.frame_core.specs.Ranges.{Range, is_within}
+use Rattle.frame_core.specs.Ranges.{Range}
 use Rattle.frame_core.specs.Schemas.{Head, Schema}
-use Rattle.frame_core.specs.Frames.{Row, Frame, IsFrame, stamp_at, stamps_of, type_at, rows_within}
+use Rattle.frame_core.specs.Frames.{Row, Frame, IsFrame, stamps_of, type_at}
 use Rattle.frame_core.specs.Columns.{column_type, column_cells, cells_of, columns_from, rows_from, IsWhole}
 use Rattle.frame_core.specs.Selecting.{place_of}
 use Rattle.frame_core.proofs.SelectLemmas.{place_is}
 use Rattle.segment_cut.specs.Tiles.{Tile, cut, has_row, has_cell}
 use Rattle.segment_cut.specs.Joins.{has_column}
-use Rattle.segment_cut.proofs.Lists.{count_by-cons, count_by-yes, count_by-no}
-use Rattle.segment_cut.proofs.Orders.{Rising, Rising-from, all-permutation}
+use Rattle.segment_cut.proofs.Lists.{count_by-yes, count_by-no}
+use Rattle.segment_cut.proofs.Orders.{Rising-from, all-permutation}
 use Rattle.segment_cut.proofs.Wholes.{IsWhole-frame, frame-whole}
-use Rattle.segment_cut.proofs.JoinSteps.{columns-are}
 use Rattle.reply_model.specs.ReadAnswers.{ask}
 use Rattle.frame_read.specs.declared.tiles.FetchedTile.{FetchedTile}
 use Rattle.frame_read.specs.declared.tiles.Tiles.{Tiles}
@@ -30,7 +27,7 @@ use Rattle.frame_read.specs.TileSets.{is_asked}
 use Rattle.frame_read.specs.Wholes.{HoldsPart, AreTilesOf}
 use Rattle.frame_read.specs.Gathers.{cells_gathered, stamps_gathered, HasType, IsOpened}
 use Rattle.frame_read.proofs.GatherLemmas.{Covers, other_name, slice_below, stamps_all, cells_all}
-use Rattle.frame_read.proofs.AskLemmas.{self_text, head_below, IsAnswer, IsColumn, answer}
+use Rattle.frame_read.proofs.AskLemmas.{self_text, IsAnswer, answer}
 
 -- ---- some tile of those in another order
 
@@ -149,8 +146,8 @@ types_are f columns self sorted is of are =
     let a = answered f columns self sorted is of are in
     subst (λ (s : Schema). AllByRecursion (λ head. AllByRecursion (HasType head) sorted) s.columns) (sym a.schema_is)
     (all_places (λ head. AllByRecursion (HasType head) sorted) a.made.schema.columns (λ j head at.
-        let col = a.cols j head at in
-        types_in f columns self sorted is of are col.place head col.head_is sorted (parts f columns self sorted is of are)))
+    let col = a.cols j head at in
+    types_in f columns self sorted is of are col.place head col.head_is sorted (parts f columns self sorted is of are)))
 
 -- ---- the frame that was made
 

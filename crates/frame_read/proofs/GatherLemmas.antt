@@ -1,12 +1,11 @@
 -- What is gathered from tiles of a frame is the frame's rows in the range.
-use Rattle.std.proofs.Common.{◌≡◌, ℕ, zero, suc, ◌+◌, ◌-◌, ◌≤◌, ◌<◌, ℤ, Bool, true, false, cond, not, ◌&&◌, ◌||◌, nat_le, nat_lt, max, List, [], ◌∷◌, ◌++◌, length, map, take, drop, Option, Some, None, refl, sym, ap, ◌∙◌, subst, arith, length-take}
+use Rattle.std.proofs.Common.{◌≡◌, ℕ, zero, suc, ◌+◌, ◌-◌, ◌≤◌, ◌<◌, ℤ, Bool, true, false, cond, not, ◌&&◌, ◌||◌, nat_lt, max, List, [], ◌∷◌, ◌++◌, length, map, take, drop, Some, None, refl, sym, ap, ◌∙◌, subst, arith, length-take}
 use Rattle.std.specs.Prelude.{slice_get, slice_range, filter, option_map}
 use Rattle.std.specs.List.{AllByRecursion, list_any, position_from}
 use Rattle.std.proofs.lemmas.Bool.{true≢false, and_parts}
 use Rattle.std.proofs.lemmas.List.{drop-drop, length-map, length-drop, map-append}
 use Rattle.std.proofs.lemmas.List.Elements.{filter_map-append}
 use Rattle.std.proofs.lemmas.List.Folds.{drop_split}
-use Rattle.frame_core.specs.declared.part.Part.{Part}
 use Rattle.frame_core.specs.declared.cell.Cell.{Cell}
 use Rattle.frame_core.specs.Texts.{Text, same_text}
 use Rattle.frame_core.specs.Ranges.{Range, is_within}
@@ -162,18 +161,18 @@ tile_place f t k head is at part self column =
     let none : 0 + (k - t.0.first_col) ≡ k - t.0.first_col = omega arith in
     ap (λ (g : Frame). place_of head.0 g.schema.columns) part
     ∙ pos_some (λ (c : Head). same_text head.0 c.0) 0 (k - t.0.first_col) (slice_range f.schema.columns t.0.first_col (t.0.first_col + t.0.cols)) head
-      (λ i y less there_i.
-          let r = slice_below f.schema.columns t.0.first_col t.0.cols i y there_i in
-          other_name f.schema.columns (t.0.first_col + i) k y head is.columns (λ same. absurd (omega (arith, same, less, low))) r.1 at) there self
+    (λ i y less there_i.
+    let r = slice_below f.schema.columns t.0.first_col t.0.cols i y there_i in
+    other_name f.schema.columns (t.0.first_col + i) k y head is.columns (λ same. absurd (omega (arith, same, less, low))) r.1 at) there self
     ∙ ap (λ m. Some m) none
 
 pub tile_no_place : (f : Frame) (t : Tile) (k : ℕ) (head : Head) → IsFrame f → slice_get f.schema.columns k ≡ Some head → t.1 ≡ cut f t.0 → has_column t.0 k ≡ false → place_of head.0 t.1.schema.columns ≡ None
 tile_no_place f t k head is at part column =
     ap (λ (g : Frame). place_of head.0 g.schema.columns) part
     ∙ pos_none (λ (c : Head). same_text head.0 c.0) 0 (slice_range f.schema.columns t.0.first_col (t.0.first_col + t.0.cols))
-      (λ i y there_i.
-          let r = slice_below f.schema.columns t.0.first_col t.0.cols i y there_i in
-          other_name f.schema.columns (t.0.first_col + i) k y head is.columns (λ same. absurd (out i same r.0)) r.1 at)
+    (λ i y there_i.
+    let r = slice_below f.schema.columns t.0.first_col t.0.cols i y there_i in
+    other_name f.schema.columns (t.0.first_col + i) k y head is.columns (λ same. absurd (out i same r.0)) r.1 at)
   where
     out : (i : ℕ) → t.0.first_col + i ≡ k → i < t.0.cols → ⊥
     out i same lt = absurd (true≢false (sym (let within : has_column t.0 k ≡ true = grind (arith, same, lt) in within) ∙ column))
@@ -191,9 +190,9 @@ skip_to : (f : Frame) (range : Range) (s m : ℕ) → s ≤ m → ((row : ℕ) (
 skip_to f range s m le out =
     let wide : s + (m - s) ≡ m = omega (arith, le) in
     let none : rows_within range (slice_range f.rows s (s + (m - s))) ≡ [] = no_rows range (slice_range f.rows s (s + (m - s))) (λ i x at.
-        let long : (s + (m - s)) - s ≡ m - s = omega arith in
-        let lt : i < m - s = omega (arith, stamped_below (slice_range f.rows s (s + (m - s))) i x at, length-take ((s + (m - s)) - s) (drop s f.rows), long) in
-        out (s + i) x (omega arith) (omega (arith, lt)) (ap (option_map (λ (r : Row). r.stamp)) (sym (get-slice s (m - s) i f.rows lt)) ∙ at)) in
+    let long : (s + (m - s)) - s ≡ m - s = omega arith in
+    let lt : i < m - s = omega (arith, stamped_below (slice_range f.rows s (s + (m - s))) i x at, length-take ((s + (m - s)) - s) (drop s f.rows), long) in
+    out (s + i) x (omega arith) (omega (arith, lt)) (ap (option_map (λ (r : Row). r.stamp)) (sym (get-slice s (m - s) i f.rows lt)) ∙ at)) in
     sym (ap (rows_within range) (drop_split f.rows s m le) ∙ filter_append (λ (r : Row). is_within range r.stamp) (slice_range f.rows s m) (drop m f.rows)
     ∙ ap (λ (rs : List Row). rs ++ rows_within range (drop m f.rows)) (ap (λ n. rows_within range (slice_range f.rows s n)) (sym wide) ∙ none))
 

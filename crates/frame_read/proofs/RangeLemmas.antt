@@ -1,10 +1,10 @@
 -- Rows in a range stand together, between those below it and those above it.
-use Rattle.std.proofs.Common.{◌≡◌, ℕ, zero, suc, ◌+◌, ◌-◌, ◌≤◌, ◌<◌, ℤ, ◌≤ℤ◌, Bool, true, false, not, ◌&&◌, min, max, List, [], ◌∷◌, length, map, take, drop, Option, Some, None, refl, sym, ap, ◌∙◌, subst, arith}
-use Rattle.std.specs.Prelude.{count_by, slice_range, int_lt, int_le}
+use Rattle.std.proofs.Common.{◌≡◌, ℕ, zero, suc, ◌+◌, ◌-◌, ℤ, ◌≤ℤ◌, Bool, true, false, not, min, List, [], ◌∷◌, length, take, drop, Option, Some, None, refl, sym, ap, ◌∙◌, subst, arith}
+use Rattle.std.specs.Prelude.{count_by, slice_range, int_lt}
 use Rattle.std.specs.Option.{option_map_or}
 use Rattle.std.proofs.lemmas.Int.{ints}
-use Rattle.std.proofs.lemmas.List.{drop_all, take_all, drop-drop, length-map, length-drop}
-use Rattle.frame_core.specs.Ranges.{Range, InOrder, IsRange, is_below, is_above, is_within}
+use Rattle.std.proofs.lemmas.List.{take_all, drop-drop, length-map, length-drop}
+use Rattle.frame_core.specs.Ranges.{Range, InOrder, IsRange, is_below, is_above}
 use Rattle.frame_core.specs.Frames.{Row, NeverFall, stamps_of, rows_within}
 use Rattle.segment_cut.proofs.Lists.{count_by-no, count_by-yes}
 use Rattle.segment_cut.specs.Tiles.{Tile}

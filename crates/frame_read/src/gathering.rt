@@ -18,10 +18,7 @@ use segment_bytes::view;
 use std::alloc::Global;
 
 /// The tiles in memory, each viewed once.
-pub(crate) fn opened(
-    alloc: Global,
-    tiles: &[FetchedTile],
-) -> Result<Vec<(Part, Frame)>, NoMemory>
+pub(crate) fn opened(alloc: Global, tiles: &[FetchedTile]) -> Result<Vec<(Part, Frame)>, NoMemory>
     ensures { IfOk result (λ made. AllZip IsOpened tiles.now made.items) }
 {
     let mut made = Vec::with_capacity(alloc, tiles.len())?;

@@ -1,4 +1,4 @@
-use Rattle.std.proofs.Common.{◌≡◌, ◌+◌, ◌-◌, length, refl, sym, ap, ◌∙◌, subst, arith}
+use Rattle.std.proofs.Common.{length, sym, subst, arith}
 use Rattle.frame_core.specs.Frames.{NeverFall}
 use Rattle.frame_core.proofs.Parts.{NeverFall-slice}
 use Rattle.frame_read.proofs.RangeLemmas.{fresh-slice, rising-dropped}

@@ -1,5 +1,3 @@
-use Rattle.std.proofs.Common.{◌≡◌, ◌∙◌, ap, sym, subst, map, List}
-use Rattle.frame_core.specs.Schemas.{Head}
 use Rattle.frame_read.proofs.FrameLemmas.{types_are, made_whole, made_asked}
 use Rattle.frame_read.proofs.tiles.Tiles.to_frame.Goals as goal
 
