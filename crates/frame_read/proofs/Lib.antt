@@ -4,5 +4,10 @@ pub mod FetchLemmas
 pub mod PlaceLemmas
 pub mod LoopLemmas
 pub mod StampLemmas
+pub mod RangeLemmas
+pub mod GatherSteps
+pub mod GatherLemmas
+pub mod AskLemmas
+pub mod FrameLemmas
 pub mod SliceLemmas
 pub mod WholeLemmas

@@ -13,10 +13,10 @@ use Rattle.segment_cut.specs.Tiles.{has_row}
 use Rattle.store_model.specs.Commits.{HasSlotStamps}
 
 -- the stamp of the row at a place
-abbrev stamp_in : List Row → ℕ → Option ℤ
+abbrev pub stamp_in : List Row → ℕ → Option ℤ
 stamp_in rows k = option_map (λ (r : Row). r.stamp) (slice_get rows k)
 
-drop_get : (rows : List Row) (a k : ℕ) → stamp_in (drop a rows) k ≡ stamp_in rows (a + k)
+pub drop_get : (rows : List Row) (a k : ℕ) → stamp_in (drop a rows) k ≡ stamp_in rows (a + k)
 drop_get rows zero k = let none : 0 + k ≡ k = omega arith in ap (stamp_in rows) (sym none)
 drop_get [] (suc a) k = refl
 drop_get (r ∷ rows) (suc a) k = let step : suc a + k ≡ suc (a + k) = omega arith in drop_get rows a k ∙ ap (stamp_in (r ∷ rows)) (sym step)
@@ -44,7 +44,7 @@ rises rows i j s t rising le first last =
     let b = stamp_of_get rows j t s last in
     subst (λ (x : ℤ). x ≤ℤ t) a.1 (subst (λ (x : ℤ). get_or (stamps_of rows) i s ≤ℤ x) b.1 (far (stamps_of rows) i j s rising le b.0))
 
-not_below : (range : Range) (t last : ℤ) → t ≤ℤ last → not (is_below range t) ≡ true → not (is_below range last) ≡ true
+pub not_below : (range : Range) (t last : ℤ) → t ≤ℤ last → not (is_below range t) ≡ true → not (is_below range last) ≡ true
 not_below range t last le e = elim range.from as (λ (from : Option ℤ). not (is_below (record range { from = from }) t) ≡ true → not (is_below (record range { from = from }) last) ≡ true) [
   | None ↦ λ e. refl
   | Some from ↦ λ e. below from t last le e
@@ -53,7 +53,7 @@ not_below range t last le e = elim range.from as (λ (from : Option ℤ). not (i
     below : (from t last : ℤ) → t ≤ℤ last → not (int_lt t from) ≡ true → not (int_lt last from) ≡ true
     below from t last le e = grind (arith, ints)
 
-not_above : (range : Range) (first t : ℤ) → first ≤ℤ t → not (is_above range t) ≡ true → not (is_above range first) ≡ true
+pub not_above : (range : Range) (first t : ℤ) → first ≤ℤ t → not (is_above range t) ≡ true → not (is_above range first) ≡ true
 not_above range first t le e = elim range.to as (λ (to : Option ℤ). not (is_above (record range { to = to }) t) ≡ true → not (is_above (record range { to = to }) first) ≡ true) [
   | None ↦ λ e. refl
   | Some to ↦ λ e. above to first t le e

@@ -246,6 +246,7 @@ fetched_is_frame h lawful target range columns fetched f =
       version = v;
       version_is = found.1;
       number = sym whole.0.number ∙ f.index_is.number;
+      is_frame = whole.1.storable.is_frame;
       tiles_of = record {
         range_is = f.range_is;
         schema = subst (λ s. IsAskedSchema s columns fetched.schema) schema f.schema;

@@ -2,3 +2,4 @@ pub mod Targets
 pub mod Fetches
 pub mod TileSets
 pub mod Wholes
+pub mod Gathers

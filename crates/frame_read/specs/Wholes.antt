@@ -8,7 +8,7 @@ use Rattle.std.specs.Arc.{arc_value}
 use Rattle.frame_core.specs.Ranges.{Range, is_within}
 use Rattle.frame_core.specs.Texts.{Text}
 use Rattle.frame_core.specs.Schemas.{Head}
-use Rattle.frame_core.specs.Frames.{Frame, stamp_at}
+use Rattle.frame_core.specs.Frames.{Frame, IsFrame, stamp_at}
 use Rattle.segment_bytes.specs.Segments.{segment_of}
 use Rattle.segment_cut.specs.Tiles.{cut, has_row, has_cell}
 use Rattle.bucket_core.specs.History.{History}
@@ -38,6 +38,7 @@ pub record HasFrame (h : History) (target : Target) (range : Range) (columns : O
   pub version : Version
   pub version_is : Contains (state_of h target.symbol).versions version
   pub number : version.number ≡ target.version
+  pub is_frame : IsFrame version.frame
   pub tiles_of : AreTilesOf version.frame range columns tiles
 
 -- in each lawful history fetched tiles are so

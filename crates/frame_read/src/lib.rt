@@ -3,6 +3,7 @@
 
 mod choosing;
 mod fetching;
+mod gathering;
 mod laws;
 mod objects;
 mod resolving;

@@ -1,6 +1,7 @@
 use crate::choose;
+use crate::gathering::gathered_stamps;
 use base_types::{Items, Keep};
-use frame_core::{Asked, Refusal};
+use frame_core::{Asked, Frame, Part, Range, RawFrame, Refusal};
 use key_kind::{Key, KeyKind, Symbol};
 use std::alloc::Global;
 use std::test::Fail;
@@ -86,5 +87,40 @@ fn a_buried_version_is_refused_with_what_was_asked(rt: HostRuntime) -> Result<()
     let asked = Asked::Number(1);
     assert!(rt; chosen(&state, Asked::Number(2)) == Some(2));
     assert!(rt; refused(&state, asked) == Some(Refusal::NoSuchVersion { asked }));
+    Ok(())
+}
+
+// A tile of a frame without columns, that begins at this row and has these stamps.
+fn tile(alloc: Global, first_row: u64, stamps: &[i64]) -> Result<(Part, Frame), Fail> {
+    let raw = RawFrame {
+        stamps: Items::from_slice(alloc, stamps)?,
+        names: Items::new(alloc),
+        columns: Items::new(alloc),
+    };
+    let part = Part {
+        first_row,
+        rows: stamps.len() as u64,
+        first_col: 0,
+        cols: 0,
+    };
+    Ok((part, Frame::make(alloc, &raw)?))
+}
+
+// The stamps from 20 to 40 of rows 0 to 2, of the same rows again, and of rows 3 and 4.
+fn stamps_in_range(alloc: Global) -> Result<Items<i64>, Fail> {
+    let mut tiles = Vec::new(alloc);
+    tiles.push(tile(alloc, 0, &[10, 20, 20])?)?;
+    tiles.push(tile(alloc, 0, &[10, 20, 20])?)?;
+    tiles.push(tile(alloc, 3, &[40, 50])?)?;
+    match Range::make(Some(20), Some(40)) {
+        Some(range) => Ok(gathered_stamps(alloc, range, &tiles)?),
+        None => Ok(Items::new(alloc)),
+    }
+}
+
+#[test]
+fn each_row_in_the_range_is_gathered_once(rt: HostRuntime) -> Result<(), Fail> {
+    let stamps = stamps_in_range(rt.alloc())?;
+    assert!(rt; stamps.items() == [20, 20, 40].as_slice());
     Ok(())
 }

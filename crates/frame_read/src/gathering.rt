@@ -1,0 +1,186 @@
+//! The cells and the stamps that tiles have in a range, each row once.
+
+ghost use Rattle.std.specs.Prelude.{◌≡◌, ◌≤◌, ◌-◌, ◌++◌, not, [], length, map, drop, count_by, slice_range, Some, IfOk, OnOk};
+ghost use Rattle.std.specs.List.{AllByRecursion, AllZip};
+ghost use Rattle.std.specs.List.Sorted.{IsPermutation, IsNonDecreasingBy};
+ghost use Rattle.frame_core.specs.Ranges.{IsRange, is_below, is_above};
+ghost use Rattle.frame_core.specs.Schemas.{Head};
+ghost use Rattle.frame_core.specs.Frames.{IsFrame, NeverFall, type_at};
+ghost use Rattle.frame_core.specs.Columns.{column_type, column_cells, cells_of};
+ghost use Rattle.frame_core.specs.Selecting.{place_of};
+ghost use Rattle.segment_cut.specs.Tiles.{Tile};
+ghost use Rattle.frame_read.specs.Gathers.{fresh, reach, cells_gathered, stamps_gathered, HasType, IsOpened};
+
+use crate::tiles::FetchedTile;
+use base_types::{Items, NoMemory};
+use frame_core::{ColName, ColType, Column, Frame, Part, Range};
+use segment_bytes::view;
+use std::alloc::Global;
+
+/// The tiles in memory, each viewed once.
+pub(crate) fn opened(alloc: Global, tiles: &[FetchedTile]) -> Result<Vec<(Part, Frame)>, NoMemory>
+    ensures { IfOk result (λ made. AllZip IsOpened tiles.now made.items) }
+{
+    let mut made = Vec::with_capacity(alloc, tiles.len())?;
+    for tile in tiles {
+        let frame = opened_frame(alloc, tile)?;
+        made.push((tile.part, frame))?;
+    }
+    Ok(made)
+}
+
+/// The frame of a tile's segment. What was put as a tile is always read, so only memory can be wanting.
+fn opened_frame(alloc: Global, tile: &FetchedTile) -> Result<Frame, NoMemory>
+    ensures { IfOk result (λ frame. IsOpened tile.now (tile.now.part, frame)) }
+{
+    match view(tile.body.bytes()) {
+        Ok(segment) => segment.to_frame(alloc),
+        Err(_) => Err(NoMemory),
+    }
+}
+
+/// Puts the tiles in the order of their first rows.
+pub(crate) fn sort(tiles: &mut Vec<(Part, Frame)>)
+    ensures same { IsPermutation tiles.old.items tiles.new.items }
+    ensures rising { IsNonDecreasingBy (λ (t : Tile). t.0.first_row) tiles.new.items }
+{
+    tiles.sort_unstable_by_key(|tile| tile.0.first_row);
+}
+
+/// The stamps that the tiles have in the range, each row once.
+pub(crate) fn gathered_stamps(
+    alloc: Global,
+    range: Range,
+    tiles: &[(Part, Frame)],
+) -> Result<Items<i64>, NoMemory>
+    ensures { IfOk result (λ stamps. stamps ≡ stamps_gathered range 0 tiles.now) }
+{
+    let mut stamps = Items::new(alloc);
+    let mut reached = 0;
+    for tile in tiles {
+        let (from, to) = fresh_rows(range, reached, tile);
+        stamps.extend(&tile.1.stamps()[from..to])?;
+        reached = reach_of(reached, tile)?;
+    }
+    Ok(stamps)
+}
+
+/// The columns of these names and types that the tiles have in the range.
+pub(crate) fn gathered_columns(
+    alloc: Global,
+    heads: &[(ColName, ColType)],
+    range: Range,
+    tiles: &[(Part, Frame)],
+) -> Result<Items<Column>, NoMemory>
+    requires { AllByRecursion (λ head. AllByRecursion (HasType head) tiles.now) heads.now }
+    ensures kinds { IfOk result (λ columns. map column_type columns ≡ map (λ (h : Head). h.1) heads.now) }
+    ensures cells { IfOk result (λ columns. map column_cells columns ≡ map (λ (h : Head). cells_gathered range h.0 0 tiles.now) heads.now) }
+{
+    let mut columns = Items::with_capacity(alloc, heads.len())?;
+    for head in heads {
+        columns.push(gathered_column(alloc, head, range, tiles)?)?;
+    }
+    Ok(columns)
+}
+
+/// The column of this name and type that the tiles have in the range, each row once.
+fn gathered_column(
+    alloc: Global,
+    head: &(ColName, ColType),
+    range: Range,
+    tiles: &[(Part, Frame)],
+) -> Result<Column, NoMemory>
+    requires { AllByRecursion (HasType head.now) tiles.now }
+    ensures kind { IfOk result (λ column. column_type column ≡ head.now.1) }
+    ensures cells { IfOk result (λ column. column_cells column ≡ cells_gathered range head.now.0 0 tiles.now) }
+{
+    let mut column = Column::empty(alloc, head.1);
+    let mut reached = 0;
+    for tile in tiles {
+        if let Some(place) = place_in(&head.0, tile.1.schema().columns()) {
+            add_cells(alloc, &mut column, range, reached, tile, place)?;
+            reached = reach_of(reached, tile)?;
+        }
+    }
+    Ok(column)
+}
+
+/// The place of a name among the columns, counted from 0.
+fn place_in(name: &ColName, columns: &[(ColName, ColType)]) -> Option<usize>
+    ensures { result ≡ place_of name.now columns.now }
+{
+    for place in 0..columns.len() {
+        if *name == columns[place].0 {
+            return Some(place);
+        }
+    }
+    None
+}
+
+/// Puts the cells of a tile's column behind these: of its rows in the range, those beyond what is reached.
+fn add_cells(
+    alloc: Global,
+    column: &mut Column,
+    range: Range,
+    reached: u64,
+    tile: &(Part, Frame),
+    place: usize,
+) -> Result<(), NoMemory>
+    requires { type_at tile.now.1 place ≡ Some (column_type column.old) }
+    ensures cells { OnOk result (column_cells column.new ≡ column_cells column.old ++ cells_of place (fresh range reached tile.now)) }
+    ensures kind { column_type column.new ≡ column_type column.old }
+{
+    let (from, to) = fresh_rows(range, reached, tile);
+    let more = tile.1.column(place as u64).part(alloc, from, to)?;
+    column.append(&more)
+}
+
+/// Where the rows of a tile in the range begin and end that lie beyond what is reached, counted from 0 in the tile.
+fn fresh_rows(range: Range, reached: u64, tile: &(Part, Frame)) -> (usize, usize)
+    ensures ordered { result.0 ≤ result.1 }
+    ensures within { result.1 ≤ length tile.now.1.rows }
+    ensures frame { IsFrame tile.now.1 }
+    ensures rows { slice_range tile.now.1.rows result.0 result.1 ≡ fresh range reached tile.now }
+{
+    // The schema tells the proof that the stamps never fall.
+    let _ = tile.1.schema();
+    let stamps = tile.1.stamps();
+    let seen = reached.saturating_sub(tile.0.first_row);
+    let skip = (seen as usize).min(stamps.len());
+    let from = skip + count_below(&stamps[skip..], range);
+    let to = skip + count_up_to(&stamps[skip..], range);
+    (from, to.max(from))
+}
+
+/// The row behind the last of the tile, unless a later one is reached. A frame that is so long is not in memory.
+fn reach_of(reached: u64, tile: &(Part, Frame)) -> Result<u64, NoMemory>
+    ensures { IfOk result (λ end. end ≡ reach reached tile.now) }
+{
+    match tile.0.first_row.checked_add(tile.1.rows()) {
+        Some(end) => Ok(reached.max(end)),
+        None => Err(NoMemory),
+    }
+}
+
+/// How many of these stamps lie below the range.
+fn count_below(stamps: &[i64], range: Range) -> usize
+    requires { NeverFall stamps.now }
+    ensures count { result ≡ count_by (is_below range) stamps.now }
+    ensures range { IsRange range }
+{
+    match range.from() {
+        Some(from) => stamps.partition_point(|stamp| *stamp < from),
+        None => 0,
+    }
+}
+
+/// How many of these stamps do not lie above the range.
+fn count_up_to(stamps: &[i64], range: Range) -> usize
+    requires { NeverFall stamps.now }
+    ensures { result ≡ count_by (λ t. not (is_above range t)) stamps.now }
+{
+    match range.to() {
+        Some(to) => stamps.partition_point(|stamp| *stamp <= to),
+        None => stamps.len(),
+    }
+}
