@@ -28,3 +28,4 @@ pub mod OwnPuts
 pub mod Untouched
 pub mod Numbering
 pub mod Writing
+pub mod Told

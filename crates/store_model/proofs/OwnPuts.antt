@@ -1,6 +1,6 @@
 -- A key that a client has just put is neither reached nor an entry, and it stays so while others add lawful events, and while the client puts
 -- and drops other keys.
-use Rattle.std.proofs.Common.{◌≡◌, ℕ, true, false, ◌||◌, List, [], ◌∷◌, ◌++◌, refl, ap, sym, ◌∙◌, subst, inl, inr, Option, Some, None, cond}
+use Rattle.std.proofs.Common.{◌≡◌, ℕ, true, false, List, [], ◌∷◌, ◌++◌, refl, ap, sym, ◌∙◌, subst, inl, inr, Option, Some, None, cond}
 use Rattle.std.specs.Prelude.{Contains, map, option_map, option_and_then, is_some}
 use Rattle.std.specs.List.{list_any}
 use Rattle.std.proofs.lemmas.Bool.{true≢false}
@@ -14,7 +14,7 @@ use Rattle.index_tree.specs.IndexText.{index_of}
 use Rattle.key_kind.specs.declared.key.KeyKind.{KeyKind}
 use Rattle.key_kind.specs.declared.key.KeyKind.TheVariants as kinds
 use Rattle.key_kind.specs.declared.key.Key.{Key}
-use Rattle.key_kind.specs.Keys.{is_put, same_key, same_kind}
+use Rattle.key_kind.specs.Keys.{is_put, same_key}
 use Rattle.key_kind.proofs.KeyTests.{same_key_is, same_key_self}
 use Rattle.bucket_core.specs.declared.event.Event.{Event}
 use Rattle.bucket_core.specs.declared.event.Event.TheVariants as events
@@ -26,7 +26,7 @@ use Rattle.store_model.specs.Links.{Linked, linked, links, links_at, reached, re
 use Rattle.store_model.specs.Commits.{MayRefer}
 use Rattle.store_model.specs.Law.{IsClaimed, IsLawful, IsDead, MayPut}
 use Rattle.store_model.specs.Intact.{IsIntact}
-use Rattle.store_model.specs.OwnPuts.{IsOwnPut, AreOwnPuts}
+use Rattle.store_model.specs.OwnPuts.{IsOwnPut, AreOwnPuts, IsTableKind}
 use Rattle.store_model.proofs.Lists.{contains_cases, contains_none, one_passes, all_weaker}
 use Rattle.store_model.proofs.Histories.{put_stays, stands_from}
 use Rattle.store_model.proofs.Putting.{put_is_new}
@@ -92,10 +92,6 @@ unput_is_no_entry h lawful key none = is_false _ (λ e.
     by : (o : Option Entry) → element h key ≡ o → is_some o ≡ true → ⊥
     by None is some = true≢false (sym some)
     by (Some x) is some = no_reading (λ body. read_of (entry_of body)) (body_put h key) x none is
-
--- a key of a kind that a client may drop again while nothing links it
-abbrev pub IsTableKind : KeyKind → Type 0
-IsTableKind kind = (same_kind kind kinds.TableData || same_kind kind kinds.TableIndex || same_kind kind kinds.Version) ≡ true
 
 -- what a client puts is its own put from then on
 pub put_is_own : (h : History) (client : ℕ) (key : Key) (body : Bytes) → IsLawful h → MayPut h client key body → IsTableKind key.kind → IsOwnPut (events.Put client key body ∷ h) client key body

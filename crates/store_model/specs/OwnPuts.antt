@@ -1,8 +1,9 @@
 -- What a client has put and nothing links yet.
 --     IsOwnPut, AreOwnPuts      a key of the client's own that stands with this body, and that no link reached and no Refer named; several
+--     IsTableKind         the kinds of such keys
 --     IsPutSlot, IsPutLink, IsPutEntry      a slot's tile, a link with its index and tiles, and an element that a client has put
 --     BuriesLive          the changes that bury beside a new version all that was live, or nothing
-use Rattle.std.specs.Prelude.{◌≡◌, ℕ, List, [], ◌∷◌, map, reverse, length, Some, Ok}
+use Rattle.std.specs.Prelude.{◌≡◌, ℕ, true, ◌||◌, List, [], ◌∷◌, map, reverse, length, Some, Ok}
 use Rattle.std.specs.List.{AllByRecursion}
 use Rattle.frame_core.specs.Frames.{Frame}
 use Rattle.segment_bytes.specs.Segments.{segment_of}
@@ -10,9 +11,11 @@ use Rattle.segment_cut.specs.Tiles.{cut, Tiled}
 use Rattle.index_tree.specs.declared.index.Slot.{Slot}
 use Rattle.index_tree.specs.declared.index.Index.{Index}
 use Rattle.index_tree.specs.IndexText.{index_of}
+use Rattle.key_kind.specs.declared.key.KeyKind.{KeyKind}
 use Rattle.key_kind.specs.declared.key.KeyKind.TheVariants as kinds
 use Rattle.key_kind.specs.declared.key.Key.{Key}
 use Rattle.key_kind.specs.Names.{Name}
+use Rattle.key_kind.specs.Keys.{same_kind}
 use Rattle.bucket_core.specs.declared.event.Change.{Change}
 use Rattle.bucket_core.specs.declared.event.Change.TheVariants as changes
 use Rattle.bucket_core.specs.History.{History, Bytes, stored, body_put}
@@ -28,6 +31,10 @@ pub record IsOwnPut (h : History) (client : ℕ) (key : Key) (body : Bytes) : Ty
   pub unlinked : IsOwnUnlinked h key client
   pub put : body_put h key ≡ Some body
   pub stands : stored h key ≡ Some body
+
+-- a key of a kind that a client may drop again while nothing links it
+abbrev pub IsTableKind : KeyKind → Type 0
+IsTableKind kind = (same_kind kind kinds.TableData || same_kind kind kinds.TableIndex || same_kind kind kinds.Version) ≡ true
 
 -- each of these keys is such a key, with its body
 abbrev pub AreOwnPuts : History → ℕ → List (Key × Bytes) → Type 0
