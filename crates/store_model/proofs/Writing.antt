@@ -25,11 +25,11 @@ use Rattle.store_model.specs.ChainText.{entry_of}
 use Rattle.store_model.specs.Library.{State, Version, Piece, state_of, live_versions, next_number, version_of}
 use Rattle.store_model.specs.Links.{Linked, linked, element, frame_put, index_put, tiles_put, with_tile, entries}
 use Rattle.store_model.specs.Commits.{MayRefer, FitsLink, FitsChange, MayNameKey, IsFresh, HasSlotStamps, IsCommit, making, Buries, no_tombs, some_tombs, no_pieces, BuriesAll, IsFilled, marks_of}
-use Rattle.store_model.specs.Law.{IsClaimed, IsLawful}
+use Rattle.store_model.specs.Law.{IsClaimed}
 use Rattle.store_model.specs.OwnPuts.{IsOwnPut, IsPutSlot, IsPutLink, IsPutEntry, BuriesLive, buries_none, buries_live, slots_of}
 use Rattle.store_model.proofs.Lists.{all_weaker}
 use Rattle.store_model.proofs.Numbering.{versions_numbered, live_may_be_buried}
-use Rattle.store_model.proofs.Untouched.{as_it_was, has_moved_on}
+use Rattle.store_model.proofs.Untouched.{as_it_was}
 use Rattle.store_model.proofs.StableRefer.{staging}
 
 -- what is read of a body that was put
@@ -130,14 +130,15 @@ buries_staging st more _ buries_none = buries_none
 buries_staging st more _ (buries_live some) = buries_live some
 
 -- the Refer was prepared at an earlier place: it may follow, or the reference has moved on
-pub wrote_may_be_tried : (before more : History) (client : ℕ) (symbol : Name) (frame : Frame) (at : ℤ) (entry : Key) (rest : List Change) (row : LinkRow) → IsLawful (more ++ before)
+pub wrote_may_be_tried : (before more : History) (client : ℕ) (symbol : Name) (frame : Frame) (at : ℤ) (entry : Key) (rest : List Change) (row : LinkRow)
+    → (list_any (refers symbol) more ≡ true → HasMovedOn (more ++ before) symbol (reference before symbol))
     → IsStorable frame → row.version ≡ next_number (state_of before symbol) → row.stamp ≡ at → row.rows ≡ length frame.rows → BuriesLive (state_of before symbol) rest
     → IsPutLink (more ++ before) client symbol frame row
     → IsPutEntry (more ++ before) client symbol entry (record { prev = reference before symbol; changes = marks_of row (changes.Wrote frame at ∷ rest) })
     → MayTryRefer IsClaimed (more ++ before) client symbol (reference before symbol) entry (changes.Wrote frame at ∷ rest)
-wrote_may_be_tried before more client symbol frame at entry rest row lawful storable number stamp rows buries p e =
+wrote_may_be_tried before more client symbol frame at entry rest row moved storable number stamp rows buries p e =
     elim (list_any (refers symbol) more) as (λ t. list_any (refers symbol) more ≡ t → MayTryRefer IsClaimed (more ++ before) client symbol (reference before symbol) entry (changes.Wrote frame at ∷ rest)) [
-      | true ↦ λ referred. inr (has_moved_on before more symbol lawful referred)
+      | true ↦ λ referred. inr (moved referred)
       | false ↦ λ unreferred.
           let same = as_it_was before more symbol unreferred in
           let next : row.version ≡ next_number (state_of (more ++ before) symbol) = number ∙ sym (ap next_number same.state_is) in

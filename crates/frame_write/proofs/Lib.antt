@@ -1,0 +1,5 @@
+pub mod TraceLemmas
+pub mod CallLemmas
+pub mod ListLemmas
+pub mod LoopLemmas
+pub mod SteadyLemmas

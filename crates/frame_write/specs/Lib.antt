@@ -1,0 +1,7 @@
+pub mod Traces
+pub mod Stops
+pub mod PutCalls
+pub mod Plans
+pub mod Loops
+pub mod Tries
+pub mod Writes
