@@ -3,3 +3,5 @@ pub mod CallLemmas
 pub mod ListLemmas
 pub mod LoopLemmas
 pub mod SteadyLemmas
+pub mod MeetLemmas
+pub mod AttemptLemmas

@@ -2,8 +2,8 @@
 use Rattle.std.proofs.Common.{◌≡◌, ℕ, suc, ◌+◌, ◌-◌, ◌≤◌, ◌<◌, Bool, true, false, ◌&&◌, not, List, [], ◌∷◌, ◌++◌, length, refl, ap, sym, ◌∙◌, subst, inl, inr, cond, nat_eq, arith, length-append}
 use Rattle.std.specs.Prelude.{◌⊎◌, filter, reverse, count_by}
 use Rattle.std.specs.List.{list_any, AllByRecursion}
-use Rattle.std.proofs.lemmas.Bool.{true≢false, eq-eqb, ne_eqb}
-use Rattle.std.proofs.lemmas.List.{reverse-append, reverse-reverse}
+use Rattle.std.proofs.lemmas.Bool.{true≢false, eq-eqb, ne_eqb, cases_lt}
+use Rattle.std.proofs.lemmas.List.{reverse-append, append_cancel_right}
 use Rattle.std.proofs.lemmas.List.Elements.{filter-append}
 use Rattle.std.proofs.lemmas.List.Sums.{sum_by-append}
 use Rattle.key_kind.specs.Names.{Name}
@@ -69,9 +69,51 @@ went_then client sole old mid new first second a b = record {
 
 -- the events may be named otherwise
 pub went_as : (client : ℕ) (sole : Bool) (old new : History) (own other : List Event) → own ≡ other → Went client sole old new own → Went client sole old new other
-went_as client sole old new own other is w = subst (Went client sole old new) is w
+went_as client sole old new own other is w = record { more = w.more; is = w.is; own_are = w.own_are ∙ is; alone = λ s. w.alone s ∙ ap reverse is; lawful = w.lawful }
 
 pub went_longer : (client : ℕ) (sole : Bool) (old new : History) (own : List Event) → Went client sole old new own → length old ≤ length new
 went_longer client sole old new own w =
     let is : length new ≡ length w.more + length old = ap length w.is ∙ length-append w.more old in
     omega (arith, is)
+
+-- what others did in front of an own event
+pub went_before : (client : ℕ) (sole : Bool) (old new : History) (e : Event) → (g : Adds IsClaimed client sole old new e) → Went client sole old (g.others ++ old) []
+went_before client sole old new e g = record {
+  more = g.others;
+  is = refl;
+  own_are = own_of-others client g.others g.by_others;
+  alone = g.alone;
+  lawful = λ l. (subst IsLawful g.is (g.lawful l)).1;
+}
+
+-- what was added is determined
+pub same_front : (xs ys zs : History) → xs ++ zs ≡ ys ++ zs → xs ≡ ys
+same_front xs ys zs e = append_cancel_right xs ys zs e
+
+-- the events that a history has more than an earlier one, where a look found an earlier beginning of it
+pub split_more : (later before others old : History) → later ++ before ≡ others ++ old → length old ≤ length before → (mid : History) × (before ≡ mid ++ old) × (others ≡ later ++ mid)
+split_more [] before others old e le = (others, e, refl)
+split_more (x ∷ later) before [] old e le =
+    let size : suc (length (later ++ before)) ≡ length old = ap length e in
+    absurd (omega (arith, size, length-append later before, le))
+split_more (x ∷ later) before (y ∷ others) old e le =
+    let r = split_more later before others old (tails e) le in (r.0, r.1, ap (λ z. z ∷ others) (sym (heads e)) ∙ ap (λ l. x ∷ l) r.2)
+  where
+    tails : x ∷ (later ++ before) ≡ y ∷ (others ++ old) → later ++ before ≡ others ++ old
+    tails e = cc
+
+    heads : x ∷ (later ++ before) ≡ y ∷ (others ++ old) → x ≡ y
+    heads e = cc
+
+pub others_first : (client : ℕ) (xs ys : History) → AllByOthers client (xs ++ ys) → AllByOthers client xs
+others_first client [] ys all = tt
+others_first client (x ∷ xs) ys all = (all.0, others_first client xs ys all.1)
+
+-- a place among what others added
+pub split_at : (client : ℕ) (others old : History) (place : ℕ) → AllByOthers client others → length old ≤ place → place ≤ length (others ++ old)
+    → (after : History) × (before : History) × (others ++ old ≡ after ++ before) × (place ≡ length before) × AllByOthers client after
+split_at client [] old place by low high = ([], old, refl, omega (arith, low, high), tt)
+split_at client (e ∷ others) old place by low high = elim (cases_lt (length (others ++ old)) place) [
+  | inl beyond ↦ ([], e ∷ (others ++ old), refl, omega (arith, beyond, high), tt)
+  | inr within ↦ let r = split_at client others old place by.1 low within in (e ∷ r.0, r.1, ap (λ h. e ∷ h) r.2, r.3, (by.0, r.4))
+]
