@@ -5,3 +5,4 @@ pub mod LoopLemmas
 pub mod SteadyLemmas
 pub mod MeetLemmas
 pub mod AttemptLemmas
+pub mod LegalLemmas

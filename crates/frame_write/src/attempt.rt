@@ -61,12 +61,13 @@ pub(crate) fn attempt<R: Wait, B: Bucket<StoreLaw>>(
     } = plan;
     put_all(rt, alloc, bucket, puts.items())?;
     let place = bucket.place();
-    match bucket.refer(rt, symbol, was.as_ref(), &entry, mark, changes) {
-        Ok(place) => Ok(Tried::Done(Committed { version, place })),
-        Err(StoreErr::Moved { now }) => {
-            drop_all(rt, bucket, puts.items())?;
-            Ok(Tried::Met(now))
-        }
-        Err(err) => Err(refused_by(place, err)),
-    }
+    let err = match bucket.refer(rt, symbol, was.as_ref(), &entry, mark, changes) {
+        Ok(place) => return Ok(Tried::Done(Committed { version, place })),
+        Err(err) => err,
+    };
+    let StoreErr::Moved { now } = err else {
+        return Err(refused_by(place, err));
+    };
+    drop_all(rt, bucket, puts.items())?;
+    Ok(Tried::Met(now))
 }

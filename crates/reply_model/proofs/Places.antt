@@ -132,7 +132,7 @@ listed_after client start (events.Drop c key ∷ h) n there = listed_after clien
 -- ---- own events
 
 -- a list and its reverse pass a test alike
-none_of_reversed : (p : Event → Bool) (xs : List Event) → list_any p (reverse xs) ≡ false → list_any p xs ≡ false
+pub none_of_reversed : (p : Event → Bool) (xs : List Event) → list_any p (reverse xs) ≡ false → list_any p xs ≡ false
 none_of_reversed p [] none = refl
 none_of_reversed p (x ∷ xs) none =
     let parts = or_parts (list_any p (reverse xs)) (list_any p (x ∷ []))
@@ -140,7 +140,7 @@ none_of_reversed p (x ∷ xs) none =
     or_from (p x) (list_any p xs) (or_parts (p x) false parts.1).0 (none_of_reversed p xs parts.0)
 
 -- what no own event passes no event of the client passes
-none_of_filtered : (keep p : Event → Bool) (xs : List Event) → list_any p (filter keep xs) ≡ false → list_any (λ e. keep e && p e) xs ≡ false
+pub none_of_filtered : (keep p : Event → Bool) (xs : List Event) → list_any p (filter keep xs) ≡ false → list_any (λ e. keep e && p e) xs ≡ false
 none_of_filtered keep p [] none = refl
 none_of_filtered keep p (x ∷ xs) none =
     elim (keep x) as (λ b. list_any p (cond b (x ∷ filter keep xs) (filter keep xs)) ≡ false → ((b && p x) || list_any (λ e. keep e && p e) xs) ≡ false) [

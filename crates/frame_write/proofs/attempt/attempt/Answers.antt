@@ -1,4 +1,4 @@
-use Rattle.std.proofs.Common.{true, inl, subst, sym, ◌∙◌, refl, Ok, Err}
+use Rattle.std.proofs.Common.{true, ap, inl, subst, sym, ◌∙◌, refl, Ok, Err}
 use Rattle.std.specs.Prelude.{map, option_copied}
 use Rattle.std.specs.Arc.{arc_value}
 use Rattle.bucket_core.specs.declared.answer.StoreErr.{StoreErr}
@@ -10,7 +10,8 @@ use Rattle.store_model.specs.OwnPuts.{AreOwnPuts}
 use Rattle.frame_write.specs.Traces.{Went}
 use Rattle.frame_write.specs.PutCalls.{PutAll, StoppedCalls}
 use Rattle.frame_write.specs.Plans.{IsPlan, puts_seen}
-use Rattle.frame_write.specs.Tries.{DidTry}
+use Rattle.frame_write.specs.Tries.{DidTry, DidFail}
+use Rattle.frame_write.specs.Stops.{refused_by}
 use Rattle.frame_write.proofs.SteadyLemmas.{on_err, steady_then, grown_steady, change_steady, puts_steady, stops_steady, went_steady}
 use Rattle.frame_write.proofs.AttemptLemmas.{walk_stops, plan_stops, puts_stop, refer_may, commit_stands, refer_fails, still_own, try_met, drops_stop}
 use Rattle.frame_write.proofs.attempt.attempt.Goals as goal
@@ -61,44 +62,60 @@ drop_all-requires-clause-own g c =
     let p = subst (λ n. IsPlan n c.serial.result seen.before c.args.symbol.now c.args.frame.now c.args.options.now.at c.args.options.now.prune c.in-Ok.plan) (c.client.ensures ∙ c.walk.ensures.steady.same_number) (c.in-Ok.ensures seen.before seen.is) in
     let puts = puts_steady g.B.Bucket.number g.B.Bucket.limit g.B.Bucket.faults g.B.Bucket.sole c.args.bucket.now c.walk.new.bucket c.walk.ensures.steady (g.B.Bucket.seen c.walk.new.bucket) (g.B.Bucket.seen c.put_all.new.bucket) (puts_seen c.in-Ok.plan.puts)
     (subst (λ ps. PutAll (g.B.Bucket.number c.walk.new.bucket) (g.B.Bucket.sole c.walk.new.bucket) (g.B.Bucket.seen c.walk.new.bucket) (g.B.Bucket.seen c.put_all.new.bucket) (puts_seen ps)) c.items.ensures c.in_ok-put_all.ensures.did) in
-    let did = (change_steady g.B.Bucket.number g.B.Bucket.limit g.B.Bucket.faults g.B.Bucket.sole c.args.bucket.now c.put_all.new.bucket (steady_then g.B.Bucket.number g.B.Bucket.limit g.B.Bucket.faults g.B.Bucket.sole c.args.bucket.now c.walk.new.bucket c.walk.ensures.steady c.put_all.new.bucket c.put_all.ensures.steady) (g.B.Bucket.faults c.refer.new.self) (g.B.Bucket.seen c.put_all.new.bucket) (g.B.Bucket.seen c.refer.new.self) (λ n. refer_event n c.args.symbol.now c.in-Ok.plan.was c.in-Ok.plan.entry (arc_value c.in-Ok.plan.changes)) (λ l. RefusesRefer l c.args.symbol.now c.in-Ok.plan.was) (Err c.in-Err-Moved.field-0)
+    let did = (change_steady g.B.Bucket.number g.B.Bucket.limit g.B.Bucket.faults g.B.Bucket.sole c.args.bucket.now c.put_all.new.bucket (steady_then g.B.Bucket.number g.B.Bucket.limit g.B.Bucket.faults g.B.Bucket.sole c.args.bucket.now c.walk.new.bucket c.walk.ensures.steady c.put_all.new.bucket c.put_all.ensures.steady) (g.B.Bucket.faults c.refer.new.self) (g.B.Bucket.seen c.put_all.new.bucket) (g.B.Bucket.seen c.refer.new.self) (λ n. refer_event n c.args.symbol.now c.in-Ok.plan.was c.in-Ok.plan.entry (arc_value c.in-Ok.plan.changes)) (λ l. RefusesRefer l c.args.symbol.now c.in-Ok.plan.was) (Err c.in-Err.err)
     (subst (λ w. DidChange IsClaimed (g.B.Bucket.number c.put_all.new.bucket) (g.B.Bucket.sole c.put_all.new.bucket) (g.B.Bucket.limit c.put_all.new.bucket) (g.B.Bucket.faults c.put_all.new.bucket) (g.B.Bucket.faults c.refer.new.self) (g.B.Bucket.seen c.put_all.new.bucket) (g.B.Bucket.seen c.refer.new.self)
-    (refer_event (g.B.Bucket.number c.put_all.new.bucket) c.args.symbol.now w c.in-Ok.plan.entry (arc_value c.in-Ok.plan.changes)) (RefusesRefer (g.B.Bucket.limit c.put_all.new.bucket) c.args.symbol.now w) (Err c.in-Err-Moved.field-0)) c.as_ref.ensures.value c.in-Err-Moved.ensures.did)) in
-    let moved = subst (λ (e : StoreErr). DidChange IsClaimed (g.B.Bucket.number c.args.bucket.now) (g.B.Bucket.sole c.args.bucket.now) (g.B.Bucket.limit c.args.bucket.now) (g.B.Bucket.faults c.args.bucket.now) (g.B.Bucket.faults c.refer.new.self) (g.B.Bucket.seen c.put_all.new.bucket) (g.B.Bucket.seen c.refer.new.self) (refer_event (g.B.Bucket.number c.args.bucket.now) c.args.symbol.now c.in-Ok.plan.was c.in-Ok.plan.entry (arc_value c.in-Ok.plan.changes)) (RefusesRefer (g.B.Bucket.limit c.args.bucket.now) c.args.symbol.now c.in-Ok.plan.was) (Err e)) c.in-Err-Moved.field-0-is did in
+    (refer_event (g.B.Bucket.number c.put_all.new.bucket) c.args.symbol.now w c.in-Ok.plan.entry (arc_value c.in-Ok.plan.changes)) (RefusesRefer (g.B.Bucket.limit c.put_all.new.bucket) c.args.symbol.now w) (Err c.in-Err.err)) c.as_ref.ensures.value c.in-Err.ensures.did)) in
+    let moved = subst (λ (e : StoreErr). DidChange IsClaimed (g.B.Bucket.number c.args.bucket.now) (g.B.Bucket.sole c.args.bucket.now) (g.B.Bucket.limit c.args.bucket.now) (g.B.Bucket.faults c.args.bucket.now) (g.B.Bucket.faults c.refer.new.self) (g.B.Bucket.seen c.put_all.new.bucket) (g.B.Bucket.seen c.refer.new.self) (refer_event (g.B.Bucket.number c.args.bucket.now) c.args.symbol.now c.in-Ok.plan.was c.in-Ok.plan.entry (arc_value c.in-Ok.plan.changes)) (RefusesRefer (g.B.Bucket.limit c.args.bucket.now) c.args.symbol.now c.in-Ok.plan.was) (Err e)) c.in-Moved.is did in
     let st3 = steady_then g.B.Bucket.number g.B.Bucket.limit g.B.Bucket.faults g.B.Bucket.sole c.args.bucket.now c.put_all.new.bucket (steady_then g.B.Bucket.number g.B.Bucket.limit g.B.Bucket.faults g.B.Bucket.sole c.args.bucket.now c.walk.new.bucket c.walk.ensures.steady c.put_all.new.bucket c.put_all.ensures.steady) c.refer.new.self c.refer.ensures.steady in
-    subst (λ ps. AreOwnPuts (g.B.Bucket.seen c.refer.new.self) (g.B.Bucket.number c.refer.new.self) (puts_seen ps)) (sym c.items-in-Err-Moved.ensures)
+    subst (λ ps. AreOwnPuts (g.B.Bucket.seen c.refer.new.self) (g.B.Bucket.number c.refer.new.self) (puts_seen ps)) (sym c.items-2.ensures)
     (subst (λ n. AreOwnPuts (g.B.Bucket.seen c.refer.new.self) n (puts_seen c.in-Ok.plan.puts)) (sym st3.same_number)
-    (still_own (g.B.Bucket.number c.args.bucket.now) (g.B.Bucket.sole c.args.bucket.now) c.args.symbol.now c.args.frame.now c.args.options.now.at c.args.options.now.prune (g.B.Bucket.limit c.args.bucket.now) (g.B.Bucket.faults c.args.bucket.now) (g.B.Bucket.seen c.args.bucket.now) (g.B.Bucket.seen c.walk.new.bucket) (g.B.Bucket.seen c.put_all.new.bucket) c.in_ok-state.state c.serial.result c.in-Ok.plan c.walk.ensures.looks seen c.in_ok-state.ensures.place p puts (g.B.Bucket.seen c.refer.new.self) moved.0 c.in-Err-Moved.now moved.1 (g.met.B.Bucket.lawful c.refer.new.self)))
+    (still_own (g.B.Bucket.number c.args.bucket.now) (g.B.Bucket.sole c.args.bucket.now) c.args.symbol.now c.args.frame.now c.args.options.now.at c.args.options.now.prune (g.B.Bucket.limit c.args.bucket.now) (g.B.Bucket.faults c.args.bucket.now) (g.B.Bucket.seen c.args.bucket.now) (g.B.Bucket.seen c.walk.new.bucket) (g.B.Bucket.seen c.put_all.new.bucket) c.in_ok-state.state c.serial.result c.in-Ok.plan c.walk.ensures.looks seen c.in_ok-state.ensures.place p puts (g.B.Bucket.seen c.refer.new.self) moved.0 c.in-Moved.now moved.1 (g.met.B.Bucket.lawful c.refer.new.self)))
 
-pub returns-in_err-drop_all-in-Err-Moved-clause-did : goal.returns-in_err-drop_all-in-Err-Moved-clause-did
-returns-in_err-drop_all-in-Err-Moved-clause-did g c =
+pub returns-in_err-drop_all-clause-did : goal.returns-in_err-drop_all-clause-did
+returns-in_err-drop_all-clause-did g c =
     let seen = c.in_ok-state.ensures.state in
     let p = subst (λ n. IsPlan n c.serial.result seen.before c.args.symbol.now c.args.frame.now c.args.options.now.at c.args.options.now.prune c.in-Ok.plan) (c.client.ensures ∙ c.walk.ensures.steady.same_number) (c.in-Ok.ensures seen.before seen.is) in
     let puts = puts_steady g.B.Bucket.number g.B.Bucket.limit g.B.Bucket.faults g.B.Bucket.sole c.args.bucket.now c.walk.new.bucket c.walk.ensures.steady (g.B.Bucket.seen c.walk.new.bucket) (g.B.Bucket.seen c.put_all.new.bucket) (puts_seen c.in-Ok.plan.puts)
     (subst (λ ps. PutAll (g.B.Bucket.number c.walk.new.bucket) (g.B.Bucket.sole c.walk.new.bucket) (g.B.Bucket.seen c.walk.new.bucket) (g.B.Bucket.seen c.put_all.new.bucket) (puts_seen ps)) c.items.ensures c.in_ok-put_all.ensures.did) in
-    let did = (change_steady g.B.Bucket.number g.B.Bucket.limit g.B.Bucket.faults g.B.Bucket.sole c.args.bucket.now c.put_all.new.bucket (steady_then g.B.Bucket.number g.B.Bucket.limit g.B.Bucket.faults g.B.Bucket.sole c.args.bucket.now c.walk.new.bucket c.walk.ensures.steady c.put_all.new.bucket c.put_all.ensures.steady) (g.B.Bucket.faults c.refer.new.self) (g.B.Bucket.seen c.put_all.new.bucket) (g.B.Bucket.seen c.refer.new.self) (λ n. refer_event n c.args.symbol.now c.in-Ok.plan.was c.in-Ok.plan.entry (arc_value c.in-Ok.plan.changes)) (λ l. RefusesRefer l c.args.symbol.now c.in-Ok.plan.was) (Err c.in-Err-Moved.field-0)
+    let did = (change_steady g.B.Bucket.number g.B.Bucket.limit g.B.Bucket.faults g.B.Bucket.sole c.args.bucket.now c.put_all.new.bucket (steady_then g.B.Bucket.number g.B.Bucket.limit g.B.Bucket.faults g.B.Bucket.sole c.args.bucket.now c.walk.new.bucket c.walk.ensures.steady c.put_all.new.bucket c.put_all.ensures.steady) (g.B.Bucket.faults c.refer.new.self) (g.B.Bucket.seen c.put_all.new.bucket) (g.B.Bucket.seen c.refer.new.self) (λ n. refer_event n c.args.symbol.now c.in-Ok.plan.was c.in-Ok.plan.entry (arc_value c.in-Ok.plan.changes)) (λ l. RefusesRefer l c.args.symbol.now c.in-Ok.plan.was) (Err c.in-Err.err)
     (subst (λ w. DidChange IsClaimed (g.B.Bucket.number c.put_all.new.bucket) (g.B.Bucket.sole c.put_all.new.bucket) (g.B.Bucket.limit c.put_all.new.bucket) (g.B.Bucket.faults c.put_all.new.bucket) (g.B.Bucket.faults c.refer.new.self) (g.B.Bucket.seen c.put_all.new.bucket) (g.B.Bucket.seen c.refer.new.self)
-    (refer_event (g.B.Bucket.number c.put_all.new.bucket) c.args.symbol.now w c.in-Ok.plan.entry (arc_value c.in-Ok.plan.changes)) (RefusesRefer (g.B.Bucket.limit c.put_all.new.bucket) c.args.symbol.now w) (Err c.in-Err-Moved.field-0)) c.as_ref.ensures.value c.in-Err-Moved.ensures.did)) in
-    let moved = subst (λ (e : StoreErr). DidChange IsClaimed (g.B.Bucket.number c.args.bucket.now) (g.B.Bucket.sole c.args.bucket.now) (g.B.Bucket.limit c.args.bucket.now) (g.B.Bucket.faults c.args.bucket.now) (g.B.Bucket.faults c.refer.new.self) (g.B.Bucket.seen c.put_all.new.bucket) (g.B.Bucket.seen c.refer.new.self) (refer_event (g.B.Bucket.number c.args.bucket.now) c.args.symbol.now c.in-Ok.plan.was c.in-Ok.plan.entry (arc_value c.in-Ok.plan.changes)) (RefusesRefer (g.B.Bucket.limit c.args.bucket.now) c.args.symbol.now c.in-Ok.plan.was) (Err e)) c.in-Err-Moved.field-0-is did in
+    (refer_event (g.B.Bucket.number c.put_all.new.bucket) c.args.symbol.now w c.in-Ok.plan.entry (arc_value c.in-Ok.plan.changes)) (RefusesRefer (g.B.Bucket.limit c.put_all.new.bucket) c.args.symbol.now w) (Err c.in-Err.err)) c.as_ref.ensures.value c.in-Err.ensures.did)) in
+    let moved = subst (λ (e : StoreErr). DidChange IsClaimed (g.B.Bucket.number c.args.bucket.now) (g.B.Bucket.sole c.args.bucket.now) (g.B.Bucket.limit c.args.bucket.now) (g.B.Bucket.faults c.args.bucket.now) (g.B.Bucket.faults c.refer.new.self) (g.B.Bucket.seen c.put_all.new.bucket) (g.B.Bucket.seen c.refer.new.self) (refer_event (g.B.Bucket.number c.args.bucket.now) c.args.symbol.now c.in-Ok.plan.was c.in-Ok.plan.entry (arc_value c.in-Ok.plan.changes)) (RefusesRefer (g.B.Bucket.limit c.args.bucket.now) c.args.symbol.now c.in-Ok.plan.was) (Err e)) c.in-Moved.is did in
     let st3 = steady_then g.B.Bucket.number g.B.Bucket.limit g.B.Bucket.faults g.B.Bucket.sole c.args.bucket.now c.put_all.new.bucket (steady_then g.B.Bucket.number g.B.Bucket.limit g.B.Bucket.faults g.B.Bucket.sole c.args.bucket.now c.walk.new.bucket c.walk.ensures.steady c.put_all.new.bucket c.put_all.ensures.steady) c.refer.new.self c.refer.ensures.steady in
     on_err (DidTry (g.B.Bucket.number c.args.bucket.now) (g.B.Bucket.sole c.args.bucket.now) c.args.symbol.now c.args.frame.now c.args.options.now.at c.args.options.now.prune (g.B.Bucket.limit c.args.bucket.now) (g.B.Bucket.faults c.args.bucket.now) (g.B.Bucket.faults c.drop_all.new.bucket) (g.B.Bucket.seen c.args.bucket.now) (g.B.Bucket.seen c.drop_all.new.bucket))
-    c.from_residual-in_err-drop_all-in-Err-Moved.result c.in_err-drop_all-in-Err-Moved.field-0.0 c.from_residual-in_err-drop_all-in-Err-Moved.ensures.0 c.from_residual-in_err-drop_all-in-Err-Moved.ensures.1
-    (inl (drops_stop (g.B.Bucket.number c.args.bucket.now) (g.B.Bucket.sole c.args.bucket.now) c.args.symbol.now c.args.frame.now c.args.options.now.at c.args.options.now.prune (g.B.Bucket.limit c.args.bucket.now) (g.B.Bucket.faults c.args.bucket.now) (g.B.Bucket.seen c.args.bucket.now) (g.B.Bucket.seen c.walk.new.bucket) (g.B.Bucket.seen c.put_all.new.bucket) c.in_ok-state.state c.serial.result c.in-Ok.plan c.walk.ensures.looks seen c.in_ok-state.ensures.place p puts (g.B.Bucket.seen c.refer.new.self) moved.0 c.in-Err-Moved.now moved.1 (g.B.Bucket.faults c.drop_all.new.bucket) (g.B.Bucket.seen c.drop_all.new.bucket) c.in_err-drop_all-in-Err-Moved.field-0.0
-    (stops_steady g.B.Bucket.number g.B.Bucket.limit g.B.Bucket.faults g.B.Bucket.sole c.args.bucket.now c.refer.new.self st3 (g.B.Bucket.faults c.drop_all.new.bucket) (g.B.Bucket.seen c.refer.new.self) (g.B.Bucket.seen c.drop_all.new.bucket) (λ n. map (drop_of n) (puts_seen c.in-Ok.plan.puts)) c.in_err-drop_all-in-Err-Moved.field-0.0
+    c.from_residual-in_err-drop_all.result c.in_err-drop_all.field-0.0 c.from_residual-in_err-drop_all.ensures.0 c.from_residual-in_err-drop_all.ensures.1
+    (inl (drops_stop (g.B.Bucket.number c.args.bucket.now) (g.B.Bucket.sole c.args.bucket.now) c.args.symbol.now c.args.frame.now c.args.options.now.at c.args.options.now.prune (g.B.Bucket.limit c.args.bucket.now) (g.B.Bucket.faults c.args.bucket.now) (g.B.Bucket.seen c.args.bucket.now) (g.B.Bucket.seen c.walk.new.bucket) (g.B.Bucket.seen c.put_all.new.bucket) c.in_ok-state.state c.serial.result c.in-Ok.plan c.walk.ensures.looks seen c.in_ok-state.ensures.place p puts (g.B.Bucket.seen c.refer.new.self) moved.0 c.in-Moved.now moved.1 (g.B.Bucket.faults c.drop_all.new.bucket) (g.B.Bucket.seen c.drop_all.new.bucket) c.in_err-drop_all.field-0.0
+    (stops_steady g.B.Bucket.number g.B.Bucket.limit g.B.Bucket.faults g.B.Bucket.sole c.args.bucket.now c.refer.new.self st3 (g.B.Bucket.faults c.drop_all.new.bucket) (g.B.Bucket.seen c.refer.new.self) (g.B.Bucket.seen c.drop_all.new.bucket) (λ n. map (drop_of n) (puts_seen c.in-Ok.plan.puts)) c.in_err-drop_all.field-0.0
     (subst (λ ps. StoppedCalls (g.B.Bucket.number c.refer.new.self) (g.B.Bucket.sole c.refer.new.self) (g.B.Bucket.limit c.refer.new.self) (g.B.Bucket.faults c.refer.new.self) (g.B.Bucket.faults c.drop_all.new.bucket) (g.B.Bucket.seen c.refer.new.self) (g.B.Bucket.seen c.drop_all.new.bucket)
-    (map (drop_of (g.B.Bucket.number c.refer.new.self)) (puts_seen ps)) c.in_err-drop_all-in-Err-Moved.field-0.0) c.items-in-Err-Moved.ensures c.in_err-drop_all-in-Err-Moved.ensures.did))))
+    (map (drop_of (g.B.Bucket.number c.refer.new.self)) (puts_seen ps)) c.in_err-drop_all.field-0.0) c.items-2.ensures c.in_err-drop_all.ensures.did))))
 
-pub returns-in-Err-Moved-clause-did : goal.returns-in-Err-Moved-clause-did
-returns-in-Err-Moved-clause-did g c =
+pub returns-clause-did : goal.returns-clause-did
+returns-clause-did g c =
     let seen = c.in_ok-state.ensures.state in
     let p = subst (λ n. IsPlan n c.serial.result seen.before c.args.symbol.now c.args.frame.now c.args.options.now.at c.args.options.now.prune c.in-Ok.plan) (c.client.ensures ∙ c.walk.ensures.steady.same_number) (c.in-Ok.ensures seen.before seen.is) in
     let puts = puts_steady g.B.Bucket.number g.B.Bucket.limit g.B.Bucket.faults g.B.Bucket.sole c.args.bucket.now c.walk.new.bucket c.walk.ensures.steady (g.B.Bucket.seen c.walk.new.bucket) (g.B.Bucket.seen c.put_all.new.bucket) (puts_seen c.in-Ok.plan.puts)
     (subst (λ ps. PutAll (g.B.Bucket.number c.walk.new.bucket) (g.B.Bucket.sole c.walk.new.bucket) (g.B.Bucket.seen c.walk.new.bucket) (g.B.Bucket.seen c.put_all.new.bucket) (puts_seen ps)) c.items.ensures c.in_ok-put_all.ensures.did) in
-    let did = (change_steady g.B.Bucket.number g.B.Bucket.limit g.B.Bucket.faults g.B.Bucket.sole c.args.bucket.now c.put_all.new.bucket (steady_then g.B.Bucket.number g.B.Bucket.limit g.B.Bucket.faults g.B.Bucket.sole c.args.bucket.now c.walk.new.bucket c.walk.ensures.steady c.put_all.new.bucket c.put_all.ensures.steady) (g.B.Bucket.faults c.refer.new.self) (g.B.Bucket.seen c.put_all.new.bucket) (g.B.Bucket.seen c.refer.new.self) (λ n. refer_event n c.args.symbol.now c.in-Ok.plan.was c.in-Ok.plan.entry (arc_value c.in-Ok.plan.changes)) (λ l. RefusesRefer l c.args.symbol.now c.in-Ok.plan.was) (Err c.in-Err-Moved.field-0)
+    let did = (change_steady g.B.Bucket.number g.B.Bucket.limit g.B.Bucket.faults g.B.Bucket.sole c.args.bucket.now c.put_all.new.bucket (steady_then g.B.Bucket.number g.B.Bucket.limit g.B.Bucket.faults g.B.Bucket.sole c.args.bucket.now c.walk.new.bucket c.walk.ensures.steady c.put_all.new.bucket c.put_all.ensures.steady) (g.B.Bucket.faults c.refer.new.self) (g.B.Bucket.seen c.put_all.new.bucket) (g.B.Bucket.seen c.refer.new.self) (λ n. refer_event n c.args.symbol.now c.in-Ok.plan.was c.in-Ok.plan.entry (arc_value c.in-Ok.plan.changes)) (λ l. RefusesRefer l c.args.symbol.now c.in-Ok.plan.was) (Err c.in-Err.err)
     (subst (λ w. DidChange IsClaimed (g.B.Bucket.number c.put_all.new.bucket) (g.B.Bucket.sole c.put_all.new.bucket) (g.B.Bucket.limit c.put_all.new.bucket) (g.B.Bucket.faults c.put_all.new.bucket) (g.B.Bucket.faults c.refer.new.self) (g.B.Bucket.seen c.put_all.new.bucket) (g.B.Bucket.seen c.refer.new.self)
-    (refer_event (g.B.Bucket.number c.put_all.new.bucket) c.args.symbol.now w c.in-Ok.plan.entry (arc_value c.in-Ok.plan.changes)) (RefusesRefer (g.B.Bucket.limit c.put_all.new.bucket) c.args.symbol.now w) (Err c.in-Err-Moved.field-0)) c.as_ref.ensures.value c.in-Err-Moved.ensures.did)) in
-    let moved = subst (λ (e : StoreErr). DidChange IsClaimed (g.B.Bucket.number c.args.bucket.now) (g.B.Bucket.sole c.args.bucket.now) (g.B.Bucket.limit c.args.bucket.now) (g.B.Bucket.faults c.args.bucket.now) (g.B.Bucket.faults c.refer.new.self) (g.B.Bucket.seen c.put_all.new.bucket) (g.B.Bucket.seen c.refer.new.self) (refer_event (g.B.Bucket.number c.args.bucket.now) c.args.symbol.now c.in-Ok.plan.was c.in-Ok.plan.entry (arc_value c.in-Ok.plan.changes)) (RefusesRefer (g.B.Bucket.limit c.args.bucket.now) c.args.symbol.now c.in-Ok.plan.was) (Err e)) c.in-Err-Moved.field-0-is did in
+    (refer_event (g.B.Bucket.number c.put_all.new.bucket) c.args.symbol.now w c.in-Ok.plan.entry (arc_value c.in-Ok.plan.changes)) (RefusesRefer (g.B.Bucket.limit c.put_all.new.bucket) c.args.symbol.now w) (Err c.in-Err.err)) c.as_ref.ensures.value c.in-Err.ensures.did)) in
+    let moved = subst (λ (e : StoreErr). DidChange IsClaimed (g.B.Bucket.number c.args.bucket.now) (g.B.Bucket.sole c.args.bucket.now) (g.B.Bucket.limit c.args.bucket.now) (g.B.Bucket.faults c.args.bucket.now) (g.B.Bucket.faults c.refer.new.self) (g.B.Bucket.seen c.put_all.new.bucket) (g.B.Bucket.seen c.refer.new.self) (refer_event (g.B.Bucket.number c.args.bucket.now) c.args.symbol.now c.in-Ok.plan.was c.in-Ok.plan.entry (arc_value c.in-Ok.plan.changes)) (RefusesRefer (g.B.Bucket.limit c.args.bucket.now) c.args.symbol.now c.in-Ok.plan.was) (Err e)) c.in-Moved.is did in
     let st3 = steady_then g.B.Bucket.number g.B.Bucket.limit g.B.Bucket.faults g.B.Bucket.sole c.args.bucket.now c.put_all.new.bucket (steady_then g.B.Bucket.number g.B.Bucket.limit g.B.Bucket.faults g.B.Bucket.sole c.args.bucket.now c.walk.new.bucket c.walk.ensures.steady c.put_all.new.bucket c.put_all.ensures.steady) c.refer.new.self c.refer.ensures.steady in
-    try_met (g.B.Bucket.number c.args.bucket.now) (g.B.Bucket.sole c.args.bucket.now) c.args.symbol.now c.args.frame.now c.args.options.now.at c.args.options.now.prune (g.B.Bucket.limit c.args.bucket.now) (g.B.Bucket.faults c.args.bucket.now) (g.B.Bucket.seen c.args.bucket.now) (g.B.Bucket.seen c.walk.new.bucket) (g.B.Bucket.seen c.put_all.new.bucket) c.in_ok-state.state c.serial.result c.in-Ok.plan c.walk.ensures.looks seen c.in_ok-state.ensures.place p puts (g.B.Bucket.seen c.refer.new.self) moved.0 c.in-Err-Moved.now moved.1 (g.B.Bucket.seen c.drop_all.new.bucket)
+    try_met (g.B.Bucket.number c.args.bucket.now) (g.B.Bucket.sole c.args.bucket.now) c.args.symbol.now c.args.frame.now c.args.options.now.at c.args.options.now.prune (g.B.Bucket.limit c.args.bucket.now) (g.B.Bucket.faults c.args.bucket.now) (g.B.Bucket.seen c.args.bucket.now) (g.B.Bucket.seen c.walk.new.bucket) (g.B.Bucket.seen c.put_all.new.bucket) c.in_ok-state.state c.serial.result c.in-Ok.plan c.walk.ensures.looks seen c.in_ok-state.ensures.place p puts (g.B.Bucket.seen c.refer.new.self) moved.0 c.in-Moved.now moved.1 (g.B.Bucket.seen c.drop_all.new.bucket)
     (went_steady g.B.Bucket.number g.B.Bucket.limit g.B.Bucket.faults g.B.Bucket.sole c.args.bucket.now c.refer.new.self st3 (g.B.Bucket.seen c.refer.new.self) (g.B.Bucket.seen c.drop_all.new.bucket) (λ n. map (drop_of n) (puts_seen c.in-Ok.plan.puts))
-    (subst (λ ps. Went (g.B.Bucket.number c.refer.new.self) (g.B.Bucket.sole c.refer.new.self) (g.B.Bucket.seen c.refer.new.self) (g.B.Bucket.seen c.drop_all.new.bucket) (map (drop_of (g.B.Bucket.number c.refer.new.self)) (puts_seen ps))) c.items-in-Err-Moved.ensures c.in_ok-drop_all-in-Err-Moved.ensures.did))
+    (subst (λ ps. Went (g.B.Bucket.number c.refer.new.self) (g.B.Bucket.sole c.refer.new.self) (g.B.Bucket.seen c.refer.new.self) (g.B.Bucket.seen c.drop_all.new.bucket) (map (drop_of (g.B.Bucket.number c.refer.new.self)) (puts_seen ps))) c.items-2.ensures c.in_ok-drop_all.ensures.did))
+
+pub returns-in_default-err : goal.returns-in_default-err
+returns-in_default-err g c =
+    let seen = c.in_ok-state.ensures.state in
+    let p = subst (λ n. IsPlan n c.serial.result seen.before c.args.symbol.now c.args.frame.now c.args.options.now.at c.args.options.now.prune c.in-Ok.plan) (c.client.ensures ∙ c.walk.ensures.steady.same_number) (c.in-Ok.ensures seen.before seen.is) in
+    let puts = puts_steady g.B.Bucket.number g.B.Bucket.limit g.B.Bucket.faults g.B.Bucket.sole c.args.bucket.now c.walk.new.bucket c.walk.ensures.steady (g.B.Bucket.seen c.walk.new.bucket) (g.B.Bucket.seen c.put_all.new.bucket) (puts_seen c.in-Ok.plan.puts)
+    (subst (λ ps. PutAll (g.B.Bucket.number c.walk.new.bucket) (g.B.Bucket.sole c.walk.new.bucket) (g.B.Bucket.seen c.walk.new.bucket) (g.B.Bucket.seen c.put_all.new.bucket) (puts_seen ps)) c.items.ensures c.in_ok-put_all.ensures.did) in
+    let did = (change_steady g.B.Bucket.number g.B.Bucket.limit g.B.Bucket.faults g.B.Bucket.sole c.args.bucket.now c.put_all.new.bucket (steady_then g.B.Bucket.number g.B.Bucket.limit g.B.Bucket.faults g.B.Bucket.sole c.args.bucket.now c.walk.new.bucket c.walk.ensures.steady c.put_all.new.bucket c.put_all.ensures.steady) (g.B.Bucket.faults c.refer.new.self) (g.B.Bucket.seen c.put_all.new.bucket) (g.B.Bucket.seen c.refer.new.self) (λ n. refer_event n c.args.symbol.now c.in-Ok.plan.was c.in-Ok.plan.entry (arc_value c.in-Ok.plan.changes)) (λ l. RefusesRefer l c.args.symbol.now c.in-Ok.plan.was) (Err c.in-Err.err)
+    (subst (λ w. DidChange IsClaimed (g.B.Bucket.number c.put_all.new.bucket) (g.B.Bucket.sole c.put_all.new.bucket) (g.B.Bucket.limit c.put_all.new.bucket) (g.B.Bucket.faults c.put_all.new.bucket) (g.B.Bucket.faults c.refer.new.self) (g.B.Bucket.seen c.put_all.new.bucket) (g.B.Bucket.seen c.refer.new.self)
+    (refer_event (g.B.Bucket.number c.put_all.new.bucket) c.args.symbol.now w c.in-Ok.plan.entry (arc_value c.in-Ok.plan.changes)) (RefusesRefer (g.B.Bucket.limit c.put_all.new.bucket) c.args.symbol.now w) (Err c.in-Err.err)) c.as_ref.ensures.value c.in-Err.ensures.did)) in
+    let st3 = steady_then g.B.Bucket.number g.B.Bucket.limit g.B.Bucket.faults g.B.Bucket.sole c.args.bucket.now c.put_all.new.bucket (steady_then g.B.Bucket.number g.B.Bucket.limit g.B.Bucket.faults g.B.Bucket.sole c.args.bucket.now c.walk.new.bucket c.walk.ensures.steady c.put_all.new.bucket c.put_all.ensures.steady) c.refer.new.self c.refer.ensures.steady in
+    record {
+      steady = st3;
+      did = subst (DidFail (g.B.Bucket.number c.args.bucket.now) (g.B.Bucket.sole c.args.bucket.now) c.args.symbol.now c.args.frame.now c.args.options.now.at c.args.options.now.prune (g.B.Bucket.limit c.args.bucket.now) (g.B.Bucket.faults c.args.bucket.now) (g.B.Bucket.faults c.refer.new.self) (g.B.Bucket.seen c.args.bucket.now) (g.B.Bucket.seen c.refer.new.self)) (sym (c.refused_by.ensures ∙ ap (λ n. refused_by n c.in-Err.err) c.place-place-2.ensures))
+          (refer_fails (g.B.Bucket.number c.args.bucket.now) (g.B.Bucket.sole c.args.bucket.now) c.args.symbol.now c.args.frame.now c.args.options.now.at c.args.options.now.prune (g.B.Bucket.limit c.args.bucket.now) (g.B.Bucket.faults c.args.bucket.now) (g.B.Bucket.seen c.args.bucket.now) (g.B.Bucket.seen c.walk.new.bucket) (g.B.Bucket.seen c.put_all.new.bucket) c.in_ok-state.state c.serial.result c.in-Ok.plan c.walk.ensures.looks seen c.in_ok-state.ensures.place p puts (g.B.Bucket.faults c.refer.new.self) (g.B.Bucket.seen c.refer.new.self) c.in-Err.err c.in_default-err.not-Moved (g.met.B.Bucket.lawful c.refer.new.self) did);
+    }
