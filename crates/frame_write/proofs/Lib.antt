@@ -6,3 +6,4 @@ pub mod SteadyLemmas
 pub mod MeetLemmas
 pub mod AttemptLemmas
 pub mod LegalLemmas
+pub mod TriesLemmas
