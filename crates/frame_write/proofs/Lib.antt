@@ -7,3 +7,5 @@ pub mod MeetLemmas
 pub mod AttemptLemmas
 pub mod LegalLemmas
 pub mod TriesLemmas
+pub mod TurnLemmas
+pub mod ReplyLemmas

@@ -19,7 +19,7 @@ use Rattle.frame_write.proofs.TraceLemmas.{append_assoc, went_none, went_then, w
 use Rattle.frame_write.proofs.MeetLemmas.{met_sooner}
 use Rattle.frame_write.proofs.SteadyLemmas.{cause_sooner, rose_sooner}
 
-flat_last : (ts : List (List Event)) (t : List Event) → flat_map (λ t. t) (ts ++ t ∷ []) ≡ flat_map (λ t. t) ts ++ t
+pub flat_last : (ts : List (List Event)) (t : List Event) → flat_map (λ t. t) (ts ++ t ∷ []) ≡ flat_map (λ t. t) ts ++ t
 flat_last [] t = append_nil t
   where
     append_nil : (xs : List Event) → xs ++ [] ≡ xs

@@ -1,0 +1,7 @@
+use Rattle.frame_write.proofs.TurnLemmas.{cut_turn}
+use Rattle.frame_write.proofs.ReplyLemmas.{goes_on}
+use Rattle.frame_write.proofs.write.write_link.Goals as goal
+
+pub returns-clause-grown : goal.returns-clause-grown
+returns-clause-grown g c = goes_on _ _ _ _ _ _ _ _ _ _ _ _ _ c.try_all.ensures.did
+
