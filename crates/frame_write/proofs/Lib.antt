@@ -9,3 +9,4 @@ pub mod LegalLemmas
 pub mod TriesLemmas
 pub mod TurnLemmas
 pub mod ReplyLemmas
+pub mod LegalReplies

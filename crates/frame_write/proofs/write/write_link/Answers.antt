@@ -1,4 +1,4 @@
-use Rattle.frame_write.proofs.TurnLemmas.{cut_turn}
+use Rattle.frame_write.proofs.LegalReplies.{cut_legal}
 use Rattle.frame_write.proofs.ReplyLemmas.{goes_on}
 use Rattle.frame_write.proofs.write.write_link.Goals as goal
 
