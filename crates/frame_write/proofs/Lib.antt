@@ -10,3 +10,4 @@ pub mod TriesLemmas
 pub mod TurnLemmas
 pub mod ReplyLemmas
 pub mod LegalReplies
+pub mod LegalWrites

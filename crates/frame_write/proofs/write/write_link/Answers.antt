@@ -1,4 +1,4 @@
-use Rattle.frame_write.proofs.LegalReplies.{cut_legal}
+use Rattle.frame_write.proofs.LegalWrites.{commit_is_legal}
 use Rattle.frame_write.proofs.ReplyLemmas.{goes_on}
 use Rattle.frame_write.proofs.write.write_link.Goals as goal
 

@@ -1,0 +1,79 @@
+-- What all tries did makes a legal reply.
+use Rattle.std.proofs.Common.{◌≡◌, ◌⊎◌, ℕ, suc, ◌+◌, ◌-◌, ◌≤◌, ◌<◌, ℤ, Bool, true, false, List, [], ◌∷◌, ◌++◌, length, take, refl, ap, sym, ◌∙◌, subst, inl, inr, Option, Some, None, arith, Result, Ok, Err}
+use Rattle.std.specs.Prelude.{⊤, map}
+use Rattle.std.specs.List.{list_any, flat_map, AllByRecursion}
+use Rattle.base_types.specs.Faults.{Rose}
+use Rattle.std.proofs.lemmas.Bool.{true≢false, or_from}
+use Rattle.std.proofs.lemmas.List.Folds.{list_any-append}
+use Rattle.frame_core.specs.Frames.{Frame}
+use Rattle.frame_core.specs.declared.refusal.Refusal.{Refusal}
+use Rattle.frame_core.specs.declared.refusal.Refusal.TheVariants as refusals
+use Rattle.frame_core.specs.declared.refusal.Refused.{Refused}
+use Rattle.key_kind.specs.declared.key.Key.{Key}
+use Rattle.key_kind.specs.Names.{Name}
+use Rattle.bucket_core.specs.declared.event.Event.{Event}
+use Rattle.bucket_core.specs.declared.event.Event.TheVariants as events
+use Rattle.bucket_core.specs.History.{History, Bytes}
+use Rattle.reply_model.specs.declared.command.Command.TheVariants as commands
+use Rattle.reply_model.specs.declared.outcome.Outcome.TheVariants as outcomes
+use Rattle.reply_model.specs.Answering.{Session, stamp_of, frame_of}
+use Rattle.reply_model.specs.Windows.{refer_places, refers_by_others}
+use Rattle.reply_model.specs.Tries.{put_of, drop_of, IsRefused}
+use Rattle.reply_model.specs.OwnEvents.{is_last}
+use Rattle.reply_model.specs.Legal.{IsLegalSeen}
+use Rattle.reply_model.proofs.Places.{history_at_end}
+use Rattle.frame_write.specs.declared.options.Committed.{Committed}
+use Rattle.frame_write.specs.Traces.{own_of, met_in, Went}
+use Rattle.frame_write.specs.Tries.{DidCommit, DidTries, DidRefused, DidStop, IsPart, no_event, some_puts, some_drops}
+use Rattle.frame_write.proofs.LegalLemmas.{is_refer, no_places, no_own_refer, met_in_window}
+use Rattle.frame_write.proofs.TurnLemmas.{cut_turn}
+use Rattle.frame_write.proofs.ReplyLemmas.{commit_went}
+use Rattle.frame_write.proofs.LegalReplies.{cut_legal, done_legal, moved_legal}
+use Rattle.frame_write.proofs.TraceLemmas.{went_then, went_longer, same_front, append_assoc, met_in-append}
+
+-- ---- puts and drops are no Refers
+
+puts_no_refer : (client : ℕ) (puts : List (Key × Bytes)) → list_any is_refer (map (put_of client) puts) ≡ false
+puts_no_refer client [] = refl
+puts_no_refer client (p ∷ puts) = puts_no_refer client puts
+
+drops_no_refer : (client : ℕ) (puts : List (Key × Bytes)) → list_any is_refer (map (drop_of client) puts) ≡ false
+drops_no_refer client [] = refl
+drops_no_refer client (p ∷ puts) = drops_no_refer client puts
+
+none_both : (xs ys : List Event) → list_any is_refer xs ≡ false → list_any is_refer ys ≡ false → list_any is_refer (xs ++ ys) ≡ false
+none_both xs ys x y = list_any-append is_refer xs ys ∙ or_from _ _ x y
+
+tries_no_refer : (client : ℕ) (symbol : Name) (ts : List (List Event)) → AllByRecursion (IsRefused client symbol true) ts → list_any is_refer (flat_map (λ t. t) ts) ≡ false
+tries_no_refer client symbol [] all = refl
+tries_no_refer client symbol (t ∷ ts) all =
+    none_both t (flat_map (λ t. t) ts) (ap (list_any is_refer) all.0.3 ∙ none_both (map (put_of client) all.0.0) (map (drop_of client) all.0.0) (puts_no_refer client all.0.0) (drops_no_refer client all.0.0)) (tries_no_refer client symbol ts all.1)
+
+part_no_refer : (client : ℕ) (symbol : Name) (m : ℕ) (own : List Event) → IsPart client symbol m own → list_any is_refer own ≡ false
+part_no_refer client symbol m _ no_event = refl
+part_no_refer client symbol m _ (some_puts n puts entry t) = puts_no_refer client (take n puts)
+part_no_refer client symbol m _ (some_drops n puts entry t one) = none_both (map (put_of client) puts) (map (drop_of client) (take n puts)) (puts_no_refer client puts) (drops_no_refer client (take n puts))
+
+-- so the window has no place of an own Refer
+places_none : (client : ℕ) (sole : Bool) (old new : History) (own : List Event) → Went client sole old new own → list_any is_refer own ≡ false → refer_places client (length old) new ≡ []
+places_none client sole old new own w none = subst (λ h. refer_places client (length old) h ≡ []) (sym w.is) (no_places client old w.more (no_own_refer client w.more own w.own_are none))
+
+-- others' Refers add up
+met_sum : (client : ℕ) (sole : Bool) (symbol : Name) (old mid new : History) (first second whole : List Event) (a : Went client sole old mid first) (b : Went client sole mid new second) (w : Went client sole old new whole)
+    → met_in client symbol w.more ≡ met_in client symbol b.more + met_in client symbol a.more
+met_sum client sole symbol old mid new first second whole a b w =
+    let is : new ≡ (b.more ++ a.more) ++ old = b.is ∙ (ap (λ h. b.more ++ h) a.is ∙ sym (append_assoc b.more a.more old)) in
+    ap (met_in client symbol) (same_front w.more (b.more ++ a.more) old (sym w.is ∙ is)) ∙ met_in-append client symbol b.more a.more
+
+module _ (s : Session) (limit : ℕ) (sole : Bool) (symbol : Name) (frame : Frame) (n : ℕ) (asked : Option ℤ) (prune : Bool) (old new : History) (faulted : Bool) (frame_is : frame_of s n ≡ Some (Ok frame)) where
+  pub commit_is_legal : (count : ℕ) (mid : History) (done : Committed) → count < s.tries → (r : DidRefused s.client sole symbol old mid count) → (c : DidCommit s.client sole symbol frame (stamp_of s asked) prune mid new done)
+      → IsLegalSeen new (record { session = s; limit = limit }) (commands.Write symbol n asked prune) (record { place = done.place; listed = None; commits = done.place ∷ []; left = []; outcome = outcomes.Committed done.version })
+        (record { start = length old; stop = length new; faulted = faulted })
+  commit_is_legal count mid done few r c =
+      let w = went_then s.client sole old mid new (flat_map (λ t. t) r.tries) (map (put_of s.client) c.puts ++ events.Refer s.client symbol c.was c.entry _ ∷ []) r.went (commit_went s.client sole symbol frame (stamp_of s asked) prune mid new done c) in
+      let sum = met_sum s.client sole symbol old mid new (flat_map (λ t. t) r.tries) _ _ r.went (commit_went s.client sole symbol frame (stamp_of s asked) prune mid new done c) w in
+      let front : Went s.client sole old c.before (flat_map (λ t. t) r.tries ++ map (put_of s.client) c.puts) = went_then s.client sole old mid c.before (flat_map (λ t. t) r.tries) (map (put_of s.client) c.puts) r.went c.went in
+      done_legal s limit symbol frame n asked prune old new faulted frame_is done.version done.place mid w.more c.puts c.was c.entry c.before r.tries r.refused (omega (arith, r.counted, few)) w.is
+      (omega (arith, r.counted, r.met, sum)) w.own_are c.is_try c.newest (went_longer s.client sole old c.before (flat_map (λ t. t) r.tries ++ map (put_of s.client) c.puts) front)
+      (places_none s.client sole old c.before (flat_map (λ t. t) r.tries ++ map (put_of s.client) c.puts) front
+      (none_both (flat_map (λ t. t) r.tries) (map (put_of s.client) c.puts) (tries_no_refer s.client symbol r.tries r.refused) (puts_no_refer s.client c.puts))) c.version c.place
