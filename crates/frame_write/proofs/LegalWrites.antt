@@ -18,13 +18,14 @@ use Rattle.reply_model.specs.declared.command.Command.TheVariants as commands
 use Rattle.reply_model.specs.declared.outcome.Outcome.TheVariants as outcomes
 use Rattle.reply_model.specs.Answering.{Session, stamp_of, frame_of}
 use Rattle.reply_model.specs.Windows.{refer_places, refers_by_others}
-use Rattle.reply_model.specs.Tries.{put_of, drop_of, IsRefused}
-use Rattle.reply_model.specs.OwnEvents.{is_last}
+use Rattle.reply_model.specs.Tries.{put_of, drop_of, IsRefused, IsTurn}
+use Rattle.reply_model.specs.OwnEvents.{is_last, AnyMarks, IsBeginning}
 use Rattle.reply_model.specs.Legal.{IsLegalSeen}
 use Rattle.reply_model.proofs.Places.{history_at_end}
 use Rattle.frame_write.specs.declared.options.Committed.{Committed}
 use Rattle.frame_write.specs.Traces.{own_of, met_in, Went}
-use Rattle.frame_write.specs.Tries.{DidCommit, DidTries, DidRefused, DidStop, IsPart, no_event, some_puts, some_drops}
+use Rattle.frame_write.specs.Stops.{StopsAt, HasCause}
+use Rattle.frame_write.specs.Tries.{DidCommit, DidTries, DidRefused, DidStop, IsMet, IsPart, no_event, some_puts, some_drops}
 use Rattle.frame_write.proofs.LegalLemmas.{is_refer, no_places, no_own_refer, met_in_window}
 use Rattle.frame_write.proofs.TurnLemmas.{cut_turn}
 use Rattle.frame_write.proofs.ReplyLemmas.{commit_went}
@@ -77,3 +78,31 @@ module _ (s : Session) (limit : ℕ) (sole : Bool) (symbol : Name) (frame : Fram
       (omega (arith, r.counted, r.met, sum)) w.own_are c.is_try c.newest (went_longer s.client sole old c.before (flat_map (λ t. t) r.tries ++ map (put_of s.client) c.puts) front)
       (places_none s.client sole old c.before (flat_map (λ t. t) r.tries ++ map (put_of s.client) c.puts) front
       (none_both (flat_map (λ t. t) r.tries) (map (put_of s.client) c.puts) (tries_no_refer s.client symbol r.tries r.refused) (puts_no_refer s.client c.puts))) c.version c.place
+
+  pub moved_is_legal : (place : ℕ) (r : DidRefused s.client sole symbol old new s.tries) → IsMet s.client symbol old new place
+      → IsLegalSeen new (record { session = s; limit = limit }) (commands.Write symbol n asked prune) (record { place = place; listed = None; commits = []; left = []; outcome = outcomes.Refused (refusals.Moved place) })
+        (record { start = length old; stop = length new; faulted = faulted })
+  moved_is_legal place r m =
+      moved_legal s limit symbol frame n asked prune old new faulted frame_is place r.went.more r.tries r.refused r.counted r.went.is (omega (arith, r.counted, r.met)) r.went.own_are m
+      (places_none s.client sole old new (flat_map (λ t. t) r.tries) r.went (tries_no_refer s.client symbol r.tries r.refused))
+
+  module _ (before now : ℕ) (rises : Rose before now → faulted ≡ true) (count : ℕ) (mid : History) (few : count < s.tries) (r : DidRefused s.client sole symbol old mid count) (place : ℕ) (why : Refusal)
+      (d : DidStop s.client sole symbol limit before now mid new (record { place = place; why = why })) where
+    stop_went : Went s.client sole old new (flat_map (λ t. t) r.tries ++ d.own)
+    stop_went = went_then s.client sole old mid new (flat_map (λ t. t) r.tries) d.own r.went d.went
+
+    stop_places : refer_places s.client (length old) new ≡ []
+    stop_places = places_none s.client sole old new (flat_map (λ t. t) r.tries ++ d.own) stop_went
+        (none_both (flat_map (λ t. t) r.tries) d.own (tries_no_refer s.client symbol r.tries r.refused) (part_no_refer s.client symbol (met_in s.client symbol d.went.more) d.own d.part))
+
+    stop_turn : IsBeginning (IsTurn new s (record { start = length old; stop = length new; faulted = faulted }) symbol true true AnyMarks) (flat_map (λ t. t) r.tries ++ d.own)
+        ⊎ IsBeginning (IsTurn new s (record { start = length old; stop = length new; faulted = faulted }) symbol true false AnyMarks) (flat_map (λ t. t) r.tries ++ d.own)
+    stop_turn =
+        let sum = met_sum s.client sole symbol old mid new (flat_map (λ t. t) r.tries) d.own (flat_map (λ t. t) r.tries ++ d.own) r.went d.went stop_went in
+        let here = met_in_window s.client symbol old new stop_went.more faulted stop_went.is in
+        cut_turn new s (record { start = length old; stop = length new; faulted = faulted }) symbol r.tries r.refused d.own (met_in s.client symbol d.went.more) (omega (arith, r.counted, few)) (omega (arith, r.counted, r.met, sum, here)) d.part
+
+    stop_at : StopsAt s.client old new (record { place = place; why = why })
+    stop_at =
+        let longer : length old ≤ length mid = went_longer s.client sole old mid (flat_map (λ t. t) r.tries) r.went in
+        record { after = d.stops.after; before = d.stops.before; split = d.stops.split; place = d.stops.place; later = omega (arith, longer, d.stops.later); few = d.stops.few }
