@@ -1,9 +1,9 @@
 -- What all tries did makes a legal reply.
-use Rattle.std.proofs.Common.{◌≡◌, ◌⊎◌, ℕ, suc, ◌+◌, ◌-◌, ◌≤◌, ◌<◌, ℤ, Bool, true, false, List, [], ◌∷◌, ◌++◌, length, take, refl, ap, sym, ◌∙◌, subst, inl, inr, Option, Some, None, arith, Result, Ok, Err}
+use Rattle.std.proofs.Common.{◌≡◌, ◌⊎◌, ℕ, suc, ◌+◌, ◌-◌, ◌≤◌, ◌<◌, ℤ, Bool, true, false, List, [], ◌∷◌, ◌++◌, length, take, drop, ◌||◌, refl, ap, sym, ◌∙◌, subst, inl, inr, Option, Some, None, arith, Result, Ok, Err}
 use Rattle.std.specs.Prelude.{⊤, map}
 use Rattle.std.specs.List.{list_any, flat_map, AllByRecursion}
 use Rattle.base_types.specs.Faults.{Rose}
-use Rattle.std.proofs.lemmas.Bool.{true≢false, or_from}
+use Rattle.std.proofs.lemmas.Bool.{true≢false, or_from, or_parts}
 use Rattle.std.proofs.lemmas.List.Folds.{list_any-append}
 use Rattle.frame_core.specs.Frames.{Frame}
 use Rattle.frame_core.specs.declared.refusal.Refusal.{Refusal}
@@ -18,9 +18,16 @@ use Rattle.reply_model.specs.declared.command.Command.TheVariants as commands
 use Rattle.reply_model.specs.declared.outcome.Outcome.TheVariants as outcomes
 use Rattle.reply_model.specs.Answering.{Session, stamp_of, frame_of}
 use Rattle.reply_model.specs.Windows.{refer_places, refers_by_others}
-use Rattle.reply_model.specs.Tries.{put_of, drop_of, IsRefused, IsTurn}
-use Rattle.reply_model.specs.OwnEvents.{is_last, AnyMarks, IsBeginning}
+use Rattle.reply_model.specs.Tries.{put_of, drop_of, IsTry, IsRefused, IsTurn}
+use Rattle.reply_model.specs.OwnEvents.{is_last, is_end, IsMeantAt, AnyMarks, IsBeginning}
 use Rattle.reply_model.specs.Legal.{IsLegalSeen}
+use Rattle.reply_model.specs.Causes.{MarksAt}
+use Rattle.reply_model.specs.Runs.{harms}
+use Rattle.reply_model.proofs.Harmless.{try_harms_nothing}
+use Rattle.key_kind.specs.declared.key.KeyKind.TheVariants as kinds
+use Rattle.key_kind.specs.Keys.{same_kind}
+use Rattle.frame_write.proofs.ListLemmas.{map_append}
+use Rattle.std.proofs.lemmas.List.{take-append-drop}
 use Rattle.reply_model.proofs.Places.{history_at_end}
 use Rattle.frame_write.specs.declared.options.Committed.{Committed}
 use Rattle.frame_write.specs.Traces.{own_of, met_in, Went}
@@ -29,7 +36,7 @@ use Rattle.frame_write.specs.Tries.{DidCommit, DidTries, DidRefused, DidStop, Is
 use Rattle.frame_write.proofs.LegalLemmas.{is_refer, no_places, no_own_refer, met_in_window}
 use Rattle.frame_write.proofs.TurnLemmas.{cut_turn}
 use Rattle.frame_write.proofs.ReplyLemmas.{commit_went}
-use Rattle.frame_write.proofs.LegalReplies.{cut_legal, done_legal, moved_legal}
+use Rattle.frame_write.proofs.LegalReplies.{answer_is, cut_legal, done_legal, moved_legal}
 use Rattle.frame_write.proofs.TraceLemmas.{went_then, went_longer, same_front, append_assoc, met_in-append}
 
 -- ---- puts and drops are no Refers
@@ -54,6 +61,37 @@ part_no_refer : (client : ℕ) (symbol : Name) (m : ℕ) (own : List Event) → 
 part_no_refer client symbol m _ no_event = refl
 part_no_refer client symbol m _ (some_puts n puts entry t) = puts_no_refer client (take n puts)
 part_no_refer client symbol m _ (some_drops n puts entry t one) = none_both (map (put_of client) puts) (map (drop_of client) (take n puts)) (puts_no_refer client puts) (drops_no_refer client (take n puts))
+
+-- ---- puts and drops do not end a command
+
+puts_no_end : (client : ℕ) (symbol : Name) (puts : List (Key × Bytes)) (entry : Key) → IsTry symbol true puts entry → list_any is_end (map (put_of client) puts) ≡ false
+puts_no_end client symbol puts entry t = same client puts ∙ try_harms_nothing client symbol true puts entry t
+  where
+    same : (client : ℕ) (puts : List (Key × Bytes)) → list_any is_end (map (put_of client) puts) ≡ list_any harms (map (put_of client) puts)
+    same client [] = refl
+    same client (p ∷ puts) = ap (λ b. same_kind p.0.kind kinds.Staged || b) (same client puts)
+
+drops_no_end : (client : ℕ) (puts : List (Key × Bytes)) → list_any is_end (map (drop_of client) puts) ≡ false
+drops_no_end client [] = refl
+drops_no_end client (p ∷ puts) = drops_no_end client puts
+
+no_end_both : (xs ys : List Event) → list_any is_end xs ≡ false → list_any is_end ys ≡ false → list_any is_end (xs ++ ys) ≡ false
+no_end_both xs ys x y = list_any-append is_end xs ys ∙ or_from _ _ x y
+
+no_end_first : (xs ys : List Event) → list_any is_end (xs ++ ys) ≡ false → list_any is_end xs ≡ false
+no_end_first xs ys e = (or_parts (list_any is_end xs) (list_any is_end ys) (sym (list_any-append is_end xs ys) ∙ e)).0
+
+tries_no_end : (client : ℕ) (symbol : Name) (ts : List (List Event)) → AllByRecursion (IsRefused client symbol true) ts → list_any is_end (flat_map (λ t. t) ts) ≡ false
+tries_no_end client symbol [] all = refl
+tries_no_end client symbol (t ∷ ts) all =
+    no_end_both t (flat_map (λ t. t) ts) (ap (list_any is_end) all.0.3 ∙ no_end_both (map (put_of client) all.0.0) (map (drop_of client) all.0.0) (puts_no_end client symbol all.0.0 all.0.1 all.0.2) (drops_no_end client all.0.0)) (tries_no_end client symbol ts all.1)
+
+part_no_end : (client : ℕ) (symbol : Name) (m : ℕ) (own : List Event) → IsPart client symbol m own → list_any is_end own ≡ false
+part_no_end client symbol m _ no_event = refl
+part_no_end client symbol m _ (some_puts n puts entry t) =
+    no_end_first (map (put_of client) (take n puts)) (map (put_of client) (drop n puts))
+    (ap (list_any is_end) (sym (map_append (put_of client) (take n puts) (drop n puts)) ∙ ap (map (put_of client)) (take-append-drop n puts)) ∙ puts_no_end client symbol puts entry t)
+part_no_end client symbol m _ (some_drops n puts entry t one) = no_end_both (map (put_of client) puts) (map (drop_of client) (take n puts)) (puts_no_end client symbol puts entry t) (drops_no_end client (take n puts))
 
 -- so the window has no place of an own Refer
 places_none : (client : ℕ) (sole : Bool) (old new : History) (own : List Event) → Went client sole old new own → list_any is_refer own ≡ false → refer_places client (length old) new ≡ []
@@ -106,3 +144,47 @@ module _ (s : Session) (limit : ℕ) (sole : Bool) (symbol : Name) (frame : Fram
     stop_at =
         let longer : length old ≤ length mid = went_longer s.client sole old mid (flat_map (λ t. t) r.tries) r.went in
         record { after = d.stops.after; before = d.stops.before; split = d.stops.split; place = d.stops.place; later = omega (arith, longer, d.stops.later); few = d.stops.few }
+
+    stop_no_end : list_any (is_last (commands.Write symbol n asked prune)) (flat_map (λ t. t) r.tries ++ d.own) ≡ false
+    stop_no_end = last_is_end (flat_map (λ t. t) r.tries ++ d.own)
+        ∙ no_end_both (flat_map (λ t. t) r.tries) d.own (tries_no_end s.client symbol r.tries r.refused) (part_no_end s.client symbol (met_in s.client symbol d.went.more) d.own d.part)
+      where
+        last_is_end : (es : List Event) → list_any (is_last (commands.Write symbol n asked prune)) es ≡ list_any is_end es
+        last_is_end [] = refl
+        last_is_end (e ∷ es) = ap (λ b. is_end e || b) (last_is_end es)
+
+  module _ (before now : ℕ) (rises : Rose before now → faulted ≡ true) (count : ℕ) (mid : History) (few : count < s.tries) (r : DidRefused s.client sole symbol old mid count) (place : ℕ) where
+    pub no_memory_is_legal : (d : DidStop s.client sole symbol limit before now mid new (record { place = place; why = refusals.NoMemory }))
+        → IsLegalSeen new (record { session = s; limit = limit }) (commands.Write symbol n asked prune) (record { place = place; listed = None; commits = []; left = []; outcome = outcomes.Refused refusals.NoMemory })
+          (record { start = length old; stop = length new; faulted = faulted })
+    no_memory_is_legal d =
+        let w = stop_went before now rises count mid few r place refusals.NoMemory d in
+        cut_legal s limit symbol frame n asked prune old new faulted frame_is place refusals.NoMemory w.more (flat_map (λ t. t) r.tries ++ d.own) w.is w.own_are
+        (stop_turn before now rises count mid few r place refusals.NoMemory d) (stop_at before now rises count mid few r place refusals.NoMemory d) refl refl
+        (sym (stop_places before now rises count mid few r place refusals.NoMemory d)) (λ f. stop_no_end before now rises count mid few r place refusals.NoMemory d) tt tt
+
+    pub fault_is_legal : (d : DidStop s.client sole symbol limit before now mid new (record { place = place; why = refusals.StoreFault }))
+        → IsLegalSeen new (record { session = s; limit = limit }) (commands.Write symbol n asked prune) (record { place = place; listed = None; commits = []; left = []; outcome = outcomes.Refused refusals.StoreFault })
+          (record { start = length old; stop = length new; faulted = faulted })
+    fault_is_legal d =
+        let w = stop_went before now rises count mid few r place refusals.StoreFault d in
+        let none = stop_places before now rises count mid few r place refusals.StoreFault d in
+        cut_legal s limit symbol frame n asked prune old new faulted frame_is place refusals.StoreFault w.more (flat_map (λ t. t) r.tries ++ d.own) w.is w.own_are
+        (stop_turn before now rises count mid few r place refusals.StoreFault d) (stop_at before now rises count mid few r place refusals.StoreFault d) refl refl
+        (inl (sym none)) (λ f. absurd (true≢false f)) (subst (AllByRecursion (IsMeantAt new s (commands.Write symbol n asked prune) (record { place = place; listed = None; commits = []; left = []; outcome = outcomes.Refused refusals.StoreFault }))) (sym none) tt) (rises d.cause)
+
+    pub spent_is_legal : (full : ℕ) → (d : DidStop s.client sole symbol limit before now mid new (record { place = place; why = refusals.Spent full }))
+        → IsLegalSeen new (record { session = s; limit = limit }) (commands.Write symbol n asked prune) (record { place = place; listed = None; commits = []; left = []; outcome = outcomes.Refused (refusals.Spent full) })
+          (record { start = length old; stop = length new; faulted = faulted })
+    spent_is_legal full d =
+        let w = stop_went before now rises count mid few r place (refusals.Spent full) d in
+        let at = stop_at before now rises count mid few r place (refusals.Spent full) d in
+        cut_legal s limit symbol frame n asked prune old new faulted frame_is place (refusals.Spent full) w.more (flat_map (λ t. t) r.tries ++ d.own) w.is w.own_are
+        (stop_turn before now rises count mid few r place (refusals.Spent full) d) at refl refl
+        (sym (stop_places before now rises count mid few r place (refusals.Spent full) d)) (λ f. stop_no_end before now rises count mid few r place (refusals.Spent full) d) tt
+        (record {
+          here = d.cause.1;
+          full = d.cause.0.1;
+          busy = inr (place, omega (arith, at.place, at.later), omega arith,
+              subst MarksAt (sym (answer_is s limit symbol frame n asked prune old new faulted frame_is place place)) (inl (λ e. absurd cc)));
+        })
