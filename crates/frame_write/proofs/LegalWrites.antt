@@ -1,6 +1,6 @@
 -- What all tries did makes a legal reply.
 use Rattle.std.proofs.Common.{◌≡◌, ◌⊎◌, ℕ, suc, ◌+◌, ◌-◌, ◌≤◌, ◌<◌, ℤ, Bool, true, false, List, [], ◌∷◌, ◌++◌, length, take, drop, ◌||◌, refl, ap, sym, ◌∙◌, subst, inl, inr, Option, Some, None, arith, Result, Ok, Err}
-use Rattle.std.specs.Prelude.{⊤, map}
+use Rattle.std.specs.Prelude.{map, option_map}
 use Rattle.std.specs.List.{list_any, flat_map, AllByRecursion}
 use Rattle.base_types.specs.Faults.{Rose}
 use Rattle.std.proofs.lemmas.Bool.{true≢false, or_from, or_parts}
@@ -13,11 +13,12 @@ use Rattle.key_kind.specs.declared.key.Key.{Key}
 use Rattle.key_kind.specs.Names.{Name}
 use Rattle.bucket_core.specs.declared.event.Event.{Event}
 use Rattle.bucket_core.specs.declared.event.Event.TheVariants as events
-use Rattle.bucket_core.specs.History.{History, Bytes}
+use Rattle.bucket_core.specs.History.{History, Bytes, history_at, event_at}
 use Rattle.reply_model.specs.declared.command.Command.TheVariants as commands
 use Rattle.reply_model.specs.declared.outcome.Outcome.TheVariants as outcomes
-use Rattle.reply_model.specs.Answering.{Session, stamp_of, frame_of}
-use Rattle.reply_model.specs.Windows.{refer_places, refers_by_others}
+use Rattle.reply_model.specs.Answering.{Session, Answer, stamp_of, frame_of, committed, answered, ◌then◌}
+use Rattle.reply_model.specs.Answers.{answer}
+use Rattle.reply_model.specs.Windows.{refer_places, refers_by_others, library_at}
 use Rattle.reply_model.specs.Tries.{put_of, drop_of, IsTry, IsRefused, IsTurn}
 use Rattle.reply_model.specs.OwnEvents.{is_last, is_end, IsMeantAt, AnyMarks, IsBeginning}
 use Rattle.reply_model.specs.Legal.{IsLegalSeen}
@@ -30,11 +31,17 @@ use Rattle.frame_write.proofs.ListLemmas.{map_append}
 use Rattle.std.proofs.lemmas.List.{take-append-drop}
 use Rattle.reply_model.proofs.Places.{history_at_end}
 use Rattle.frame_write.specs.declared.options.Committed.{Committed}
+use Rattle.frame_write.specs.Writes.{reply_to, IsLegalWrite}
+use Rattle.frame_write.specs.Plans.{changes_on}
+use Rattle.bucket_core.specs.declared.event.Change.TheVariants as changes
+use Rattle.store_model.specs.Library.{state_of, next_number}
+use Rattle.reply_model.proofs.Later.{history_at_later}
+use Rattle.reply_model.proofs.Covering.{event_at_end}
 use Rattle.frame_write.specs.Traces.{own_of, met_in, Went}
 use Rattle.frame_write.specs.Stops.{StopsAt, HasCause}
 use Rattle.frame_write.specs.Tries.{DidCommit, DidTries, DidRefused, DidStop, IsMet, IsPart, no_event, some_puts, some_drops}
-use Rattle.frame_write.proofs.LegalLemmas.{is_refer, no_places, no_own_refer, met_in_window}
-use Rattle.frame_write.proofs.TurnLemmas.{cut_turn}
+use Rattle.frame_write.proofs.LegalLemmas.{is_refer, no_places, no_own_refer, met_in_window, one_place}
+use Rattle.frame_write.proofs.TurnLemmas.{cut_turn, done_turn, append_none}
 use Rattle.frame_write.proofs.ReplyLemmas.{commit_went}
 use Rattle.frame_write.proofs.LegalReplies.{answer_is, cut_legal, done_legal, moved_legal}
 use Rattle.frame_write.proofs.TraceLemmas.{went_then, went_longer, same_front, append_assoc, met_in-append}
@@ -188,3 +195,88 @@ module _ (s : Session) (limit : ℕ) (sole : Bool) (symbol : Name) (frame : Fram
           busy = inr (place, omega (arith, at.place, at.later), omega arith,
               subst MarksAt (sym (answer_is s limit symbol frame n asked prune old new faulted frame_is place place)) (inl (λ e. absurd cc)));
         })
+
+    pub stop_is_legal : (why : Refusal) → DidStop s.client sole symbol limit before now mid new (record { place = place; why = why })
+        → IsLegalSeen new (record { session = s; limit = limit }) (commands.Write symbol n asked prune) (record { place = place; listed = None; commits = []; left = []; outcome = outcomes.Refused why })
+          (record { start = length old; stop = length new; faulted = faulted })
+    stop_is_legal refusals.NoMemory d = no_memory_is_legal d
+    stop_is_legal refusals.StoreFault d = fault_is_legal d
+    stop_is_legal (refusals.Spent full) d = spent_is_legal full d
+    stop_is_legal refusals.NoSuchSymbol d = absurd d.cause
+    stop_is_legal (refusals.NoSuchVersion asked) d = absurd d.cause
+    stop_is_legal (refusals.VersionGone version) d = absurd d.cause
+    stop_is_legal (refusals.Moved at) d = absurd d.cause
+    stop_is_legal (refusals.Unsorted row) d = absurd d.cause
+    stop_is_legal (refusals.SchemaDiffers column) d = absurd d.cause
+    stop_is_legal (refusals.AppendBefore last first) d = absurd d.cause
+    stop_is_legal (refusals.OutsideRange row) d = absurd d.cause
+    stop_is_legal refusals.EmptyUpdate d = absurd d.cause
+    stop_is_legal (refusals.NoSuchColumn clause position) d = absurd d.cause
+    stop_is_legal (refusals.TypeMismatch clause) d = absurd d.cause
+    stop_is_legal (refusals.Overflow clause row) d = absurd d.cause
+    stop_is_legal (refusals.GroupOverflow clause group) d = absurd d.cause
+    stop_is_legal (refusals.NotTimeIndexed clause) d = absurd d.cause
+    stop_is_legal refusals.SnapshotExists d = absurd d.cause
+    stop_is_legal refusals.NoSuchSnapshot d = absurd d.cause
+    stop_is_legal refusals.NoStaged d = absurd d.cause
+    stop_is_legal (refusals.StagedOverlap piece) d = absurd d.cause
+    stop_is_legal (refusals.TooLarge what most) d = absurd d.cause
+
+    -- the store failed, and the commit stands
+    pub faulted_is_legal : (done : Committed) → (c : DidCommit s.client sole symbol frame (stamp_of s asked) prune mid new done) → StopsAt s.client mid new (record { place = place; why = refusals.StoreFault }) → Rose before now
+        → IsLegalSeen new (record { session = s; limit = limit }) (commands.Write symbol n asked prune) (record { place = place; listed = None; commits = []; left = []; outcome = outcomes.Refused refusals.StoreFault })
+          (record { start = length old; stop = length new; faulted = faulted })
+    faulted_is_legal done c stops rose =
+        let cw = commit_went s.client sole symbol frame (stamp_of s asked) prune mid new done c in
+        let w = went_then s.client sole old mid new (flat_map (λ t. t) r.tries) (map (put_of s.client) c.puts ++ events.Refer s.client symbol c.was c.entry (changes_on c.before symbol frame (stamp_of s asked) prune) ∷ []) r.went cw in
+        let sum = met_sum s.client sole symbol old mid new (flat_map (λ t. t) r.tries) (map (put_of s.client) c.puts ++ events.Refer s.client symbol c.was c.entry (changes_on c.before symbol frame (stamp_of s asked) prune) ∷ []) (flat_map (λ t. t) r.tries ++ (map (put_of s.client) c.puts ++ events.Refer s.client symbol c.was c.entry (changes_on c.before symbol frame (stamp_of s asked) prune) ∷ [])) r.went cw w in
+        let here = met_in_window s.client symbol old new w.more faulted w.is in
+        let front = went_then s.client sole old mid c.before (flat_map (λ t. t) r.tries) (map (put_of s.client) c.puts) r.went c.went in
+        let none = places_none s.client sole old c.before (flat_map (λ t. t) r.tries ++ map (put_of s.client) c.puts) front
+        (none_both (flat_map (λ t. t) r.tries) (map (put_of s.client) c.puts) (tries_no_refer s.client symbol r.tries r.refused) (puts_no_refer s.client c.puts)) in
+        let longer = went_longer s.client sole old c.before (flat_map (λ t. t) r.tries ++ map (put_of s.client) c.puts) front in
+        let early : length old ≤ length mid = went_longer s.client sole old mid (flat_map (λ t. t) r.tries) r.went in
+        let places : refer_places s.client (length old) new ≡ suc (length c.before) ∷ [] = ap (refer_places s.client (length old)) c.newest ∙ one_place s.client old c.before symbol c.was c.entry (changes_on c.before symbol frame (stamp_of s asked) prune) longer none in
+        let back : suc (length c.before) - 1 ≡ length c.before = omega arith in
+        let earlier : history_at new (suc (length c.before) - 1) ≡ c.before =
+        ap (λ h. history_at h (suc (length c.before) - 1)) c.newest ∙ (ap (history_at (events.Refer s.client symbol c.was c.entry (changes_on c.before symbol frame (stamp_of s asked) prune) ∷ c.before)) back ∙ (history_at_later c.before (events.Refer s.client symbol c.was c.entry (changes_on c.before symbol frame (stamp_of s asked) prune) ∷ []) (length c.before) (omega arith) ∙ history_at_end c.before)) in
+        let answers : answer s (library_at new (suc (length c.before))) (library_at new (suc (length c.before) - 1)) (suc (length c.before) - 1) (commands.Write symbol n asked prune)
+          ≡ Some (record { outcome = outcomes.Committed (next_number (state_of c.before symbol)); marks = (changes_on c.before symbol frame (stamp_of s asked) prune) }) =
+        ap (option_map (λ f. answered (f then (λ g. Ok (committed (state_of (history_at new (suc (length c.before) - 1)) symbol) prune (changes.Wrote g (stamp_of s asked))))))) frame_is
+        ∙ ap (λ h. Some (committed (state_of h symbol) prune (changes.Wrote frame (stamp_of s asked)))) earlier in
+        let event : event_at new (suc (length c.before)) ≡ Some (events.Refer s.client symbol c.was c.entry (changes_on c.before symbol frame (stamp_of s asked) prune)) = ap (λ h. event_at h (suc (length c.before))) c.newest ∙ event_at_end (events.Refer s.client symbol c.was c.entry (changes_on c.before symbol frame (stamp_of s asked) prune)) c.before in
+        cut_legal s limit symbol frame n asked prune old new faulted frame_is place refusals.StoreFault w.more (flat_map (λ t. t) r.tries ++ (map (put_of s.client) c.puts ++ events.Refer s.client symbol c.was c.entry (changes_on c.before symbol frame (stamp_of s asked) prune) ∷ [])) w.is w.own_are
+        (inl (record { more = []; whole = subst (IsTurn new s (record { start = length old; stop = length new; faulted = faulted }) symbol true true AnyMarks) (sym (append_none (flat_map (λ t. t) r.tries ++ (map (put_of s.client) c.puts ++ events.Refer s.client symbol c.was c.entry (changes_on c.before symbol frame (stamp_of s asked) prune) ∷ []))))
+            (done_turn new s (record { start = length old; stop = length new; faulted = faulted }) symbol r.tries r.refused (omega (arith, r.counted, r.met, sum, here)) (omega (arith, r.counted, few)) c.puts c.was c.entry (changes_on c.before symbol frame (stamp_of s asked) prune) c.is_try) }))
+        (record { after = stops.after; before = stops.before; split = stops.split; place = stops.place; later = omega (arith, early, stops.later); few = stops.few }) refl refl
+        (inr (suc (length c.before), places)) (λ f. absurd (true≢false f))
+        (subst (AllByRecursion (IsMeantAt new s (commands.Write symbol n asked prune) (record { place = place; listed = None; commits = []; left = []; outcome = outcomes.Refused refusals.StoreFault }))) (sym places)
+        (record { symbol = symbol; list = (changes_on c.before symbol frame (stamp_of s asked) prune); outcome = outcomes.Committed (next_number (state_of c.before symbol)); symbol_is = refl; event = (c.was, c.entry, event); answered = answers }, tt)) (rises rose)
+
+-- ---- all tries
+
+seen_is_legal : (s : Session) (limit : ℕ) (sole : Bool) (symbol : Name) (frame : Frame) (n : ℕ) (asked : Option ℤ) (prune : Bool) (before now : ℕ) (old new : History) (faulted : Bool) → frame_of s n ≡ Some (Ok frame) → (Rose before now → faulted ≡ true)
+    → (result : Result Committed Refused) → DidTries s.client sole symbol frame (stamp_of s asked) prune s.tries limit before now old new result
+    → IsLegalSeen new (record { session = s; limit = limit }) (commands.Write symbol n asked prune) (reply_to result) (record { start = length old; stop = length new; faulted = faulted })
+seen_is_legal s limit sole symbol frame n asked prune before now old new faulted frame_is rises (Ok done) d = commit_is_legal s limit sole symbol frame n asked prune old new faulted frame_is d.count d.mid done d.few d.refused d.last
+seen_is_legal s limit sole symbol frame n asked prune before now old new faulted frame_is rises (Err refused) d = elim d [
+  | inl all ↦ subst (λ y. IsLegalSeen new (record { session = s; limit = limit }) (commands.Write symbol n asked prune) (reply_to (Err (record { place = refused.place; why = y }))) (record { start = length old; stop = length new; faulted = faulted })) (sym all.why)
+      (moved_is_legal s limit sole symbol frame n asked prune old new faulted frame_is refused.place all.all all.met)
+  | inr t ↦ elim t.last [
+    | inl stop ↦ stop_is_legal s limit sole symbol frame n asked prune old new faulted frame_is before now rises t.count t.mid t.few t.refused refused.place refused.why stop
+    | inr f ↦ subst (λ y. IsLegalSeen new (record { session = s; limit = limit }) (commands.Write symbol n asked prune) (reply_to (Err (record { place = refused.place; why = y }))) (record { start = length old; stop = length new; faulted = faulted })) (sym f.why)
+        (faulted_is_legal s limit sole symbol frame n asked prune old new faulted frame_is before now rises t.count t.mid t.few t.refused refused.place f.done f.commit
+        (subst (λ y. StopsAt s.client t.mid new (record { place = refused.place; why = y })) f.why f.stops) f.rose)
+  ]
+]
+
+pub tries_are_legal : (client : ℕ) (sole : Bool) (symbol : Name) (frame : Frame) (at : ℤ) (prune : Bool) (most limit before now : ℕ) (old new : History) (result : Result Committed Refused)
+    → DidTries client sole symbol frame at prune most limit before now old new result → IsLegalWrite limit client most symbol frame at prune before now old new result
+tries_are_legal client sole symbol frame at prune most limit before now old new result d = λ s n asked faulted b rises. (
+  omega arith,
+  subst (λ h. IsLegalSeen h (record { session = s; limit = limit }) (commands.Write symbol n asked prune) (reply_to result) (record { start = length old; stop = length new; faulted = faulted })) (sym (history_at_end new))
+      (seen_is_legal s limit sole symbol frame n asked prune before now old new faulted b.frame_is rises result
+      (subst (λ c. DidTries c sole symbol frame (stamp_of s asked) prune s.tries limit before now old new result) (sym b.client_is)
+      (subst (λ a. DidTries client sole symbol frame a prune s.tries limit before now old new result) (sym b.stamp_is)
+      (subst (λ t. DidTries client sole symbol frame at prune t limit before now old new result) (sym b.tries_are) d)))),
+)

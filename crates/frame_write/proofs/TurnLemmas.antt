@@ -18,7 +18,7 @@ use Rattle.frame_write.proofs.ListLemmas.{all_last, map_append}
 use Rattle.frame_write.proofs.TraceLemmas.{append_assoc}
 use Rattle.frame_write.proofs.TriesLemmas.{flat_last}
 
-append_none : {X : Type 0} (xs : List X) → xs ++ [] ≡ xs
+pub append_none : {X : Type 0} (xs : List X) → xs ++ [] ≡ xs
 append_none [] = refl
 append_none (x ∷ xs) = ap (λ l. x ∷ l) (append_none xs)
 
