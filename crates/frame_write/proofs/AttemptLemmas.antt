@@ -1,13 +1,11 @@
 -- How a try ends, from what its calls did.
-use Rattle.std.proofs.Common.{◌≡◌, ◌⊎◌, ℕ, suc, ◌+◌, ◌≤◌, ◌<◌, ℤ, Bool, true, false, List, [], ◌∷◌, ◌++◌, length, take, refl, ap, sym, ◌∙◌, subst, inl, inr, Option, Some, None, arith, Result, Ok, Err, length-append}
+use Rattle.std.proofs.Common.{◌≡◌, ℕ, ◌+◌, ◌≤◌, ℤ, Bool, true, false, List, [], ◌∷◌, ◌++◌, length, take, refl, ap, sym, ◌∙◌, subst, inl, inr, arith, Err}
 use Rattle.std.specs.Prelude.{map, reverse, ◌≢◌}
 use Rattle.std.specs.List.{list_any, take-map}
 use Rattle.std.specs.Arc.{arc_value}
 use mathlib.Core.Logic.{∥∥₁_elim, ∥∥₁_map}
 use denote.Struct.Props.{props}
-use Rattle.std.proofs.lemmas.Bool.{true≢false}
 use Rattle.std.proofs.Math.Seq.{take-length}
-use Rattle.base_types.specs.Faults.{Rose}
 use Rattle.frame_core.specs.Frames.{Frame}
 use Rattle.frame_core.specs.Limits.{IsStorable}
 use Rattle.frame_core.specs.declared.refusal.Refusal.{Refusal}
@@ -16,19 +14,16 @@ use Rattle.frame_core.specs.declared.refusal.Refused.{Refused}
 use Rattle.key_kind.specs.declared.key.Key.{Key}
 use Rattle.key_kind.specs.Names.{Name}
 use Rattle.bucket_core.specs.declared.event.Event.{Event}
-use Rattle.bucket_core.specs.declared.event.Event.TheVariants as events
-use Rattle.bucket_core.specs.declared.event.Change.{Change}
 use Rattle.bucket_core.specs.declared.event.Change.TheVariants as changes
 use Rattle.bucket_core.specs.declared.answer.StoreErr.{StoreErr}
 use Rattle.bucket_core.specs.declared.answer.StoreErr.TheVariants as errs
-use Rattle.bucket_core.specs.History.{History, Bytes, author, reference, referred_at, AllByOthers}
-use Rattle.bucket_core.specs.Laws.{refers, Adds, Looks, IsTested}
-use Rattle.bucket_core.specs.Calls.{MayTryRefer, DidChange, RefusesRefer, refer_event, IsFull}
+use Rattle.bucket_core.specs.History.{History, Bytes, reference, referred_at, AllByOthers}
+use Rattle.bucket_core.specs.Laws.{refers, Adds, Looks}
+use Rattle.bucket_core.specs.Calls.{MayTryRefer, DidChange, RefusesRefer, refer_event}
 use Rattle.store_model.specs.Law.{IsClaimed, IsLawful}
 use Rattle.store_model.specs.Library.{State, state_of, next_number, live_versions}
 use Rattle.store_model.specs.Commits.{IsFilled}
 use Rattle.store_model.specs.OwnPuts.{AreOwnPuts, BuriesLive, buries_none, buries_live}
-use Rattle.store_model.proofs.Stability.{is_false}
 use Rattle.store_model.proofs.StableRefer.{staging}
 use Rattle.store_model.proofs.Untouched.{as_it_was}
 use Rattle.store_model.proofs.Writing.{wrote_may_be_tried}
@@ -36,15 +31,15 @@ use Rattle.store_model.proofs.Told.{own_puts_stay, has_moved_on_told, unreferred
 use Rattle.version_chain.specs.States.{IsStateAt, IsWithin, IsLookRefusal, RefusesWalk}
 use Rattle.version_chain.specs.declared.state.SymbolState.{SymbolState}
 use Rattle.reply_model.specs.Answering.{pruned, live_numbers, removed}
-use Rattle.reply_model.specs.Tries.{put_of, drop_of, one_if, IsTry, IsRefused}
+use Rattle.reply_model.specs.Tries.{put_of, drop_of, one_if, IsTry}
 use Rattle.frame_write.specs.declared.options.Committed.{Committed}
 use Rattle.frame_write.specs.declared.plan.Plan.{Plan}
-use Rattle.frame_write.specs.Traces.{own_of, met_in, Went}
+use Rattle.frame_write.specs.Traces.{met_in, Went}
 use Rattle.frame_write.specs.Stops.{is_fault, StopsAt, HasCause, refused_by}
-use Rattle.frame_write.specs.PutCalls.{StoppedCall, StoppedCalls, PutAll}
-use Rattle.frame_write.specs.Plans.{IsPlan, puts_seen, changes_on}
-use Rattle.frame_write.specs.Tries.{IsMet, IsPart, no_event, some_puts, some_drops, DidCommit, DidMeet, DidStop, DidCommitFaulted, DidFail}
-use Rattle.frame_write.proofs.TraceLemmas.{append_assoc, own_of-others, own_of-adds, met_in-append, went_none, went_looks, went_adds, went_before, went_then, went_as, went_longer, split_more, others_first, split_at, same_front}
+use Rattle.frame_write.specs.PutCalls.{StoppedCalls, PutAll}
+use Rattle.frame_write.specs.Plans.{IsPlan, puts_seen}
+use Rattle.frame_write.specs.Tries.{IsMet, no_event, some_puts, some_drops, DidCommit, DidMeet, DidStop, DidFail}
+use Rattle.frame_write.proofs.TraceLemmas.{append_assoc, own_of-others, own_of-adds, met_in-append, went_looks, went_before, went_then, went_as, went_longer, split_more, others_first, split_at, same_front}
 use Rattle.frame_write.proofs.MeetLemmas.{own_refers, others_refer_not, own_refer_not, none_in_both, met_later, met_sooner, met_here, met_once}
 
 append_none : {X : Type 0} (xs : List X) → xs ++ [] ≡ xs
@@ -140,7 +135,6 @@ buries_pruned st true = by (live_numbers st) refl
 module _ (client : ℕ) (sole : Bool) (symbol : Name) (frame : Frame) (at : ℤ) (prune : Bool) (limit faults_before : ℕ) (old walked put : History) (state : SymbolState) (serial : ℕ) (plan : Plan)
     (looks : Looks IsClaimed client sole old walked) (seen : IsStateAt walked symbol state) (place : IsWithin old walked state.place)
     (p : IsPlan client serial seen.before symbol frame at prune plan) (puts : PutAll client sole walked put (puts_seen plan.puts)) where
-
   -- what was added before the walk's look, and behind it
   parts : (mid : History) × (seen.before ≡ mid ++ old) × (looks.others ≡ seen.later ++ mid)
   parts = split_more seen.later seen.before looks.others old (sym seen.split ∙ looks.is) (subst (λ n. length old ≤ n) seen.place place.from)

@@ -1,8 +1,6 @@
 -- What one call of the store leaves, where it is refused and where not.
-use Rattle.std.proofs.Common.{◌≡◌, ℕ, suc, ◌≤◌, Bool, true, false, List, [], ◌∷◌, ◌++◌, length, refl, ap, sym, ◌∙◌, subst, inl, inr, Option, Some, None, arith, Result, Ok, Err}
-use Rattle.std.specs.Prelude.{is_some}
+use Rattle.std.proofs.Common.{◌≡◌, ℕ, ◌≤◌, Bool, List, [], ◌∷◌, length, refl, ap, sym, ◌∙◌, subst, inl, inr, Option, Some, None, arith, Ok, Err}
 use Rattle.base_types.specs.Faults.{Rose}
-use Rattle.frame_core.specs.declared.refusal.Refusal.{Refusal}
 use Rattle.frame_core.specs.declared.refusal.Refusal.TheVariants as refusals
 use Rattle.frame_core.specs.declared.refusal.Refused.{Refused}
 use Rattle.key_kind.specs.declared.key.Key.{Key}
@@ -18,8 +16,7 @@ use Rattle.store_model.specs.Law.{IsClaimed, IsLawful}
 use Rattle.store_model.specs.OwnPuts.{IsOwnPut}
 use Rattle.store_model.proofs.Told.{own_puts_stay}
 use Rattle.reply_model.specs.Tries.{one_if}
-use Rattle.frame_write.specs.Traces.{own_of}
-use Rattle.frame_write.specs.Stops.{refused_by, is_fault, StopsAt, HasCause}
+use Rattle.frame_write.specs.Stops.{refused_by, is_fault, HasCause}
 use Rattle.frame_write.specs.PutCalls.{StoppedCall}
 use Rattle.frame_write.proofs.TraceLemmas.{went_looks, went_adds, went_longer, own_of-others, own_of-adds}
 

@@ -1,19 +1,17 @@
 -- The reply made of a write's result is legal: what the client's events in the window are, and what the library answers.
-use Rattle.std.proofs.Common.{◌≡◌, ◌⊎◌, ℕ, suc, ◌+◌, ◌-◌, ◌≤◌, ◌<◌, ℤ, Bool, true, false, ◌&&◌, ◌||◌, not, List, [], ◌∷◌, ◌++◌, length, take, drop, refl, ap, sym, ◌∙◌, subst, inl, inr, Option, Some, None, cond, nat_eq, arith, Result, Ok, Err, length-append}
-use Rattle.std.specs.Prelude.{map, filter, reverse, nat_le}
-use Rattle.std.specs.List.{list_any, flat_map, AllByRecursion}
-use Rattle.std.proofs.lemmas.Bool.{true≢false, or_parts, or_from, and_left, ne_eqb, eq-eqb, le-leb, leb-true}
-use Rattle.std.proofs.lemmas.List.Folds.{list_any-append}
+use Rattle.std.proofs.Common.{◌≡◌, ℕ, suc, ◌-◌, ◌≤◌, ◌<◌, Bool, true, false, ◌&&◌, List, [], ◌∷◌, ◌++◌, length, take, refl, ap, sym, ◌∙◌, subst, Option, cond, nat_eq, arith, length-append}
+use Rattle.std.specs.Prelude.{filter, nat_le}
+use Rattle.std.specs.List.{list_any}
+use Rattle.std.proofs.lemmas.Bool.{or_parts, eq-eqb, le-leb, leb-true}
 use Rattle.std.proofs.Math.Seq.{take-append_seam}
 use Rattle.key_kind.specs.declared.key.Key.{Key}
 use Rattle.key_kind.specs.Names.{Name}
 use Rattle.bucket_core.specs.declared.event.Event.{Event}
 use Rattle.bucket_core.specs.declared.event.Event.TheVariants as events
-use Rattle.bucket_core.specs.History.{History, Bytes, author, history_at, event_at, events_within}
-use Rattle.reply_model.specs.Windows.{Window, own_events, refer_places, refers_by_others}
-use Rattle.reply_model.proofs.Places.{history_at_end, within_is_behind, none_of_reversed, none_of_filtered}
-use Rattle.reply_model.proofs.Later.{history_at_later}
-use Rattle.frame_write.specs.Traces.{own_of, met_in, Went}
+use Rattle.bucket_core.specs.History.{History, author, events_within}
+use Rattle.reply_model.specs.Windows.{own_events, refer_places, refers_by_others}
+use Rattle.reply_model.proofs.Places.{within_is_behind, none_of_reversed, none_of_filtered}
+use Rattle.frame_write.specs.Traces.{own_of, met_in}
 
 -- a Refer
 abbrev pub is_refer : Event → Bool
@@ -26,8 +24,8 @@ module _ (old more : History) where
   window_is new is =
       within_is_behind new (length old)
       ∙ subst (λ h. take (length h - length old) h ≡ more) (sym is)
-        (let size : length (more ++ old) - length old ≡ length more = omega (arith, length-append more old) in
-        ap (λ n. take n (more ++ old)) size ∙ take-append_seam more old)
+      (let size : length (more ++ old) - length old ≡ length more = omega (arith, length-append more old) in
+      ap (λ n. take n (more ++ old)) size ∙ take-append_seam more old)
 
 -- the client's events in the window
 pub own_in_window : (client : ℕ) (old new more : History) (faulted : Bool) → new ≡ more ++ old → own_events new client (record { start = length old; stop = length new; faulted = faulted }) ≡ own_of client more

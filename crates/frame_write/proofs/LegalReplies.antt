@@ -1,44 +1,37 @@
 -- The reply made of the result of all tries is legal for each session that brings the frame.
-use Rattle.std.proofs.Common.{◌≡◌, ◌⊎◌, ℕ, suc, ◌+◌, ◌-◌, ◌≤◌, ◌<◌, ℤ, Bool, true, false, List, [], ◌∷◌, ◌++◌, length, refl, ap, sym, ◌∙◌, subst, inl, inr, Option, Some, None, arith, Result, Ok, Err, length-append}
-use Rattle.std.specs.Prelude.{⊤, map, MatchBool, option_map, unwrap_or}
+use Rattle.std.proofs.Common.{◌≡◌, ◌⊎◌, ℕ, suc, ◌+◌, ◌-◌, ◌≤◌, ◌<◌, ℤ, Bool, true, false, List, [], ◌∷◌, ◌++◌, length, refl, ap, sym, ◌∙◌, subst, inr, Option, Some, arith, Ok, Err, length-append}
+use Rattle.std.specs.Prelude.{⊤, map, MatchBool, option_map}
 use Rattle.std.specs.List.{list_any, flat_map, AllByRecursion}
-use Rattle.base_types.specs.Faults.{Rose}
 use Rattle.std.proofs.lemmas.Bool.{true≢false}
 use Rattle.frame_core.specs.Frames.{Frame}
 use Rattle.frame_core.specs.declared.refusal.Refusal.{Refusal}
 use Rattle.frame_core.specs.declared.refusal.Refusal.TheVariants as refusals
-use Rattle.frame_core.specs.declared.refusal.Refused.{Refused}
 use Rattle.key_kind.specs.declared.key.Key.{Key}
 use Rattle.key_kind.specs.Names.{Name}
 use Rattle.bucket_core.specs.declared.event.Event.{Event}
 use Rattle.bucket_core.specs.declared.event.Event.TheVariants as events
-use Rattle.bucket_core.specs.declared.event.Change.{Change}
 use Rattle.bucket_core.specs.declared.event.Change.TheVariants as changes
-use Rattle.bucket_core.specs.History.{History, Bytes, author, history_at, event_at}
+use Rattle.bucket_core.specs.History.{History, Bytes, history_at, event_at}
 use Rattle.store_model.specs.Library.{state_of, next_number}
 use Rattle.reply_model.specs.declared.command.Command.{Command}
 use Rattle.reply_model.specs.declared.command.Command.TheVariants as commands
 use Rattle.reply_model.specs.declared.outcome.Outcome.TheVariants as outcomes
-use Rattle.reply_model.specs.declared.reply.Reply.{Reply}
-use Rattle.reply_model.specs.Answering.{Session, Answer, frame_of, stamp_of, pruned, committed, answered, ◌then◌}
+use Rattle.reply_model.specs.Answering.{Session, frame_of, stamp_of, pruned, committed, answered, ◌then◌}
 use Rattle.reply_model.specs.Answers.{answer}
 use Rattle.reply_model.specs.Windows.{Window, Client, library_at, own_events, refer_places, refers_by_others, is_cut, is_store_fault, AreCommits}
-use Rattle.reply_model.specs.Tries.{put_of, drop_of, one_if, IsTry, IsRefused, IsTurn}
-use Rattle.reply_model.specs.OwnEvents.{AnyMarks, IsBeginning, AreMeant, HasOwnEvents, is_last, is_done}
-use Rattle.reply_model.specs.Legal.{IsLegalOutcome, IsLegalSeen, IsLegalReply}
+use Rattle.reply_model.specs.Tries.{put_of, one_if, IsTry, IsRefused, IsTurn}
+use Rattle.reply_model.specs.OwnEvents.{AnyMarks, IsBeginning, AreMeant, is_last, is_done}
+use Rattle.reply_model.specs.Legal.{IsLegalOutcome, IsLegalSeen}
 use Rattle.reply_model.proofs.Places.{history_at_end}
 use Rattle.reply_model.proofs.Later.{history_at_later}
 use Rattle.reply_model.proofs.Covering.{event_at_end}
-use Rattle.frame_write.specs.declared.options.Committed.{Committed}
-use Rattle.frame_write.specs.Traces.{own_of, met_in, Went}
-use Rattle.frame_write.specs.Stops.{is_fault, StopsAt, HasCause}
+use Rattle.frame_write.specs.Traces.{own_of, met_in}
+use Rattle.frame_write.specs.Stops.{is_fault, StopsAt}
 use Rattle.frame_write.specs.Plans.{changes_on}
-use Rattle.frame_write.specs.Tries.{DidCommit, DidTries, DidRefused, IsMet}
-use Rattle.frame_write.specs.Writes.{Brings, reply_to, IsLegalWrite}
-use Rattle.frame_write.proofs.LegalLemmas.{own_in_window, met_in_window, no_places, no_own_refer, one_place, is_refer}
-use Rattle.frame_write.proofs.TurnLemmas.{done_turn, open_turn, cut_turn}
-use Rattle.frame_write.proofs.ReplyLemmas.{commit_went}
-use Rattle.frame_write.proofs.TraceLemmas.{went_then, went_longer, same_front, append_assoc, met_in-append}
+use Rattle.frame_write.specs.Tries.{IsMet}
+use Rattle.frame_write.specs.Writes.{reply_to}
+use Rattle.frame_write.proofs.LegalLemmas.{own_in_window, met_in_window, one_place}
+use Rattle.frame_write.proofs.TurnLemmas.{done_turn, open_turn}
 
 on_true : {A : Type 0} (B : Type 0) (b : Bool) → b ≡ true → A → MatchBool b A B
 on_true {A} B b is a = subst (λ x. MatchBool x A B) (sym is) a

@@ -16,9 +16,9 @@ use Rattle.bucket_core.specs.declared.event.Event.TheVariants as events
 use Rattle.bucket_core.specs.History.{History, Bytes, history_at, event_at}
 use Rattle.reply_model.specs.declared.command.Command.TheVariants as commands
 use Rattle.reply_model.specs.declared.outcome.Outcome.TheVariants as outcomes
-use Rattle.reply_model.specs.Answering.{Session, Answer, stamp_of, frame_of, committed, answered, ◌then◌}
+use Rattle.reply_model.specs.Answering.{Session, stamp_of, frame_of, committed, answered, ◌then◌}
 use Rattle.reply_model.specs.Answers.{answer}
-use Rattle.reply_model.specs.Windows.{refer_places, refers_by_others, library_at}
+use Rattle.reply_model.specs.Windows.{refer_places, library_at}
 use Rattle.reply_model.specs.Tries.{put_of, drop_of, IsTry, IsRefused, IsTurn}
 use Rattle.reply_model.specs.OwnEvents.{is_last, is_end, IsMeantAt, AnyMarks, IsBeginning}
 use Rattle.reply_model.specs.Legal.{IsLegalSeen}
@@ -37,8 +37,8 @@ use Rattle.bucket_core.specs.declared.event.Change.TheVariants as changes
 use Rattle.store_model.specs.Library.{state_of, next_number}
 use Rattle.reply_model.proofs.Later.{history_at_later}
 use Rattle.reply_model.proofs.Covering.{event_at_end}
-use Rattle.frame_write.specs.Traces.{own_of, met_in, Went}
-use Rattle.frame_write.specs.Stops.{StopsAt, HasCause}
+use Rattle.frame_write.specs.Traces.{met_in, Went}
+use Rattle.frame_write.specs.Stops.{StopsAt}
 use Rattle.frame_write.specs.Tries.{DidCommit, DidTries, DidRefused, DidStop, IsMet, IsPart, no_event, some_puts, some_drops}
 use Rattle.frame_write.proofs.LegalLemmas.{is_refer, no_places, no_own_refer, met_in_window, one_place}
 use Rattle.frame_write.proofs.TurnLemmas.{cut_turn, done_turn, append_none}
@@ -114,7 +114,7 @@ met_sum client sole symbol old mid new first second whole a b w =
 module _ (s : Session) (limit : ℕ) (sole : Bool) (symbol : Name) (frame : Frame) (n : ℕ) (asked : Option ℤ) (prune : Bool) (old new : History) (faulted : Bool) (frame_is : frame_of s n ≡ Some (Ok frame)) where
   pub commit_is_legal : (count : ℕ) (mid : History) (done : Committed) → count < s.tries → (r : DidRefused s.client sole symbol old mid count) → (c : DidCommit s.client sole symbol frame (stamp_of s asked) prune mid new done)
       → IsLegalSeen new (record { session = s; limit = limit }) (commands.Write symbol n asked prune) (record { place = done.place; listed = None; commits = done.place ∷ []; left = []; outcome = outcomes.Committed done.version })
-        (record { start = length old; stop = length new; faulted = faulted })
+      (record { start = length old; stop = length new; faulted = faulted })
   commit_is_legal count mid done few r c =
       let w = went_then s.client sole old mid new (flat_map (λ t. t) r.tries) (map (put_of s.client) c.puts ++ events.Refer s.client symbol c.was c.entry _ ∷ []) r.went (commit_went s.client sole symbol frame (stamp_of s asked) prune mid new done c) in
       let sum = met_sum s.client sole symbol old mid new (flat_map (λ t. t) r.tries) _ _ r.went (commit_went s.client sole symbol frame (stamp_of s asked) prune mid new done c) w in
@@ -126,7 +126,7 @@ module _ (s : Session) (limit : ℕ) (sole : Bool) (symbol : Name) (frame : Fram
 
   pub moved_is_legal : (place : ℕ) (r : DidRefused s.client sole symbol old new s.tries) → IsMet s.client symbol old new place
       → IsLegalSeen new (record { session = s; limit = limit }) (commands.Write symbol n asked prune) (record { place = place; listed = None; commits = []; left = []; outcome = outcomes.Refused (refusals.Moved place) })
-        (record { start = length old; stop = length new; faulted = faulted })
+      (record { start = length old; stop = length new; faulted = faulted })
   moved_is_legal place r m =
       moved_legal s limit symbol frame n asked prune old new faulted frame_is place r.went.more r.tries r.refused r.counted r.went.is (omega (arith, r.counted, r.met)) r.went.own_are m
       (places_none s.client sole old new (flat_map (λ t. t) r.tries) r.went (tries_no_refer s.client symbol r.tries r.refused))
@@ -163,7 +163,7 @@ module _ (s : Session) (limit : ℕ) (sole : Bool) (symbol : Name) (frame : Fram
   module _ (before now : ℕ) (rises : Rose before now → faulted ≡ true) (count : ℕ) (mid : History) (few : count < s.tries) (r : DidRefused s.client sole symbol old mid count) (place : ℕ) where
     pub no_memory_is_legal : (d : DidStop s.client sole symbol limit before now mid new (record { place = place; why = refusals.NoMemory }))
         → IsLegalSeen new (record { session = s; limit = limit }) (commands.Write symbol n asked prune) (record { place = place; listed = None; commits = []; left = []; outcome = outcomes.Refused refusals.NoMemory })
-          (record { start = length old; stop = length new; faulted = faulted })
+        (record { start = length old; stop = length new; faulted = faulted })
     no_memory_is_legal d =
         let w = stop_went before now rises count mid few r place refusals.NoMemory d in
         cut_legal s limit symbol frame n asked prune old new faulted frame_is place refusals.NoMemory w.more (flat_map (λ t. t) r.tries ++ d.own) w.is w.own_are
@@ -172,7 +172,7 @@ module _ (s : Session) (limit : ℕ) (sole : Bool) (symbol : Name) (frame : Fram
 
     pub fault_is_legal : (d : DidStop s.client sole symbol limit before now mid new (record { place = place; why = refusals.StoreFault }))
         → IsLegalSeen new (record { session = s; limit = limit }) (commands.Write symbol n asked prune) (record { place = place; listed = None; commits = []; left = []; outcome = outcomes.Refused refusals.StoreFault })
-          (record { start = length old; stop = length new; faulted = faulted })
+        (record { start = length old; stop = length new; faulted = faulted })
     fault_is_legal d =
         let w = stop_went before now rises count mid few r place refusals.StoreFault d in
         let none = stop_places before now rises count mid few r place refusals.StoreFault d in
@@ -182,7 +182,7 @@ module _ (s : Session) (limit : ℕ) (sole : Bool) (symbol : Name) (frame : Fram
 
     pub spent_is_legal : (full : ℕ) → (d : DidStop s.client sole symbol limit before now mid new (record { place = place; why = refusals.Spent full }))
         → IsLegalSeen new (record { session = s; limit = limit }) (commands.Write symbol n asked prune) (record { place = place; listed = None; commits = []; left = []; outcome = outcomes.Refused (refusals.Spent full) })
-          (record { start = length old; stop = length new; faulted = faulted })
+        (record { start = length old; stop = length new; faulted = faulted })
     spent_is_legal full d =
         let w = stop_went before now rises count mid few r place (refusals.Spent full) d in
         let at = stop_at before now rises count mid few r place (refusals.Spent full) d in
@@ -192,13 +192,17 @@ module _ (s : Session) (limit : ℕ) (sole : Bool) (symbol : Name) (frame : Fram
         (record {
           here = d.cause.1;
           full = d.cause.0.1;
-          busy = inr (place, omega (arith, at.place, at.later), omega arith,
-              subst MarksAt (sym (answer_is s limit symbol frame n asked prune old new faulted frame_is place place)) (inl (λ e. absurd cc)));
+          busy = inr (
+            place,
+            omega (arith, at.place, at.later),
+            omega arith,
+            subst MarksAt (sym (answer_is s limit symbol frame n asked prune old new faulted frame_is place place)) (inl (λ e. absurd cc)),
+          );
         })
 
     pub stop_is_legal : (why : Refusal) → DidStop s.client sole symbol limit before now mid new (record { place = place; why = why })
         → IsLegalSeen new (record { session = s; limit = limit }) (commands.Write symbol n asked prune) (record { place = place; listed = None; commits = []; left = []; outcome = outcomes.Refused why })
-          (record { start = length old; stop = length new; faulted = faulted })
+        (record { start = length old; stop = length new; faulted = faulted })
     stop_is_legal refusals.NoMemory d = no_memory_is_legal d
     stop_is_legal refusals.StoreFault d = fault_is_legal d
     stop_is_legal (refusals.Spent full) d = spent_is_legal full d
@@ -225,7 +229,7 @@ module _ (s : Session) (limit : ℕ) (sole : Bool) (symbol : Name) (frame : Fram
     -- the store failed, and the commit stands
     pub faulted_is_legal : (done : Committed) → (c : DidCommit s.client sole symbol frame (stamp_of s asked) prune mid new done) → StopsAt s.client mid new (record { place = place; why = refusals.StoreFault }) → Rose before now
         → IsLegalSeen new (record { session = s; limit = limit }) (commands.Write symbol n asked prune) (record { place = place; listed = None; commits = []; left = []; outcome = outcomes.Refused refusals.StoreFault })
-          (record { start = length old; stop = length new; faulted = faulted })
+        (record { start = length old; stop = length new; faulted = faulted })
     faulted_is_legal done c stops rose =
         let cw = commit_went s.client sole symbol frame (stamp_of s asked) prune mid new done c in
         let w = went_then s.client sole old mid new (flat_map (λ t. t) r.tries) (map (put_of s.client) c.puts ++ events.Refer s.client symbol c.was c.entry (changes_on c.before symbol frame (stamp_of s asked) prune) ∷ []) r.went cw in
@@ -241,13 +245,16 @@ module _ (s : Session) (limit : ℕ) (sole : Bool) (symbol : Name) (frame : Fram
         let earlier : history_at new (suc (length c.before) - 1) ≡ c.before =
         ap (λ h. history_at h (suc (length c.before) - 1)) c.newest ∙ (ap (history_at (events.Refer s.client symbol c.was c.entry (changes_on c.before symbol frame (stamp_of s asked) prune) ∷ c.before)) back ∙ (history_at_later c.before (events.Refer s.client symbol c.was c.entry (changes_on c.before symbol frame (stamp_of s asked) prune) ∷ []) (length c.before) (omega arith) ∙ history_at_end c.before)) in
         let answers : answer s (library_at new (suc (length c.before))) (library_at new (suc (length c.before) - 1)) (suc (length c.before) - 1) (commands.Write symbol n asked prune)
-          ≡ Some (record { outcome = outcomes.Committed (next_number (state_of c.before symbol)); marks = (changes_on c.before symbol frame (stamp_of s asked) prune) }) =
+        ≡ Some (record { outcome = outcomes.Committed (next_number (state_of c.before symbol)); marks = (changes_on c.before symbol frame (stamp_of s asked) prune) }) =
         ap (option_map (λ f. answered (f then (λ g. Ok (committed (state_of (history_at new (suc (length c.before) - 1)) symbol) prune (changes.Wrote g (stamp_of s asked))))))) frame_is
         ∙ ap (λ h. Some (committed (state_of h symbol) prune (changes.Wrote frame (stamp_of s asked)))) earlier in
         let event : event_at new (suc (length c.before)) ≡ Some (events.Refer s.client symbol c.was c.entry (changes_on c.before symbol frame (stamp_of s asked) prune)) = ap (λ h. event_at h (suc (length c.before))) c.newest ∙ event_at_end (events.Refer s.client symbol c.was c.entry (changes_on c.before symbol frame (stamp_of s asked) prune)) c.before in
         cut_legal s limit symbol frame n asked prune old new faulted frame_is place refusals.StoreFault w.more (flat_map (λ t. t) r.tries ++ (map (put_of s.client) c.puts ++ events.Refer s.client symbol c.was c.entry (changes_on c.before symbol frame (stamp_of s asked) prune) ∷ [])) w.is w.own_are
-        (inl (record { more = []; whole = subst (IsTurn new s (record { start = length old; stop = length new; faulted = faulted }) symbol true true AnyMarks) (sym (append_none (flat_map (λ t. t) r.tries ++ (map (put_of s.client) c.puts ++ events.Refer s.client symbol c.was c.entry (changes_on c.before symbol frame (stamp_of s asked) prune) ∷ []))))
-            (done_turn new s (record { start = length old; stop = length new; faulted = faulted }) symbol r.tries r.refused (omega (arith, r.counted, r.met, sum, here)) (omega (arith, r.counted, few)) c.puts c.was c.entry (changes_on c.before symbol frame (stamp_of s asked) prune) c.is_try) }))
+        (inl (record {
+          more = [];
+          whole = subst (IsTurn new s (record { start = length old; stop = length new; faulted = faulted }) symbol true true AnyMarks) (sym (append_none (flat_map (λ t. t) r.tries ++ (map (put_of s.client) c.puts ++ events.Refer s.client symbol c.was c.entry (changes_on c.before symbol frame (stamp_of s asked) prune) ∷ []))))
+              (done_turn new s (record { start = length old; stop = length new; faulted = faulted }) symbol r.tries r.refused (omega (arith, r.counted, r.met, sum, here)) (omega (arith, r.counted, few)) c.puts c.was c.entry (changes_on c.before symbol frame (stamp_of s asked) prune) c.is_try);
+        }))
         (record { after = stops.after; before = stops.before; split = stops.split; place = stops.place; later = omega (arith, early, stops.later); few = stops.few }) refl refl
         (inr (suc (length c.before), places)) (λ f. absurd (true≢false f))
         (subst (AllByRecursion (IsMeantAt new s (commands.Write symbol n asked prune) (record { place = place; listed = None; commits = []; left = []; outcome = outcomes.Refused refusals.StoreFault }))) (sym places)

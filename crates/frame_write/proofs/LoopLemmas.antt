@@ -1,20 +1,19 @@
 -- How several puts and drops go on, one by one.
-use Rattle.std.proofs.Common.{◌≡◌, ◌⊎◌, ℕ, suc, ◌+◌, ◌≤◌, Bool, true, false, List, [], ◌∷◌, ◌++◌, length, take, drop, refl, ap, sym, ◌∙◌, subst, inl, inr, Option, Some, None, cond, nat_eq, arith}
+use Rattle.std.proofs.Common.{◌≡◌, ℕ, suc, ◌+◌, ◌≤◌, Bool, false, List, [], ◌∷◌, ◌++◌, length, take, drop, refl, ap, sym, ◌∙◌, subst, inl, inr, Some, cond, arith}
 use Rattle.std.specs.Prelude.{map, slice_get}
 use Rattle.std.specs.List.{AllByRecursion}
-use Rattle.std.proofs.lemmas.Bool.{true≢false, eq-eqb, ne_eqb, and_parts, eqb-true}
+use Rattle.std.proofs.lemmas.Bool.{eq-eqb}
 use mathlib.Core.Logic.{∥∥₁_map}
 use Rattle.frame_core.specs.declared.refusal.Refused.{Refused}
 use Rattle.key_kind.specs.declared.key.Key.{Key}
 use Rattle.key_kind.specs.Keys.{same_key}
 use Rattle.key_kind.proofs.KeyTests.{same_key_is}
 use Rattle.bucket_core.specs.declared.event.Event.{Event}
-use Rattle.bucket_core.specs.History.{History, Bytes, author, puts_by, AllByOthers}
+use Rattle.bucket_core.specs.History.{History, Bytes, puts_by, AllByOthers}
 use Rattle.bucket_core.specs.Laws.{Adds}
-use Rattle.bucket_core.specs.Calls.{IsSteady, put_event, drop_event}
+use Rattle.bucket_core.specs.Calls.{put_event, drop_event}
 use Rattle.store_model.specs.Law.{IsClaimed, IsLawful}
 use Rattle.store_model.specs.OwnPuts.{IsOwnPut, AreOwnPuts}
-use Rattle.store_model.proofs.Lists.{all_weaker}
 use Rattle.store_model.proofs.Stability.{is_false, puts_other}
 use Rattle.store_model.proofs.Told.{own_puts_stay, own_puts_grow}
 use Rattle.store_model.proofs.OwnPuts.{own_at_drop}
@@ -25,7 +24,7 @@ use Rattle.frame_write.specs.PutCalls.{StoppedCall, StoppedCalls}
 use Rattle.frame_write.specs.Plans.{IsPutAt, ArePutsFrom}
 use Rattle.frame_write.specs.Loops.{PutSoFar, DroppedSoFar}
 use Rattle.frame_write.proofs.ListLemmas.{drop_at, take_at, all_last, map_append}
-use Rattle.frame_write.proofs.TraceLemmas.{went_none, went_then, went_adds, went_as, went_longer, append_assoc}
+use Rattle.frame_write.proofs.TraceLemmas.{went_none, went_then, went_adds, went_as, went_longer}
 
 -- others' events leave the number of the client's puts
 puts_beside : (client : ℕ) (h more : History) → AllByOthers client more → puts_by client (more ++ h) ≡ puts_by client h

@@ -1,23 +1,22 @@
 -- Where another's Refer of the symbol was added: its place, and how many there are.
-use Rattle.std.proofs.Common.{◌≡◌, ℕ, suc, ◌+◌, ◌≤◌, ◌<◌, Bool, true, false, ◌&&◌, ◌||◌, not, List, [], ◌∷◌, ◌++◌, length, refl, ap, sym, ◌∙◌, subst, inl, inr, Some, cond, nat_eq, arith, length-append}
+use Rattle.std.proofs.Common.{◌≡◌, ℕ, suc, ◌+◌, ◌≤◌, Bool, true, false, ◌&&◌, ◌||◌, not, List, [], ◌∷◌, ◌++◌, length, refl, ap, sym, ◌∙◌, subst, cond, nat_eq, arith, length-append}
 use Rattle.std.specs.Prelude.{map, filter}
 use Rattle.std.specs.List.{list_any}
-use Rattle.std.proofs.lemmas.Bool.{true≢false, or_parts, or_from, or_right, and_from, and_left, eq-eqb, ne_eqb}
+use Rattle.std.proofs.lemmas.Bool.{true≢false, or_parts, or_from, and_from, and_left, eq-eqb, ne_eqb}
 use Rattle.std.proofs.lemmas.List.Folds.{list_any-append}
 use Rattle.segment_cut.proofs.Lists.{count_by-cons, count_by-yes}
 use Rattle.key_kind.specs.declared.key.Key.{Key}
-use Rattle.key_kind.specs.Names.{Name, same_name}
+use Rattle.key_kind.specs.Names.{Name}
 use Rattle.bucket_core.specs.declared.event.Event.{Event}
 use Rattle.bucket_core.specs.declared.event.Event.TheVariants as events
-use Rattle.bucket_core.specs.History.{History, Bytes, author, event_at, referred_at, AllByOthers}
+use Rattle.bucket_core.specs.History.{History, Bytes, author, referred_at, AllByOthers}
 use Rattle.bucket_core.specs.Laws.{refers}
-use Rattle.reply_model.specs.Tries.{put_of, drop_of}
+use Rattle.reply_model.specs.Tries.{put_of}
 use Rattle.reply_model.proofs.Covering.{event_at_later, event_at_end}
 use Rattle.reply_model.proofs.Places.{none_of_reversed, none_of_filtered}
 use Rattle.store_model.proofs.Stability.{is_false}
 use Rattle.frame_write.specs.Traces.{own_of, met_in}
 use Rattle.frame_write.specs.Tries.{IsMet}
-use Rattle.frame_write.proofs.TraceLemmas.{met_in-append}
 
 -- the client's own Refers of the symbol
 abbrev pub own_refers : ℕ → Name → Event → Bool

@@ -1,12 +1,10 @@
 -- The reply made of the result of all tries is legal.
-use Rattle.std.proofs.Common.{◌≡◌, ◌⊎◌, ℕ, suc, ◌+◌, ◌-◌, ◌≤◌, ◌<◌, ℤ, Bool, true, false, List, [], ◌∷◌, ◌++◌, length, refl, ap, sym, ◌∙◌, subst, inl, inr, Option, Some, None, cond, nat_eq, arith, Result, Ok, Err, length-append}
-use Rattle.std.specs.Prelude.{map, filter, reverse, option_map, MatchBool}
-use Rattle.std.specs.List.{list_any, flat_map, AllByRecursion}
-use Rattle.std.proofs.lemmas.Bool.{true≢false, eqb-true}
+use Rattle.std.proofs.Common.{◌≡◌, ℕ, ℤ, Bool, true, false, List, [], ◌∷◌, ◌++◌, refl, ap, sym, ◌∙◌, subst, inl, inr, cond, nat_eq, Result, Ok, Err}
+use Rattle.std.specs.Prelude.{map, filter, reverse}
+use Rattle.std.specs.List.{AllByRecursion}
+use Rattle.std.proofs.lemmas.Bool.{eqb-true}
 use Rattle.std.proofs.lemmas.List.{reverse-reverse, reverse-append}
 use Rattle.frame_core.specs.Frames.{Frame}
-use Rattle.frame_core.specs.declared.refusal.Refusal.{Refusal}
-use Rattle.frame_core.specs.declared.refusal.Refusal.TheVariants as refusals
 use Rattle.frame_core.specs.declared.refusal.Refused.{Refused}
 use Rattle.key_kind.specs.Names.{Name}
 use Rattle.bucket_core.specs.declared.event.Event.{Event}
@@ -14,7 +12,7 @@ use Rattle.bucket_core.specs.declared.event.Event.TheVariants as events
 use Rattle.bucket_core.specs.History.{History, author}
 use Rattle.reply_model.specs.Tries.{put_of}
 use Rattle.frame_write.specs.declared.options.Committed.{Committed}
-use Rattle.frame_write.specs.Traces.{own_of, Went}
+use Rattle.frame_write.specs.Traces.{Went}
 use Rattle.frame_write.specs.Plans.{changes_on}
 use Rattle.frame_write.specs.Tries.{DidCommit, DidTries}
 use Rattle.frame_write.specs.Writes.{GoesOn}

@@ -1,5 +1,5 @@
 -- What is said of a bucket as it is between two calls holds of it as it was before them.
-use Rattle.std.proofs.Common.{◌≡◌, ℕ, ◌≤◌, ◌+◌, Bool, true, false, List, [], ◌∷◌, inl, inr, subst, sym, ◌∙◌, Result, Ok, Err, arith}
+use Rattle.std.proofs.Common.{◌≡◌, ℕ, ◌≤◌, Bool, List, [], ◌∷◌, inl, inr, subst, sym, ◌∙◌, Result, Ok, Err, arith}
 use Rattle.std.specs.Result.{IsErr, IsErrAnd}
 use Rattle.base_types.specs.Faults.{Rose}
 use Rattle.frame_core.specs.declared.refusal.Refusal.{Refusal}

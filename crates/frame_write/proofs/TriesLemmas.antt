@@ -1,6 +1,6 @@
 -- Several tries, one after another.
-use Rattle.std.proofs.Common.{◌≡◌, ℕ, ◌+◌, ◌≤◌, ◌<◌, ℤ, Bool, true, false, List, [], ◌∷◌, ◌++◌, length, refl, ap, sym, ◌∙◌, subst, inl, inr, arith, Result, Ok, Err, length-append}
-use Rattle.std.specs.List.{flat_map, AllByRecursion}
+use Rattle.std.proofs.Common.{◌≡◌, ℕ, ◌+◌, ℤ, Bool, true, List, [], ◌∷◌, ◌++◌, length, refl, ap, sym, ◌∙◌, subst, inl, inr, arith, Result, Ok, Err, length-append}
+use Rattle.std.specs.List.{flat_map}
 use Rattle.frame_core.specs.Frames.{Frame}
 use Rattle.frame_core.specs.declared.refusal.Refused.{Refused}
 use Rattle.key_kind.specs.Names.{Name}
@@ -12,8 +12,7 @@ use Rattle.frame_write.specs.declared.attempt.Tried.{Tried}
 use Rattle.frame_write.specs.declared.attempt.Tried.TheVariants as tried
 use Rattle.frame_write.specs.declared.options.Committed.{Committed}
 use Rattle.frame_write.specs.Traces.{met_in, Went}
-use Rattle.frame_write.specs.Stops.{HasCause}
-use Rattle.frame_write.specs.Tries.{DidCommit, DidMeet, DidStop, DidCommitFaulted, DidTry, DidRefused, IsMet}
+use Rattle.frame_write.specs.Tries.{DidCommit, DidMeet, DidTry, DidRefused, IsMet}
 use Rattle.frame_write.proofs.ListLemmas.{all_last}
 use Rattle.frame_write.proofs.TraceLemmas.{append_assoc, went_none, went_then, went_as, went_longer, same_front, met_in-append}
 use Rattle.frame_write.proofs.MeetLemmas.{met_sooner}

@@ -1,6 +1,6 @@
 -- How far several puts and drops have come.
 --     PutSoFar, DroppedSoFar      the first ones are made, and the others may be
-use Rattle.std.specs.Prelude.{◌≡◌, ℕ, Bool, List, map, take, drop}
+use Rattle.std.specs.Prelude.{ℕ, Bool, List, map, take, drop}
 use Rattle.key_kind.specs.declared.key.Key.{Key}
 use Rattle.bucket_core.specs.History.{History, Bytes, puts_by}
 use Rattle.store_model.specs.OwnPuts.{AreOwnPuts}

@@ -3,13 +3,12 @@
 --     Brings              a session that brings the frame of a write, with its client, tries and stamp
 --     reply_to            the result as a reply
 --     IsLegalWrite        the reply is legal for each such session
-use Rattle.std.specs.Prelude.{◌≡◌, ℕ, ℤ, Bool, true, List, [], ◌∷◌, ◌++◌, length, Option, Some, None, Result, Ok, Err}
+use Rattle.std.specs.Prelude.{◌≡◌, ℕ, ℤ, Bool, true, [], ◌∷◌, ◌++◌, length, Option, Some, None, Result, Ok, Err}
 use Rattle.std.specs.List.{AllByRecursion}
 use Rattle.base_types.specs.Faults.{Rose}
 use Rattle.frame_core.specs.Frames.{Frame}
 use Rattle.frame_core.specs.declared.refusal.Refused.{Refused}
 use Rattle.key_kind.specs.Names.{Name}
-use Rattle.bucket_core.specs.declared.event.Event.{Event}
 use Rattle.bucket_core.specs.History.{History, author}
 use Rattle.store_model.specs.Law.{IsLawful}
 use Rattle.reply_model.specs.declared.command.Command.TheVariants as commands
@@ -43,4 +42,4 @@ abbrev pub IsLegalWrite : ℕ → ℕ → ℕ → Name → Frame → ℤ → Boo
 IsLegalWrite limit client tries symbol frame at prune before now old new result =
     (s : Session) (n : ℕ) (asked : Option ℤ) (faulted : Bool) → Brings s client tries n frame asked at → (Rose before now → faulted ≡ true)
     → IsLegalReply new (record { session = s; limit = limit }) (commands.Write symbol n asked prune) (reply_to result)
-      (record { start = length old; stop = length new; faulted = faulted })
+    (record { start = length old; stop = length new; faulted = faulted })

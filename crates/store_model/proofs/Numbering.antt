@@ -1,15 +1,15 @@
 -- The numbers of a symbol's versions rise, and so do those of its live ones.
-use Rattle.std.proofs.Common.{◌≡◌, ℕ, suc, ◌<◌, ◌≤◌, Bool, true, false, ◌||◌, ◌&&◌, not, List, [], ◌∷◌, ◌++◌, refl, ap, sym, ◌∙◌, subst, inl, inr, Some, None, cond, nat_eq, arith}
+use Rattle.std.proofs.Common.{◌≡◌, ℕ, suc, ◌<◌, Bool, true, false, not, List, [], ◌∷◌, ◌++◌, refl, sym, subst, cond, nat_eq, arith}
 use Rattle.std.specs.Prelude.{⊤, Contains, filter, fold, map, reverse}
-use Rattle.std.specs.List.{list_any, AllByRecursion}
-use Rattle.std.proofs.lemmas.Bool.{true≢false, and_from, eq-eqb}
+use Rattle.std.specs.List.{AllByRecursion}
+use Rattle.std.proofs.lemmas.Bool.{and_from, eq-eqb}
 use Rattle.std.proofs.lemmas.List.{reverse-append}
 use Rattle.key_kind.specs.Names.{Name, same_name}
 use Rattle.bucket_core.specs.declared.event.Change.{Change}
 use Rattle.bucket_core.specs.declared.event.Change.TheVariants as changes
 use Rattle.bucket_core.specs.declared.event.Event.TheVariants as events
 use Rattle.bucket_core.specs.History.{History}
-use Rattle.store_model.specs.Library.{State, Version, state_of, number_after, after_change, is_buried, is_linked, is_live, live_versions}
+use Rattle.store_model.specs.Library.{State, Version, state_of, number_after, after_change, is_buried, is_live, live_versions}
 use Rattle.store_model.specs.Commits.{Rising, IsFilled, FitsRemoved}
 use Rattle.store_model.proofs.Lists.{contains_first, contains_later, filter_in, passes, all_weaker}
 

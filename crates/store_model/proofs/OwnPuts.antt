@@ -31,7 +31,7 @@ use Rattle.store_model.proofs.Lists.{contains_cases, contains_none, one_passes, 
 use Rattle.store_model.proofs.Histories.{put_stays, stands_from}
 use Rattle.store_model.proofs.Putting.{put_is_new}
 use Rattle.store_model.proofs.Dropping.{it_is_reached}
-use Rattle.store_model.proofs.Referring.{at_symbol, linked_row}
+use Rattle.store_model.proofs.Referring.{at_symbol}
 use Rattle.store_model.proofs.Lawful.{lawful_is_intact, lawful_as_put}
 use Rattle.store_model.proofs.Stability.{is_false, unreached_stays, no_entry_stays}
 use Rattle.store_model.proofs.StableRefer.{stored_stays}

@@ -1,7 +1,7 @@
 -- The same where a history is only known to be lawful, and not why.
 use Rattle.std.proofs.Common.{◌≡◌, true, false, List, [], ◌∷◌, ◌++◌, Option, Some, None, ℕ}
 use denote.Struct.Props.{props}
-use Rattle.std.specs.List.{list_any, AllByRecursion}
+use Rattle.std.specs.List.{list_any}
 use mathlib.Core.HLevel.{⊥_prop}
 use mathlib.Core.Logic.{∥∥₁_elim}
 use Rattle.key_kind.specs.declared.key.Key.{Key}
@@ -9,8 +9,8 @@ use Rattle.key_kind.specs.Names.{Name}
 use Rattle.bucket_core.specs.declared.event.Event.TheVariants as events
 use Rattle.bucket_core.specs.History.{History, Bytes, reference, AllByOthers}
 use Rattle.bucket_core.specs.Laws.{refers}
-use Rattle.bucket_core.specs.Calls.{was_entry, HasMovedOn}
-use Rattle.store_model.specs.Law.{IsLawful, MayPut}
+use Rattle.bucket_core.specs.Calls.{HasMovedOn}
+use Rattle.store_model.specs.Law.{IsLawful}
 use Rattle.store_model.specs.OwnPuts.{IsOwnPut, AreOwnPuts, IsTableKind}
 use Rattle.store_model.proofs.OwnPuts.{put_is_own, own_puts_at_put, own_puts_beside}
 use Rattle.store_model.proofs.Untouched.{has_moved_on, another_reference}

@@ -2,7 +2,7 @@
 use Rattle.std.proofs.Common.{◌≡◌, ℕ, true, false, ◌||◌, ◌&&◌, List, [], ◌∷◌, ◌++◌, refl, ap, sym, ◌∙◌, subst, inl, inr, Option, Some, None, cond}
 use Rattle.std.specs.Prelude.{is_some}
 use Rattle.std.specs.List.{list_any}
-use Rattle.std.proofs.lemmas.Bool.{true≢false, or_parts, or_left, or_right, and_from}
+use Rattle.std.proofs.lemmas.Bool.{true≢false, or_parts, or_left, or_right}
 use Rattle.key_kind.specs.declared.key.Key.{Key}
 use Rattle.key_kind.specs.Names.{Name, same_name}
 use Rattle.key_kind.specs.Keys.{same_key, reference_key}
@@ -13,7 +13,7 @@ use Rattle.bucket_core.specs.History.{History, Bytes, reference}
 use Rattle.bucket_core.specs.Laws.{refers}
 use Rattle.bucket_core.specs.Calls.{was_entry, HasMovedOn, MayTryDrop}
 use Rattle.store_model.specs.Library.{Piece, state_of}
-use Rattle.store_model.specs.Links.{Linked, links, entries}
+use Rattle.store_model.specs.Links.{links, entries}
 use Rattle.store_model.specs.Law.{IsLawful, IsClaimed}
 use Rattle.store_model.specs.OwnPuts.{IsOwnPut}
 use Rattle.store_model.proofs.StableRefer.{staging, state_stays, links_stay, entries_stay}

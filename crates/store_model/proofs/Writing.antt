@@ -1,16 +1,14 @@
 -- A Refer of a whole new frame may be tried: once its tiles, its index and its element are put, it may follow, or the reference has moved on.
-use Rattle.std.proofs.Common.{◌≡◌, ℕ, Bool, true, false, List, [], ◌∷◌, ◌++◌, refl, ap, sym, ◌∙◌, subst, inl, inr, Option, Some, None, Ok}
-use Rattle.std.specs.Prelude.{ℤ, IfSome, is_some, map, reverse, length, option_map, option_and_then}
+use Rattle.std.proofs.Common.{◌≡◌, ℕ, true, false, List, [], ◌∷◌, ◌++◌, refl, ap, sym, ◌∙◌, subst, inl, inr, Option, Some}
+use Rattle.std.specs.Prelude.{ℤ, is_some, map, reverse, length, option_map, option_and_then}
 use Rattle.std.specs.List.{list_any, AllByRecursion}
 use Rattle.byte_fields.specs.Reading.{read_of}
 use Rattle.frame_core.specs.Frames.{Frame}
 use Rattle.frame_core.specs.Limits.{IsStorable}
 use Rattle.segment_bytes.specs.Segments.{segment_of}
-use Rattle.segment_cut.specs.Tiles.{Tile, cut, Tiled}
+use Rattle.segment_cut.specs.Tiles.{Tile, cut}
 use Rattle.index_tree.specs.declared.index.Slot.{Slot}
-use Rattle.index_tree.specs.declared.index.Index.{Index}
 use Rattle.index_tree.specs.IndexText.{index_of}
-use Rattle.key_kind.specs.declared.key.KeyKind.TheVariants as kinds
 use Rattle.key_kind.specs.declared.key.Key.{Key}
 use Rattle.key_kind.specs.Names.{Name}
 use Rattle.key_kind.specs.Keys.{same_key}
@@ -20,14 +18,12 @@ use Rattle.bucket_core.specs.History.{History, Bytes, body_put, reference}
 use Rattle.bucket_core.specs.Laws.{refers}
 use Rattle.bucket_core.specs.Calls.{HasMovedOn, MayTryRefer}
 use Rattle.store_model.specs.declared.chain.LinkRow.{LinkRow}
-use Rattle.store_model.specs.declared.chain.Entry.{Entry}
 use Rattle.store_model.specs.ChainText.{entry_of}
 use Rattle.store_model.specs.Library.{State, Version, Piece, state_of, live_versions, next_number, version_of}
-use Rattle.store_model.specs.Links.{Linked, linked, element, frame_put, index_put, tiles_put, with_tile, entries}
-use Rattle.store_model.specs.Commits.{MayRefer, FitsLink, FitsChange, MayNameKey, IsFresh, HasSlotStamps, IsCommit, making, Buries, no_tombs, some_tombs, no_pieces, BuriesAll, IsFilled, marks_of}
+use Rattle.store_model.specs.Links.{linked, frame_put, index_put, tiles_put, with_tile, entries}
+use Rattle.store_model.specs.Commits.{MayRefer, FitsLink, FitsChange, MayNameKey, HasSlotStamps, making, Buries, no_tombs, some_tombs, no_pieces, BuriesAll, marks_of}
 use Rattle.store_model.specs.Law.{IsClaimed}
-use Rattle.store_model.specs.OwnPuts.{IsOwnPut, IsPutSlot, IsPutLink, IsPutEntry, BuriesLive, buries_none, buries_live, slots_of}
-use Rattle.store_model.proofs.Lists.{all_weaker}
+use Rattle.store_model.specs.OwnPuts.{IsPutSlot, IsPutLink, IsPutEntry, BuriesLive, buries_none, buries_live, slots_of}
 use Rattle.store_model.proofs.Numbering.{versions_numbered, live_may_be_buried}
 use Rattle.store_model.proofs.Untouched.{as_it_was}
 use Rattle.store_model.proofs.StableRefer.{staging}

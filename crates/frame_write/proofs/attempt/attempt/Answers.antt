@@ -2,7 +2,6 @@ use Rattle.std.proofs.Common.{true, ap, inl, subst, sym, ◌∙◌, refl, Ok, Er
 use Rattle.std.specs.Prelude.{map, option_copied}
 use Rattle.std.specs.Arc.{arc_value}
 use Rattle.bucket_core.specs.declared.answer.StoreErr.{StoreErr}
-use Rattle.bucket_core.specs.declared.answer.StoreErr.TheVariants as errs
 use Rattle.bucket_core.specs.Calls.{MayTryRefer, refer_event, RefusesRefer, DidChange}
 use Rattle.store_model.specs.Law.{IsClaimed}
 use Rattle.reply_model.specs.Tries.{put_of, drop_of, IsTry}
@@ -12,7 +11,7 @@ use Rattle.frame_write.specs.PutCalls.{PutAll, StoppedCalls}
 use Rattle.frame_write.specs.Plans.{IsPlan, puts_seen}
 use Rattle.frame_write.specs.Tries.{DidTry, DidFail}
 use Rattle.frame_write.specs.Stops.{refused_by}
-use Rattle.frame_write.proofs.SteadyLemmas.{on_err, steady_then, grown_steady, change_steady, puts_steady, stops_steady, went_steady}
+use Rattle.frame_write.proofs.SteadyLemmas.{on_err, steady_then, change_steady, puts_steady, stops_steady, went_steady}
 use Rattle.frame_write.proofs.AttemptLemmas.{walk_stops, plan_stops, puts_stop, refer_may, commit_stands, refer_fails, still_own, try_met, drops_stop}
 use Rattle.frame_write.proofs.attempt.attempt.Goals as goal
 

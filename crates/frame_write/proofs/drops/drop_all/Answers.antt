@@ -1,7 +1,6 @@
-use Rattle.std.proofs.Common.{◌≡◌, sym, subst, ap, ◌∙◌, ◌<◌, length, rules, ℕ, [], ◌∷◌}
+use Rattle.std.proofs.Common.{sym, subst, ◌<◌, length, rules, ℕ, [], ◌∷◌}
 use Rattle.std.specs.Prelude.{map}
 use Rattle.std.specs.List.{take-map}
-use Rattle.bucket_core.specs.declared.event.Event.{Event}
 use Rattle.std.specs.Arc.{arc_value}
 use Rattle.store_model.specs.OwnPuts.{IsOwnPut}
 use Rattle.reply_model.specs.Tries.{drop_of}

@@ -1,5 +1,3 @@
-use Rattle.std.proofs.Common.{refl}
-use Rattle.bucket_core.specs.Calls.{put_event}
 use Rattle.frame_write.proofs.CallLemmas.{put_refused}
 use Rattle.frame_write.proofs.puts.put_one.Goals as goal
 

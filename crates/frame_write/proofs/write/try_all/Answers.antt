@@ -1,7 +1,5 @@
-use Rattle.std.proofs.Common.{ℕ, ◌<◌, inl, inr, subst, Ok, Err, rules, Result}
-use Rattle.frame_core.specs.declared.refusal.Refused.{Refused}
+use Rattle.std.proofs.Common.{◌<◌, inr, subst, Ok, Err, rules}
 use Rattle.frame_write.specs.declared.attempt.Tried.{Tried}
-use Rattle.frame_write.specs.declared.attempt.Tried.TheVariants as tried
 use Rattle.frame_write.specs.Tries.{DidTry, DidTries}
 use Rattle.frame_write.proofs.SteadyLemmas.{on_err, steady_then}
 use Rattle.frame_write.proofs.TriesLemmas.{tries_more, last_met, try_steady}
