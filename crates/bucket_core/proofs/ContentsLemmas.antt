@@ -14,7 +14,6 @@ use Rattle.key_kind.specs.KeyOrder.{same_key_equiv, same_key_ties}
 use Rattle.key_kind.proofs.KeyTests.{same_key_is, same_key_self}
 use Rattle.bucket_core.specs.declared.entry.Entry.{Entry}
 use Rattle.bucket_core.specs.History.{History, Bytes, key_of, body_of, stored, since, stored_keys, insert_key, without_key}
-use Rattle.bucket_core.specs.Calls.{put_event}
 use Rattle.bucket_core.specs.Contents.{Shown, shown, with_event, contents_of}
 
 -- the key of an entry
@@ -183,17 +182,8 @@ shown_choice Equal before same after = refl
 shown_choice Greater before same after = refl
 
 -- what contracts see of entries with one more
-shown-insert_entry : (es : List (Key × Entry)) (key : Key) (entry : Entry) → map shown (insert_entry key_cmp es key entry) ≡ insert_entry key_cmp (map shown es) key (arc_value entry.body, entry.since)
+pub shown-insert_entry : (es : List (Key × Entry)) (key : Key) (entry : Entry) → map shown (insert_entry key_cmp es key entry) ≡ insert_entry key_cmp (map shown es) key (arc_value entry.body, entry.since)
 shown-insert_entry [] key entry = refl
 shown-insert_entry (e ∷ es) key entry =
     shown_choice (key_cmp key e.0) ((key, entry) ∷ e ∷ es) ((e.0, entry) ∷ es) (e ∷ insert_entry key_cmp es key entry)
     ∙ ap (λ rest. match_ordering (key_cmp key e.0) ((key, (arc_value entry.body, entry.since)) ∷ shown e ∷ map shown es) ((e.0, (arc_value entry.body, entry.since)) ∷ map shown es) (shown e ∷ rest)) (shown-insert_entry es key entry)
-
--- entries with one more show the contents after a put
-pub shown_after_put : (old new : List (Key × Entry)) (h later : History) (client : ℕ) (key : Key) (entry : Entry) → map shown old ≡ contents_of h → new ≡ insert_entry key_cmp old key entry → entry.since ≡ suc (length h) → later ≡ put_event client key (arc_value entry.body) ∷ h → map shown new ≡ contents_of later
-shown_after_put old new h later client key entry is more place grown =
-    ap (map shown) more
-    ∙ (shown-insert_entry old key entry
-    ∙ (ap (λ (es : List Shown). insert_entry key_cmp es key (arc_value entry.body, entry.since)) is
-    ∙ (ap (λ n. insert_entry key_cmp (contents_of h) key (arc_value entry.body, n)) place
-    ∙ ap contents_of (sym grown))))

@@ -6,6 +6,7 @@
 --     IsFound, IsListed      what a get and a list answer
 --     refers_after        whether the symbol was referred after a place
 --     RefusesLook, DidChange, DidUnname, DidDrop      the refusals of a look; what a changing call, an unname and a drop did
+--     StandsSince, IsMissingAt      a snapshot's name that was set at a place, and one that was not
 --     RefusesPut, RefusesRefer, RefusesName, RefusesUnname      the refusals of each changing call, with their causes
 use Rattle.std.specs.Prelude.{◌≡◌, ◌≢◌, ◌⊎◌, ◌≤◌, ℕ, suc, Bool, true, false, ◌&&◌, ◌||◌, List, [], ◌∷◌, ◌++◌, length, ◌-◌, take, drop, filter, Option, Some, None, Result, Ok, Err, ⊤, is_some, option_map}
 use Rattle.std.specs.List.{list_any}
@@ -150,11 +151,15 @@ RefusesName limit snap h _ = ⊥
 abbrev pub StandsSince : History → Name → ℕ → Type 0
 StandsSince h snap set = (is_some (stored h (snapshot_key snap)) ≡ true) × (since h (snapshot_key snap) ≡ set)
 
--- the refusals of an `unname`: Missing where the name does not stand, or was set at another place, of which the place before it is told; else Spent
-abbrev pub RefusesUnname : ℕ → Name → ℕ → History → StoreErr → Type 0
-RefusesUnname limit snap set h (errs.Missing at) =
+-- the name does not stand, which is so at this place; or it was set at another place than this one, and the place before that is told
+abbrev pub IsMissingAt : History → Name → ℕ → ℕ → Type 0
+IsMissingAt h snap set at =
     ((is_some (stored h (snapshot_key snap)) ≡ false) × (at ≡ length h))
     ⊎ ((is_some (stored h (snapshot_key snap)) ≡ true) × (since h (snapshot_key snap) ≢ set) × (suc at ≡ since h (snapshot_key snap)))
+
+-- the refusals of an `unname`: Missing where the name does not stand, or was set at another place; else Spent
+abbrev pub RefusesUnname : ℕ → Name → ℕ → History → StoreErr → Type 0
+RefusesUnname limit snap set h (errs.Missing at) = IsMissingAt h snap set at
 RefusesUnname limit snap set h (errs.Spent count) = StandsSince h snap set × IsFull limit h count
 RefusesUnname limit snap set h _ = ⊥
 

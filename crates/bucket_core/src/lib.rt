@@ -4,17 +4,24 @@
 mod answer;
 mod body;
 mod bucket;
+mod counting;
 mod entry;
 mod event;
 mod event_log;
+mod flaky;
+mod head;
 mod law;
 mod plain;
+#[cfg(test)]
+mod tests;
 
 pub use answer::{Dropped, Found, Listed, StoreErr};
 pub use base_types::{Items, Keep, NoMemory};
 pub use body::{Body, SharedBody};
 pub use bucket::Bucket;
+pub use counting::Counting;
 pub use event::{Change, Event, PieceName, SharedChanges};
+pub use flaky::{Flaky, When};
 use key_kind::Key;
 pub use law::Law;
 pub use plain::PlainBucket;

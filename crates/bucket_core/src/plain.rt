@@ -1,7 +1,8 @@
-ghost use Rattle.std.specs.Prelude.{◌≡◌, ◌<◌, [], ◌∷◌, reverse, true, IfOk};
+ghost use Rattle.std.specs.Prelude.{◌≡◌, ◌↔◌, ◌≤◌, ◌<◌, [], ◌∷◌, not, reverse, true, IsTrue, IfOk};
 ghost use Rattle.std.specs.Arc.{arc_value};
 ghost use Rattle.bucket_core.specs.History.{puts_by};
 ghost use Rattle.bucket_core.specs.Laws.{IsLawful};
+ghost use Rattle.bucket_core.specs.Calls.{IsSteady, refers_after};
 
 use crate::Changes;
 use crate::answer::{Dropped, Found, Listed, StoreErr};
@@ -45,6 +46,13 @@ impl<L: Law> PlainBucket<L> {
             log: EventLog::new(alloc),
             law: PhantomData,
         })
+    }
+
+    /// Whether a store of so many events takes no more.
+    fn is_full(&self, count: u64) -> bool
+        ensures { IsTrue result ↔ (self.now.most ≤ count) }
+    {
+        self.most <= count
     }
 
     /// The events of the store, the oldest first.
@@ -106,7 +114,7 @@ impl<L: Law> Bucket<L> for PlainBucket<L> {
 
     fn put<R: Wait>(&mut self, _rt: &R, key: Key, body: Arc<Body>) -> Result<u64, StoreErr> {
         let count = self.log.len();
-        if self.most <= count {
+        if self.is_full(count) {
             return Err(StoreErr::Spent { count });
         }
         match self.log.put(self.alloc, self.number, key, body) {
@@ -121,33 +129,89 @@ impl<L: Law> Bucket<L> for PlainBucket<L> {
     fn refer<R: Wait>(
         &mut self,
         _rt: &R,
-        _symbol: &Symbol,
-        _was: Option<&Key>,
-        _entry: &Key,
-        _mark: Arc<Body>,
-        _changes: Arc<Changes>,
+        symbol: &Symbol,
+        was: Option<&Key>,
+        entry: &Key,
+        mark: Arc<Body>,
+        changes: Arc<Changes>,
     ) -> Result<u64, StoreErr> {
-        Err(StoreErr::NoMemory)
+        if let Some(now) = self.log.moved_at(symbol, was) {
+            return Err(StoreErr::Moved { now });
+        }
+        let count = self.log.len();
+        if self.is_full(count) {
+            return Err(StoreErr::Spent { count });
+        }
+        match self
+            .log
+            .refer(self.alloc, self.number, symbol, was, entry, mark, changes)
+        {
+            Ok(()) => Ok(count + 1),
+            Err(NoMemory) => Err(StoreErr::NoMemory),
+        }
     }
 
     fn name<R: Wait>(
         &mut self,
         _rt: &R,
-        _snap: &SnapName,
-        _body: Arc<Body>,
+        snap: &SnapName,
+        body: Arc<Body>,
     ) -> Result<u64, StoreErr> {
-        Err(StoreErr::NoMemory)
+        let key = match Key::snapshot(self.alloc, snap) {
+            Ok(key) => key,
+            Err(NoMemory) => return Err(StoreErr::NoMemory),
+        };
+        let count = self.log.len();
+        if self.log.set_at(&key).is_some() {
+            return Err(StoreErr::Taken { place: count });
+        }
+        if self.is_full(count) {
+            return Err(StoreErr::Spent { count });
+        }
+        match self.log.name(self.alloc, self.number, snap, key, body) {
+            Ok(()) => Ok(count + 1),
+            Err(NoMemory) => Err(StoreErr::NoMemory),
+        }
     }
 
-    fn unname<R: Wait>(&mut self, _rt: &R, _snap: &SnapName, _since: u64) -> Result<u64, StoreErr> {
-        Err(StoreErr::NoMemory)
+    fn unname<R: Wait>(&mut self, _rt: &R, snap: &SnapName, since: u64) -> Result<u64, StoreErr> {
+        let key = match Key::snapshot(self.alloc, snap) {
+            Ok(key) => key,
+            Err(NoMemory) => return Err(StoreErr::NoMemory),
+        };
+        if let Some(place) = self.log.missing_at(snap, &key, since) {
+            return Err(StoreErr::Missing { place });
+        }
+        let count = self.log.len();
+        if self.is_full(count) {
+            return Err(StoreErr::Spent { count });
+        }
+        match self.log.unname(self.alloc, self.number, snap, &key) {
+            Ok(()) => Ok(count + 1),
+            Err(NoMemory) => Err(StoreErr::NoMemory),
+        }
     }
 
-    fn drop_key<R: Wait>(&mut self, _rt: &R, _key: &Key) -> Result<Dropped, StoreErr> {
-        Err(StoreErr::NoMemory)
+    fn drop_key<R: Wait>(&mut self, _rt: &R, key: &Key) -> Result<Dropped, StoreErr> {
+        let count = self.log.len();
+        if self.log.set_at(key).is_none() {
+            return Ok(Dropped::Absent { place: count });
+        }
+        if self.is_full(count) {
+            return Err(StoreErr::Spent { count });
+        }
+        match self.log.drop_key(self.alloc, self.number, key) {
+            Ok(()) => Ok(Dropped::Gone { place: count + 1 }),
+            Err(NoMemory) => Err(StoreErr::NoMemory),
+        }
     }
 
-    fn unchanged(&mut self, _symbol: &Symbol, _place: u64) -> bool {
-        false
+    /// It is false only where the symbol has a Refer above the place.
+    fn unchanged(&mut self, symbol: &Symbol, place: u64) -> bool
+        ensures same { ⟦<PlainBucket<L> as Bucket<L>>⟧.seen self.new ≡ ⟦<PlainBucket<L> as Bucket<L>>⟧.seen self.old }
+        ensures steady { IsSteady ⟦<PlainBucket<L> as Bucket<L>>⟧.number ⟦<PlainBucket<L> as Bucket<L>>⟧.limit ⟦<PlainBucket<L> as Bucket<L>>⟧.faults ⟦<PlainBucket<L> as Bucket<L>>⟧.sole self.old self.new }
+        ensures unchanged { result ≡ not (refers_after (⟦<PlainBucket<L> as Bucket<L>>⟧.seen self.old) symbol.now place) }
+    {
+        self.log.referred_at(symbol) <= place
     }
 }

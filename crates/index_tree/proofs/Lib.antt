@@ -1,0 +1,6 @@
+pub mod SlotLaws
+pub mod SlotRules
+pub mod IndexLaws
+pub mod IndexLoops
+pub mod Covers
+pub mod NameNotes

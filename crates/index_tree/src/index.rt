@@ -1,9 +1,10 @@
-use base_types::Items;
+use base_types::{Items, Keep, NoMemory};
 use frame_core::{Part, Schema};
 use key_kind::Key;
+use std::alloc::Global;
 
 /// Where one tile of a frame lies.
-#[derive(Drop)]
+#[derive(Debug, Drop)]
 pub struct Slot {
     /// The key of the tile's segment.
     pub key: Key,
@@ -15,8 +16,19 @@ pub struct Slot {
     pub last: i64,
 }
 
+impl Keep for Slot {
+    fn copy(&self, alloc: Global) -> Result<Slot, NoMemory> {
+        Ok(Slot {
+            key: self.key.copy(alloc)?,
+            part: self.part,
+            first: self.first,
+            last: self.last,
+        })
+    }
+}
+
 /// Where the tiles of a frame lie.
-#[derive(Drop)]
+#[derive(Debug, Drop)]
 pub struct Index {
     /// The columns of the frame, which is timed.
     pub schema: Schema,
@@ -24,4 +36,14 @@ pub struct Index {
     pub rows: u64,
     /// The tiles, in order of their first row and then of their first column.
     pub slots: Items<Slot>,
+}
+
+impl Keep for Index {
+    fn copy(&self, alloc: Global) -> Result<Index, NoMemory> {
+        Ok(Index {
+            schema: self.schema.copy(alloc)?,
+            rows: self.rows,
+            slots: self.slots.copy(alloc)?,
+        })
+    }
 }

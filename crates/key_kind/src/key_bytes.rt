@@ -56,7 +56,8 @@ impl Key {
 #[tactic(auto, unfolding(crate::specs::KeyText::key_text))]
 pub fn put_key(out: &mut Vec<u8>, key: &Key) -> Result<(), NoMemory>
     requires { IsKey key.now }
-    ensures { OnOk result (out.new.items ≡ out.old.items ++ key_text key.now) }
+    ensures text { OnOk result (out.new.items ≡ out.old.items ++ key_text key.now) }
+    ensures fits { OnOk result (FitsFields key.now) }
 {
     let name = key.name.text();
     put_u8(out, key.kind.code())?;

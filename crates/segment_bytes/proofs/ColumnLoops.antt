@@ -89,16 +89,16 @@ head_parts bytes x e =
     let made : Head × List ℕ = ((c.0.0, a.0.0), c.0.1) in
     subst (λ (y : Head × List ℕ). HeadParts bytes y.0 y.1) (ok_is made x c.2) (record { after_type = a.0.1; n = b.0.0; after_length = b.0.1; type_is = a.1; length_is = b.1; text_is = text_named b.0.0 b.0.1 c.0 c.1 })
 
-head_fresh : (earlier : List Head) (bytes : List ℕ) (head : Head) (rest : List ℕ) → head_at [] bytes ≡ Ok (head, rest) → list_any (λ (h : Head). same_text head.0 h.0) earlier ≡ false → head_at earlier bytes ≡ Ok (head, rest)
+pub head_fresh : (earlier : List Head) (bytes : List ℕ) (head : Head) (rest : List ℕ) → head_at [] bytes ≡ Ok (head, rest) → list_any (λ (h : Head). same_text head.0 h.0) earlier ≡ false → head_at earlier bytes ≡ Ok (head, rest)
 unfolding head_at
 head_fresh earlier bytes head rest e fresh =
     let p = head_parts bytes (head, rest) e in
     let name : name_at earlier p.n p.after_length ≡ Ok (head.0, rest) = name_fresh earlier p.n p.after_length head.0 rest p.text_is fresh in
     rw (p.type_is, p.length_is, name) refl
 
-head_taken : (earlier : List Head) (bytes : List ℕ) (head : Head) (rest : List ℕ) → IsBytes bytes → head_at [] bytes ≡ Ok (head, rest) → list_any (λ (h : Head). same_text head.0 h.0) earlier ≡ true → head_at earlier bytes ≡ Err (length head.0 + length rest)
+pub head_taken : (earlier : List Head) (bytes : List ℕ) (head : Head) (rest : List ℕ) → head_at [] bytes ≡ Ok (head, rest) → list_any (λ (h : Head). same_text head.0 h.0) earlier ≡ true → head_at earlier bytes ≡ Err (length head.0 + length rest)
 unfolding head_at
-head_taken earlier bytes head rest fits e taken =
+head_taken earlier bytes head rest e taken =
     let p = head_parts bytes (head, rest) e in
     let name : name_at earlier p.n p.after_length ≡ Err (length p.after_length) = name_taken earlier p.n p.after_length head.0 rest p.text_is taken in
     let whole : length p.after_length ≡ length head.0 + length rest = ap length (text_parts p.n p.after_length head.0 rest p.text_is) ∙ length-append head.0 rest in
@@ -119,7 +119,7 @@ behind_front : (earlier : List Head) (r : Reading ColType) (left : ℕ) → (r >
 behind_front earlier (Ok kind) left h = behind_type earlier kind.0 (length_at kind.1) left h
 behind_front earlier (Err k) left h = h
 
-head_fails : (earlier : List Head) (bytes : List ℕ) (left : ℕ) → head_at [] bytes ≡ Err left → head_at earlier bytes ≡ Err left
+pub head_fails : (earlier : List Head) (bytes : List ℕ) (left : ℕ) → head_at [] bytes ≡ Err left → head_at earlier bytes ≡ Err left
 unfolding head_at
 head_fails earlier bytes left e = behind_front earlier (type_at bytes) left e
 
@@ -248,7 +248,7 @@ so_far_head rows count at first rest so_far left s lt h =
 pub so_far_name : (rows count at : ℕ) (first rest : List ℕ) (so_far : ℕ) (name : List ℕ) (kind : ColType) (cells : List ℕ) → SoFar rows count at first rest so_far → at < count → IsBytes first → head_at [] rest ≡ Ok ((name, kind), cells) → Looked rows at first name true → rest_of (columns_at [] 0 rows count first) ≡ Err (length name + length cells)
 so_far_name rows count at first rest so_far name kind cells s lt fits h looked =
     let taken = any_none name s.columns ∙ sym (looked s.columns rest s.each s.len s.text) in
-    columns_fail (behind [] s.columns) so_far rows count at rest (length name + length cells) (rest_of (columns_at [] 0 rows count first)) lt (series_head_fails (behind [] s.columns) so_far rows rest (length name + length cells) (head_taken (behind [] s.columns) rest (name, kind) cells (tail_fits first (flat_map series_text s.columns) rest s.text fits) h taken)) s.goes_on
+    columns_fail (behind [] s.columns) so_far rows count at rest (length name + length cells) (rest_of (columns_at [] 0 rows count first)) lt (series_head_fails (behind [] s.columns) so_far rows rest (length name + length cells) (head_taken (behind [] s.columns) rest (name, kind) cells h taken)) s.goes_on
 
 pub so_far_cells : (rows count at : ℕ) (first rest : List ℕ) (so_far : ℕ) (name : List ℕ) (kind : ColType) (cells : List ℕ) (left : ℕ) → SoFar rows count at first rest so_far → at < count → head_at [] rest ≡ Ok ((name, kind), cells) → Looked rows at first name false → seen_by counted (cells_at kind so_far rows cells) ≡ Err left → rest_of (columns_at [] 0 rows count first) ≡ Err left
 so_far_cells rows count at first rest so_far name kind cells left s lt h looked e =

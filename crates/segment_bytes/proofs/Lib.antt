@@ -12,3 +12,4 @@ pub mod Writes
 pub mod Getters
 pub mod SegmentGetters
 pub mod Copies
+pub mod AsciiTexts

@@ -125,7 +125,7 @@ ends_end so_far n i start bytes total le so_far_total =
 
 -- ---- texts by their ends
 
-text_rest : (x : List ℕ) (r : Reading (List Cell)) → rest_of (r >>= λ more. Ok (cells.Text x ∷ more.0, more.1)) ≡ rest_of r
+pub text_rest : (x : List ℕ) (r : Reading (List Cell)) → rest_of (r >>= λ more. Ok (cells.Text x ∷ more.0, more.1)) ≡ rest_of r
 text_rest x (Ok more) = refl
 text_rest x (Err left) = refl
 
@@ -175,7 +175,7 @@ end_number so_far start bytes x e =
     (ap (λ (p : ℕ × List ℕ). p.0) same, ap (λ (p : ℕ × List ℕ). p.1) same)
 
 -- the ends that were read are the numbers at the front
-ends_are_in : (so_far start n : ℕ) (bytes : List ℕ) (x : List ℕ × List ℕ) → ends_at so_far start n bytes ≡ Ok x → x.0 ≡ ends_in n bytes
+pub ends_are_in : (so_far start n : ℕ) (bytes : List ℕ) (x : List ℕ × List ℕ) → ends_at so_far start n bytes ≡ Ok x → x.0 ≡ ends_in n bytes
 unfolding ends_at
 ends_are_in so_far start zero bytes x e = ap (λ (p : List ℕ × List ℕ). p.0) (sym (ok_is ([], bytes) x e))
 ends_are_in so_far start (suc n) bytes x e =

@@ -1,4 +1,5 @@
-ghost use Rattle.std.specs.Prelude.{◌≡◌, ◌≤◌, ◌*◌, length};
+ghost use Rattle.std.specs.Prelude.{◌≡◌, ◌≤◌, ◌*◌, length, length as length_of, take, drop, IfSome};
+ghost use Rattle.std.specs.Str.{IsAscii};
 ghost use Rattle.byte_fields.specs.Reading.{signed_at, list_at};
 ghost use Rattle.byte_fields.specs.Readers.{Gives, seen_by, rest_of};
 ghost use Rattle.segment_bytes.specs.Heads.{text_at};
@@ -76,8 +77,24 @@ fn skip_text_cells(so_far: usize, count: u32, bytes: &[u8]) -> Result<(usize, &[
     ensures { Gives (λ x. (x.0, x.1.now)) result (seen_by counted (cells_at ColType.Text so_far count bytes.now)) }
 {
     let (length, texts) = skip_ends(so_far, count, bytes)?;
+    if let Some(rest) = skip_ascii(length, texts) {
+        return Ok((length, rest));
+    }
     let rest = skip_texts(count, bytes, texts)?;
     Ok((length, rest))
+}
+
+/// What follows so many bytes of ASCII, which are UTF-8 wherever they are cut; None where they are others.
+fn skip_ascii(length: usize, bytes: &[u8]) -> Option<&[u8]>
+    ensures whole { IfSome result (λ rest. length ≤ length_of bytes.now) }
+    ensures ascii { IfSome result (λ rest. IsAscii (take length bytes.now)) }
+    ensures rest { IfSome result (λ rest. rest.now ≡ drop length bytes.now) }
+{
+    if length > bytes.len() {
+        return None;
+    }
+    let (texts, rest) = bytes.split_at(length);
+    if texts.is_ascii() { Some(rest) } else { None }
 }
 
 /// The end of a text that begins at `start`, and what follows.

@@ -1,6 +1,6 @@
 -- What is cut from a frame is a frame.
-use Rattle.std.proofs.Common.{◌≡◌, ℕ, zero, suc, ◌+◌, ◌-◌, ◌<◌, ◌≤◌, ℤ, pos, Bool, true, false, not, ◌&&◌, ◌||◌, List, [], ◌∷◌, ◌++◌, length, map, take, drop, Option, Some, None, refl, sym, ap, ◌∙◌, subst, arith, length-drop}
-use Rattle.std.specs.Prelude.{slice_get, slice_range, filter_map, option_map}
+use Rattle.std.proofs.Common.{◌≡◌, ℕ, zero, suc, ◌+◌, ◌-◌, ◌<◌, ◌≤◌, ℤ, pos, Bool, true, false, not, ◌&&◌, ◌||◌, List, [], ◌∷◌, ◌++◌, length, map, take, drop, Some, refl, sym, ap, ◌∙◌, subst, arith, length-drop}
+use Rattle.std.specs.Prelude.{slice_get, slice_range, option_map}
 use Rattle.std.specs.List.{AllByRecursion, AllZip, list_any, cons_option}
 use Rattle.std.proofs.lemmas.List.{map-append, length-take-le}
 use Rattle.std.proofs.lemmas.List.Folds.{list_any-append}
@@ -8,7 +8,7 @@ use Rattle.frame_core.specs.declared.part.Part.{Part}
 use Rattle.frame_core.specs.declared.cell.Cell.{Cell}
 use Rattle.frame_core.specs.Texts.{Text, same_text}
 use Rattle.frame_core.specs.Schemas.{Head, Schema, AreColumns, IsColName, are_new}
-use Rattle.frame_core.specs.Frames.{Row, Frame, IsCell, FitsColumns, IsFrame, NeverFall, stamps_of, type_of, type_at}
+use Rattle.frame_core.specs.Frames.{Row, Frame, IsCell, FitsColumns, IsFrame, stamps_of, type_at}
 use Rattle.frame_core.specs.Columns.{cells_of, columns_from, column_type, column_cells}
 use Rattle.frame_core.specs.declared.column.Column.{Column}
 use Rattle.frame_core.specs.declared.cell.ColType.{ColType}

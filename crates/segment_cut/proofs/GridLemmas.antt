@@ -1,10 +1,9 @@
 -- The parts of a grid tile the frame.
-use Rattle.std.proofs.Common.{◌≡◌, ℕ, zero, suc, ◌+◌, ◌-◌, ◌*◌, ◌<◌, ◌≤◌, min, max, Bool, true, false, cond, ◌&&◌, nat_le, nat_lt, List, [], ◌∷◌, length, map, refl, sym, ap, ◌∙◌, subst, arith}
+use Rattle.std.proofs.Common.{◌≡◌, ℕ, zero, suc, ◌+◌, ◌-◌, ◌*◌, ◌<◌, ◌≤◌, min, max, Bool, true, false, cond, ◌&&◌, nat_le, nat_lt, List, [], ◌∷◌, length, refl, ap, ◌∙◌, subst, arith}
 use Rattle.std.specs.Prelude.{count_by, sum_by}
-use Rattle.std.specs.List.{AllByRecursion, flat_map, range_with_len}
+use Rattle.std.specs.List.{range_with_len}
 use Rattle.std.specs.Int.{div_ceil}
 use Rattle.std.proofs.lemmas.Grind.{div_ceil_times}
-use Rattle.frame_core.specs.declared.part.Part.{Part}
 use Rattle.frame_core.specs.Frames.{Frame}
 use Rattle.segment_cut.specs.Cuttings.{Cutting, IsCutting}
 use Rattle.segment_cut.specs.Tiles.{Tile, LiesIn, Tiled, cut, has_row, has_cell}
@@ -35,6 +34,7 @@ count-in size n x k (suc c) lt low high = by_side (nat_lt x (k * size + size)) r
   where
     moved : k + suc c ≡ (k + 1) + c
     moved = omega arith
+
     by_side : (b : Bool) → nat_lt x (k * size + size) ≡ b → ((k + 1) * size ≤ x → count_by (is_in size n x) (range_with_len (k + 1) c) ≡ 1) → count_by (is_in size n x) (range_with_len k (suc c)) ≡ 1
     by_side true e later =
         let yes : is_in size n x k ≡ true = grind arith in

@@ -1,14 +1,14 @@
 -- A frame in memory, by the stamps and columns of its rows.
-use Rattle.std.proofs.Common.{◌≡◌, ℕ, zero, suc, ◌+◌, ◌<◌, ◌≤◌, ℤ, pos, List, [], ◌∷◌, length, map, Option, Some, None, refl, sym, ap, ◌∙◌, subst, arith}
-use Rattle.std.specs.Prelude.{slice_get, filter_map, FitsSigned}
+use Rattle.std.proofs.Common.{◌≡◌, ℕ, zero, suc, ◌+◌, ◌<◌, ℤ, pos, List, [], ◌∷◌, length, map, Option, Some, None, refl, subst, arith}
+use Rattle.std.specs.Prelude.{slice_get, FitsSigned}
 use Rattle.std.proofs.lemmas.List.{length-map}
 use Rattle.std.specs.Int.{w64}
-use Rattle.std.specs.List.{AllByRecursion, AllZip}
+use Rattle.std.specs.List.{AllByRecursion}
 use Rattle.std.proofs.lemmas.Slice.Zip.{AllZip-long}
 use Rattle.frame_core.specs.declared.cell.Cell.{Cell}
 use Rattle.frame_core.specs.declared.column.Column.{Column}
 use Rattle.frame_core.specs.Schemas.{Head, Schema}
-use Rattle.frame_core.specs.Frames.{Row, Frame, IsCell, FitsColumns, IsFrame, stamps_of, type_of}
+use Rattle.frame_core.specs.Frames.{Row, Frame, IsCell, FitsColumns, IsFrame, stamps_of}
 use Rattle.frame_core.specs.Columns.{column_type, column_cells, rows_from, cells_of, columns_from, IsWhole}
 use Rattle.frame_core.proofs.Rows.{rows_from-columns, length-cells_of}
 use Rattle.segment_cut.proofs.Lists.{all-map, all-unmap, all-weaken}

@@ -6,19 +6,25 @@ use frame_core::Part;
 use std::marker::Model;
 
 /// How so many rows and columns are cut into parts: blocks of rows, and in each block slices of columns.
-#[derive(Debug, Drop)]
+#[derive(Clone, Copy, Debug)]
 pub struct Grid {
     rows: u64,
     cols: u64,
-    cutting: Cutting,
+    full_rows: u32,
+    full_cols: u32,
 }
 
 impl Model for Grid {
+    ghost use Rattle.segment_cut.specs.Cuttings.{IsCutting};
     ghost use Rattle.segment_cut.specs.Grids.{Grid as Division};
 
     ghost Value = { Division };
 
-    ghost view = { λ g. record { rows = g.rows; cols = g.cols; cutting = g.cutting } };
+    ghost view = { λ g. record { rows = g.rows; cols = g.cols; cutting = record { rows = g.full_rows; cols = g.full_cols } } };
+
+    ghost invariant = { λ g. IsCutting (record { rows = g.full_rows; cols = g.full_cols }) };
+
+    ghost inverse = { λ d. record { rows = d.rows; cols = d.cols; full_rows = d.cutting.rows; full_cols = d.cutting.cols } };
 }
 
 impl Grid {
@@ -29,7 +35,8 @@ impl Grid {
         Grid {
             rows,
             cols,
-            cutting,
+            full_rows: cutting.rows(),
+            full_cols: cutting.cols(),
         }
     }
 
@@ -37,14 +44,14 @@ impl Grid {
     pub fn row_blocks(&self) -> u64
         ensures { result ≡ row_blocks self.now }
     {
-        self.rows.div_ceil(self.cutting.rows() as u64)
+        self.rows.div_ceil(self.full_rows as u64)
     }
 
     /// How many slices of columns each block has: one even where there are no columns.
     pub fn col_blocks(&self) -> u64
         ensures { result ≡ col_blocks self.now }
     {
-        self.cols.div_ceil(self.cutting.cols() as u64).max(1)
+        self.cols.div_ceil(self.full_cols as u64).max(1)
     }
 
     /// The part of a block and a slice, both counted from 0. All blocks are full but the last, and so all slices.
@@ -54,8 +61,8 @@ impl Grid {
         ensures { result ≡ part_at self.now block slice }
     {
         let (rows, cols) = (self.rows, self.cols);
-        let full_rows = self.cutting.rows() as u64;
-        let full_cols = self.cutting.cols() as u64;
+        let full_rows = self.full_rows as u64;
+        let full_cols = self.full_cols as u64;
         let first_row = block * full_rows;
         let first_col = slice * full_cols;
         Part {

@@ -14,6 +14,7 @@ pub mod Stable
 pub mod Standing
 pub mod MovesOn
 pub mod Walking
+pub mod Following
 pub mod SmallFrames
 pub mod WorkedHistories
 pub mod Witness

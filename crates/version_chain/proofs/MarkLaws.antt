@@ -177,8 +177,8 @@ link_takes tomb bytes m rest fits e =
     subst (λ (p : ChainMark × List ℕ). MarkRead 1 tomb bytes p.0 p.1) (ok_is made (m, rest) d.2) (record {
       tag_is = refl;
       takes = Takes-then bytes _ c.0.1 (key_text d.0.0) d.0.1 (Takes-then bytes _ b.0.1 (to_be_bytes w32 c.0.0) c.0.1 (Takes-then bytes (to_be_bytes w64 a.0.0) a.0.1 (signed_text b.0.0) b.0.1 t1.takes t2.takes) t3.takes) t4.read.takes;
-      is_mark = record { kind_is = t4.kind_is; is_key = t4.read.is_key };
-      fits = record { version = t1.below; stamp = t2.fits; rows = t3.below; index = t4.read.fits };
+      is_mark = record { rows = t3.below; index = record { kind_is = t4.kind_is; is_key = t4.read.is_key } };
+      fits = record { version = t1.below; stamp = t2.fits; index = t4.read.fits };
       above = tt;
     })
 
@@ -282,8 +282,8 @@ mark_again (marks.Link l) tomb rest is fits above =
     ap link_at (regrouped (to_be_bytes w64 l.version) (signed_text l.stamp) (to_be_bytes w32 l.rows) (key_text l.index) rest)
     ∙ (bind_is (number_at w64 (to_be_bytes w64 l.version ++ t1)) (l.version, t1) _ (number_again w64 (2 ^ 64) wide64 l.version t1 fits.version)
     ∙ (bind_is (signed_at t1) (l.stamp, t2) _ (signed_again l.stamp t2 fits.stamp)
-    ∙ (bind_is (number_at w32 t2) (l.rows, t3) _ (number_again w32 (2 ^ 32) wide32 l.rows t3 fits.rows)
-    ∙ bind_is (key_of_at kinds.TableIndex t3) (l.index, rest) _ (subst (λ k. key_of_at k t3 ≡ Ok (l.index, rest)) is.kind_is (key_of_again l.index rest is.is_key fits.index)))))
+    ∙ (bind_is (number_at w32 t2) (l.rows, t3) _ (number_again w32 (2 ^ 32) wide32 l.rows t3 is.rows)
+    ∙ bind_is (key_of_at kinds.TableIndex t3) (l.index, rest) _ (subst (λ k. key_of_at k t3 ≡ Ok (l.index, rest)) is.index.kind_is (key_of_again l.index rest is.index.is_key fits.index)))))
   where
     regrouped : (a b c d e : List ℕ) → (((a ++ b) ++ c) ++ d) ++ e ≡ a ++ (b ++ (c ++ (d ++ e)))
     regrouped a b c d e = simp append_assoc

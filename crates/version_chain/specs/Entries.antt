@@ -1,6 +1,6 @@
 -- The rules of a chain element.
 --     IsKeyOf             a key of one kind, within its rules
---     IsMark, IsForm      the rules of each mark, and the five forms in which marks stand
+--     IsLink, IsMark, IsForm      the rules of a link and of each mark, and the five forms in which marks stand
 --     IsEntry             an element that keeps the rules of the format
 --     FitsEntry           its numbers fit their fields
 use Rattle.std.specs.Prelude.{◌≡◌, ℕ, ◌<◌, ◌^◌, List, [], ◌∷◌, length, Option, None, IfSome, ⊤, FitsSigned}
@@ -25,9 +25,14 @@ pub record IsKeyOf (kind : KeyKind) (key : Key) : Type 0 where
 
 -- ---- the rules
 
--- a Link names the key of an index; a Discard has pieces, ascending
+-- the number of rows has four bytes, and the key is that of an index
+pub record IsLink (row : LinkRow) : Type 0 where
+  pub rows : row.rows < 2 ^ 32
+  pub index : IsKeyOf kinds.TableIndex row.index
+
+-- a Link keeps these rules; a Discard has pieces, ascending
 abbrev pub IsMark : ChainMark → Type 0
-IsMark (marks.Link row) = IsKeyOf kinds.TableIndex row.index
+IsMark (marks.Link row) = IsLink row
 IsMark (marks.Discard pieces) = IsFilled pieces × PiecesRise pieces
 IsMark _ = ⊤
 
@@ -79,7 +84,6 @@ pub record FitsPiece (piece : PieceName) : Type 0 where
 pub record FitsRow (row : LinkRow) : Type 0 where
   pub version : row.version < 2 ^ 64
   pub stamp : FitsSigned w64 row.stamp
-  pub rows : row.rows < 2 ^ 32
   pub index : FitsFields row.index
 
 -- a mark's numbers

@@ -2,12 +2,19 @@
 //! to a store.
 #![tactic(auto)]
 
+mod collecting;
 mod elements;
 mod fault;
+mod fields;
 mod law;
 mod laws;
+mod looking;
+mod marks;
+mod pieces;
 mod snapshots;
 mod state;
+#[cfg(test)]
+mod tests;
 mod walking;
 
 pub use base_types::NoMemory;

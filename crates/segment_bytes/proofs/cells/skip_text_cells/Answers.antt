@@ -1,5 +1,6 @@
-use Rattle.std.proofs.Common.{arith}
+use Rattle.std.proofs.Common.{arith, sym, ap, ◌∙◌}
 use Rattle.std.proofs.lemmas.Result.{err_from_is_err_and}
+use Rattle.segment_bytes.proofs.AsciiTexts.{ascii_cells}
 use Rattle.segment_bytes.proofs.Skips.{ends_known, text_cells, text_cells_ends, text_cells_texts}
 use Rattle.segment_bytes.proofs.cells.skip_text_cells.Goals as goal
 
@@ -18,3 +19,6 @@ returns-in_err-rest c =
 
 pub returns : goal.returns
 returns c = text_cells _ _ _ _ _ _ (λ i. omega (arith, c.type_inv.bytes i)) c.in_ok-length.ensures c.in_ok-rest.ensures
+
+pub returns-in-Some : goal.returns-in-Some
+returns-in-Some c = rw c.in-Some.ensures.rest (ascii_cells _ _ _ _ _ (λ i. omega (arith, c.type_inv.bytes i)) c.in_ok-length.ensures c.in-Some.ensures.whole c.in-Some.ensures.ascii)

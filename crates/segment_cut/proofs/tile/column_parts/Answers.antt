@@ -1,5 +1,4 @@
-use Rattle.std.proofs.Common.{refl}
-use Rattle.segment_cut.proofs.Cuts.{reaches-rows, kinds-more, cells-more, kinds-done}
+use Rattle.segment_cut.proofs.Cuts.{reaches-rows, kinds-more, cells-more}
 use Rattle.segment_cut.proofs.tile.column_parts.Goals as goal
 
 pub part-requires-clause-within : goal.part-requires-clause-within

@@ -1,5 +1,4 @@
-use Rattle.std.proofs.Common.{◌≡◌, ◌∙◌, ◌+◌, sym, ap, refl}
-use Rattle.std.specs.Prelude.{slice_range}
+use Rattle.std.proofs.Common.{◌∙◌}
 use Rattle.segment_cut.proofs.Cuts.{IsFrame-cut, stamps-lent, columns-of, schema-lent}
 use Rattle.segment_cut.proofs.Wholes.{IsWhole-frame, frame-whole}
 use Rattle.segment_cut.proofs.tile.cut.Goals as goal

@@ -1,0 +1,4 @@
+pub mod Targets
+pub mod Fetches
+pub mod TileSets
+pub mod Wholes

@@ -1,0 +1,78 @@
+-- The tiles that a fetch gives.
+--     is_asked, places_asked      whether a column is asked, and the places of those that are
+--     IsAskedSchema, RefusesColumns      the schema of the asked columns, or why there is none
+--     IsGot, IsFetched    tiles as they were put, those of a target's version
+--     RefusesFetch        the refusals
+use Rattle.std.specs.Prelude.{◌≡◌, ◌⊎◌, ℕ, Bool, true, List, [], filter, Option, Some, None, Ok, Err, ⊤}
+use Rattle.std.specs.List.{list_any, AllZip}
+use Rattle.std.specs.Arc.{arc_value}
+use Rattle.frame_core.specs.declared.refusal.Refusal.{Refusal}
+use Rattle.frame_core.specs.declared.refusal.Refusal.TheVariants as refusals
+use Rattle.frame_core.specs.declared.refusal.Refused.{Refused}
+use Rattle.frame_core.specs.Ranges.{Range}
+use Rattle.frame_core.specs.Texts.{Text, same_text}
+use Rattle.frame_core.specs.Schemas.{Head, Schema}
+use Rattle.frame_core.specs.Frames.{Frame}
+use Rattle.frame_core.specs.Selecting.{then_map}
+use Rattle.index_tree.specs.declared.index.Slot.{Slot}
+use Rattle.index_tree.specs.declared.index.Index.{Index}
+use Rattle.index_tree.specs.Covering.{covers, places_where}
+use Rattle.bucket_core.specs.History.{History, body_put}
+use Rattle.reply_model.specs.ReadAnswers.{select_columns}
+use Rattle.frame_read.specs.declared.target.Target.{Target}
+use Rattle.frame_read.specs.declared.tiles.FetchedTile.{FetchedTile}
+use Rattle.frame_read.specs.declared.tiles.Tiles.{Tiles}
+use Rattle.frame_read.specs.Fetches.{IsTargetIndex, RefusesGet}
+
+-- whether the column of a name is asked
+abbrev pub is_asked : Option (List Text) → Text → Bool
+is_asked None name = true
+is_asked (Some names) name = list_any (same_text name) names
+
+-- the places of the asked columns of an index
+abbrev pub places_asked : Option (List Text) → Index → List ℕ
+places_asked columns index = places_where (λ (head : Head). is_asked columns head.0) index.schema.columns
+
+-- ---- the columns
+
+-- a frame of these columns without rows
+abbrev pub no_rows : Schema → Frame
+no_rows schema = record { schema = schema; rows = [] }
+
+-- the schema of the asked columns of a schema, in the order asked
+abbrev pub IsAskedSchema : Schema → Option (List Text) → Schema → Type 0
+IsAskedSchema schema columns asked = then_map (λ (f : Frame). f.schema) (select_columns columns (no_rows schema)) ≡ Ok asked
+
+-- the asked columns are refused, or memory is wanting
+abbrev pub RefusesColumns : Schema → Option (List Text) → Refusal → Type 0
+RefusesColumns schema columns refusals.NoMemory = ⊤
+RefusesColumns schema columns (refusals.NoSuchColumn clause position) = select_columns columns (no_rows schema) ≡ Err (refusals.NoSuchColumn clause position)
+RefusesColumns schema columns _ = ⊥
+
+-- ---- of a history
+
+-- the tile is the slot's, as it was put
+pub record IsGot (h : History) (slot : Slot) (tile : FetchedTile) : Type 0 where
+  pub part : tile.part ≡ slot.part
+  pub body : body_put h slot.key ≡ Some (arc_value tile.body)
+
+-- the tiles are those that the target's index names for the range and the asked columns, in its order, and no others
+pub record IsFetched (h : History) (target : Target) (range : Range) (columns : Option (List Text)) (tiles : Tiles) : Type 0 where
+  pub index : Index
+  pub index_is : IsTargetIndex h target index
+  pub range_is : tiles.range ≡ range
+  pub schema : IsAskedSchema index.schema columns tiles.schema
+  pub got : AllZip (IsGot h) (filter (covers range (places_asked columns index)) index.slots) tiles.tiles
+
+-- ---- refusals
+
+-- the columns of the target's index refuse what is asked, at the target's place
+pub record LacksColumn (h : History) (target : Target) (columns : Option (List Text)) (refused : Refused) : Type 0 where
+  pub place : refused.place ≡ target.place
+  pub index : Index
+  pub index_is : IsTargetIndex h target index
+  pub refuses : select_columns columns (no_rows index.schema) ≡ Err refused.why
+
+-- a get refuses; or behind the index, and before the first tile, the columns do
+abbrev pub RefusesFetch : ℕ → ℕ → History → History → Target → Option (List Text) → Refused → Type 0
+RefusesFetch before now old new target columns refused = RefusesGet before now old new target.symbol target.version refused ⊎ LacksColumn new target columns refused

@@ -1,0 +1,183 @@
+//! The tiles of a version's frame in a range, of the asked columns.
+
+ghost use Rattle.std.specs.Prelude.{◌≡◌, ◌<◌, true, Some, length, option_copied, IfOk, IfErr};
+ghost use Rattle.std.specs.List.{list_any, AllZip, AllByRecursion};
+ghost use Rattle.frame_core.specs.Texts.{same_text};
+ghost use Rattle.frame_core.specs.Refusals.{Answers};
+ghost use Rattle.frame_core.specs.Schemas.{Head, AreColumns};
+ghost use Rattle.frame_core.specs.Frames.{Frame as Table};
+ghost use Rattle.frame_core.specs.Selecting.{then_map, at_places};
+ghost use Rattle.index_tree.specs.Covering.{covers, places_where};
+ghost use Rattle.bucket_core.specs.Laws.{Looks};
+ghost use Rattle.bucket_core.specs.Calls.{IsSteady};
+ghost use Rattle.store_model.specs.Law.{IsClaimed};
+ghost use Rattle.store_model.specs.Links.{links};
+ghost use Rattle.store_model.specs.Holders.{has_index};
+ghost use Rattle.reply_model.specs.ReadAnswers.{select_columns};
+ghost use Rattle.frame_read.specs.Fetches.{RefusesGet, IsTargetIndex};
+ghost use Rattle.frame_read.specs.TileSets.{is_asked, places_asked, IsAskedSchema, RefusesColumns, IsGot, IsFetched, RefusesFetch};
+
+use crate::objects::{get_reached, index_of};
+use crate::resolving::out_of_memory;
+use crate::target::Target;
+use crate::tiles::{FetchedTile, Tiles};
+use base_types::{Items, Keep, NoMemory};
+use bucket_core::Bucket;
+use frame_core::{ColName, ColType, FrameMaker, Range, Refusal, Refused, Schema};
+use index_tree::{Index, covering};
+use std::alloc::Global;
+use std::sync::Wait;
+use version_chain::StoreLaw;
+
+/// The tiles that have the version's rows in the range and of these the asked columns, or all.
+///
+/// The index is got first; then the columns are judged; then each tile that the index names for the range and the columns is got
+/// once, and no other. The bodies are shared with the store and not copied. It may wait for the store.
+pub fn fetch<R: Wait, B: Bucket<StoreLaw>>(
+    rt: &R,
+    alloc: Global,
+    bucket: &mut B,
+    target: &Target,
+    range: Range,
+    columns: Option<&[ColName]>,
+) -> Result<Tiles, Refused>
+    requires linked { has_index (links (B.seen bucket.old) target.now.symbol) target.now.version target.now.index ≡ true }
+    ensures looks { Looks IsClaimed (B.number bucket.old) (B.sole bucket.old) (B.seen bucket.old) (B.seen bucket.new) }
+    ensures steady { IsSteady B.number B.limit B.faults B.sole bucket.old bucket.new }
+    ensures tiles { IfOk result (IsFetched (B.seen bucket.new) target.now range (option_copied columns.entry)) }
+    // The version is gone only where it is buried and not held, and a key of it is gone.
+    ensures refused { IfErr result (RefusesFetch (B.faults bucket.old) (B.faults bucket.new) (B.seen bucket.old) (B.seen bucket.new) target.now (option_copied columns.entry)) }
+{
+    let index = index_of(rt, alloc, bucket, target)?;
+    let schema = match asked_schema(alloc, &index.schema, columns) {
+        Ok(schema) => schema,
+        Err(Refusal::NoSuchColumn { clause, position }) => {
+            return Err(Refused {
+                place: target.place,
+                why: Refusal::NoSuchColumn { clause, position },
+            });
+        }
+        Err(_) => return Err(out_of_memory(bucket.place())),
+    };
+    let Ok(places) = covering_places(alloc, &index, range, columns) else {
+        return Err(out_of_memory(bucket.place()));
+    };
+    let tiles = get_tiles(rt, alloc, bucket, target, &index, places.items())?;
+    Ok(Tiles {
+        schema,
+        range,
+        tiles,
+    })
+}
+
+/// The places of the slots that the range and the asked columns want.
+fn covering_places(
+    alloc: Global,
+    index: &Index,
+    range: Range,
+    columns: Option<&[ColName]>,
+) -> Result<Items<u64>, NoMemory>
+    ensures { IfOk result (λ places. places ≡ places_where (covers range (places_asked (option_copied columns.entry) index.now)) index.now.slots) }
+{
+    let asked = asked_places(alloc, index.schema.columns(), columns)?;
+    covering(alloc, index, range, asked.items())
+}
+
+/// The asked columns of a schema, in the order asked; all of them where none is named.
+fn asked_schema(
+    alloc: Global,
+    schema: &Schema,
+    columns: Option<&[ColName]>,
+) -> Result<Schema, Refusal>
+    requires { AreColumns schema.now.columns }
+    ensures schema { IfOk result (IsAskedSchema schema.now (option_copied columns.entry)) }
+    ensures refused { IfErr result (RefusesColumns schema.now (option_copied columns.entry)) }
+{
+    match columns {
+        Some(names) => named_schema(alloc, schema, names),
+        None => Ok(schema.copy(alloc)?),
+    }
+}
+
+/// The columns of these names, in this order.
+fn named_schema(alloc: Global, schema: &Schema, names: &[ColName]) -> Result<Schema, Refusal>
+    requires { AreColumns schema.now.columns }
+    ensures schema { IfOk result (IsAskedSchema schema.now (Some names.now)) }
+    ensures refused { IfErr result (RefusesColumns schema.now (Some names.now)) }
+{
+    let empty = FrameMaker::make(alloc, schema)?.done();
+    match empty.select(alloc, names) {
+        Ok(picked) => Ok(picked.schema().copy(alloc)?),
+        Err(Refusal::NoSuchColumn { clause, position }) => {
+            Err(Refusal::NoSuchColumn { clause, position })
+        }
+        Err(_) => Err(Refusal::NoMemory),
+    }
+}
+
+/// The places of the asked columns, rising, counted from 0.
+fn asked_places(
+    alloc: Global,
+    schema: &[(ColName, ColType)],
+    columns: Option<&[ColName]>,
+) -> Result<Items<u64>, NoMemory>
+    ensures { IfOk result (λ places. places ≡ places_where (λ (head : Head). is_asked (option_copied columns.entry) head.0) schema.now) }
+{
+    let mut places = Items::with_capacity(alloc, schema.len())?;
+    for place in 0..schema.len() {
+        if is_among(columns, &schema[place].0) {
+            places.push(place as u64)?;
+        }
+    }
+    Ok(places)
+}
+
+/// Whether a name is asked.
+fn is_among(columns: Option<&[ColName]>, name: &ColName) -> bool
+    ensures { result ≡ is_asked (option_copied columns.entry) name.now }
+{
+    match columns {
+        Some(names) => has_name(names, name),
+        None => true,
+    }
+}
+
+/// Whether a name is one of these.
+fn has_name(names: &[ColName], name: &ColName) -> bool
+    ensures { result ≡ list_any (same_text name.now) names.now }
+{
+    names.iter().any(|other| *name == *other)
+}
+
+/// The tiles of the slots at these places, one look for each.
+fn get_tiles<R: Wait, B: Bucket<StoreLaw>>(
+    rt: &R,
+    alloc: Global,
+    bucket: &mut B,
+    target: &Target,
+    index: &Index,
+    places: &[u64],
+) -> Result<Items<FetchedTile>, Refused>
+    requires index { IsTargetIndex (B.seen bucket.old) target.now index.now }
+    requires within { AllByRecursion (λ place. place < length index.now.slots) places.now }
+    ensures looks { Looks IsClaimed (B.number bucket.old) (B.sole bucket.old) (B.seen bucket.old) (B.seen bucket.new) }
+    ensures steady { IsSteady B.number B.limit B.faults B.sole bucket.old bucket.new }
+    ensures tiles { IfOk result (AllZip (IsGot (B.seen bucket.new)) (at_places places.now index.now.slots)) }
+    ensures refused { IfErr result (RefusesGet (B.faults bucket.old) (B.faults bucket.new) (B.seen bucket.old) (B.seen bucket.new) target.now.symbol target.now.version) }
+{
+    let Ok(mut tiles) = Items::with_capacity(alloc, places.len()) else {
+        return Err(out_of_memory(bucket.place()));
+    };
+    for place in places {
+        let slot = index.slots.at(*place as usize);
+        let body = get_reached(rt, bucket, target, &slot.key)?;
+        let tile = FetchedTile {
+            part: slot.part,
+            body,
+        };
+        if tiles.push(tile).is_err() {
+            return Err(out_of_memory(bucket.place()));
+        }
+    }
+    Ok(tiles)
+}

@@ -1,0 +1,15 @@
+-- Names that are noted while the columns of an index are read.
+--     NameSet, has_name   a set of lent names, and whether one of them has these bytes
+use Rattle.std.specs.Prelude.{ℕ, Bool, List}
+use Rattle.std.specs.Cmp.Lexicographic.{slice_cmp}
+use Rattle.std.specs.Ordering.{nat_cmp}
+use Rattle.std.specs.BTreeSet.{BTreeSet, contains_by}
+use denote.Ref.{Bor}
+
+-- a set of lent names
+abbrev pub NameSet : Type 0
+NameSet = BTreeSet (Bor (List ℕ))
+
+-- whether one of the names has these bytes
+abbrev pub has_name : NameSet → List ℕ → Bool
+has_name names name = contains_by (λ (other : Bor (List ℕ)). slice_cmp nat_cmp name other.now) names
