@@ -1,6 +1,7 @@
 pub mod TraceLemmas
 pub mod CallLemmas
 pub mod ListLemmas
+pub mod GridSlots
 pub mod LoopLemmas
 pub mod SteadyLemmas
 pub mod MeetLemmas

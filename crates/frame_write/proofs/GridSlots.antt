@@ -1,0 +1,75 @@
+-- The parts of a grid, as the slots of an index.
+use Rattle.std.proofs.Common.{◌≡◌, ℕ, zero, suc, ◌+◌, ◌-◌, ◌*◌, ◌<◌, ◌≤◌, ℤ, min, max, List, [], ◌∷◌, ◌++◌, length, map, Some, refl, sym, ap, ◌∙◌, subst, arith}
+use Rattle.std.specs.Prelude.{slice_range, ◌≤ℤ◌}
+use Rattle.std.specs.List.{AllByRecursion}
+use Rattle.key_kind.specs.declared.key.KeyKind.TheVariants as kinds
+use Rattle.key_kind.specs.Keys.{IsKey, FitsFields}
+use Rattle.frame_core.specs.declared.part.Part.{Part}
+use Rattle.frame_core.specs.Frames.{Row, Frame, IsFrame, first_stamp, last_stamp}
+use Rattle.frame_core.specs.Limits.{IsStorable}
+use Rattle.segment_cut.specs.Cuttings.{Cutting, IsCutting}
+use Rattle.segment_cut.specs.Tiles.{LiesIn, cut}
+use Rattle.segment_cut.specs.Grids.{grid_of, parts}
+use Rattle.index_tree.specs.declared.index.Slot.{Slot}
+use Rattle.index_tree.specs.declared.index.Index.{Index}
+use Rattle.index_tree.specs.IndexRules.{IsSlot, Cover, IsIndex}
+use Rattle.store_model.specs.Commits.{HasSlotStamps}
+
+-- a part that lies in the frame, with 1 to 100,000 rows; 1 to 127 columns, or none where there is none
+pub record IsGridPart (f : Frame) (part : Part) : Type 0 where
+  pub lies : LiesIn f part
+  pub some_rows : 1 ≤ part.rows
+  pub most_rows : part.rows ≤ 100000
+  pub some_cols : 1 ≤ length f.schema.columns → 1 ≤ part.cols
+  pub most_cols : part.cols ≤ 127
+
+-- the rows of the part have a first and a last stamp, in order
+pub record HasStamps (f : Frame) (part : Part) : Type 0 where
+  pub first : ℤ
+  pub last : ℤ
+  pub first_is : first_stamp (slice_range f.rows part.first_row (part.first_row + part.rows)) ≡ Some first
+  pub last_is : last_stamp (slice_range f.rows part.first_row (part.first_row + part.rows)) ≡ Some last
+  pub ordered : first ≤ℤ last
+
+-- the slot's key is one of a tile with the slot's stamps
+pub record HasTileKey (s : Slot) : Type 0 where
+  pub is_tile : s.key.kind ≡ kinds.TableData
+  pub key : IsKey s.key
+  pub fields : FitsFields s.key
+  pub first : s.key.first ≡ s.first
+  pub last : s.key.last ≡ s.last
+
+-- what is cut from a frame that may be written may be written too
+pub storable_cut : (f : Frame) (part : Part) → IsStorable f → LiesIn f part → IsStorable (cut f part)
+storable_cut f part is lies = ?
+
+-- the parts of a frame's grid, one by one
+pub parts_lie_in : (f : Frame) (c : Cutting) → IsCutting c → AllByRecursion (IsGridPart f) (parts (grid_of f c))
+parts_lie_in f c is = ?
+
+-- the stamps of a cut are those of its rows
+pub first_cut : (f : Frame) (part : Part) → first_stamp (cut f part).rows ≡ first_stamp (slice_range f.rows part.first_row (part.first_row + part.rows))
+first_cut f part = ?
+
+pub last_cut : (f : Frame) (part : Part) → last_stamp (cut f part).rows ≡ last_stamp (slice_range f.rows part.first_row (part.first_row + part.rows))
+last_cut f part = ?
+
+-- the first and the last stamp of some rows
+pub has_stamps : (f : Frame) (part : Part) → IsFrame f → LiesIn f part → 1 ≤ part.rows → HasStamps f part
+has_stamps f part is lies some = ?
+
+-- the stamps of a slot do not fall
+pub slot_ordered : (f : Frame) (s : Slot) → IsFrame f → HasSlotStamps f s → s.first ≤ℤ s.last
+slot_ordered f s is stamps = ?
+
+-- the slots of all parts, in their order, cover the frame
+pub grid_covers : (f : Frame) (c : Cutting) (slots : List Slot) → IsFrame f → IsCutting c → map (λ (s : Slot). s.part) slots ≡ parts (grid_of f c) → AllByRecursion (HasSlotStamps f) slots → Cover (length f.rows) (length f.schema.columns) slots
+grid_covers f c slots is cutting are stamps = ?
+
+-- each keeps the rules of a slot
+pub slot_rules : (f : Frame) (c : Cutting) (slots : List Slot) → IsFrame f → IsCutting c → map (λ (s : Slot). s.part) slots ≡ parts (grid_of f c) → AllByRecursion (HasSlotStamps f) slots → AllByRecursion HasTileKey slots → AllByRecursion (IsSlot (length f.schema.columns)) slots
+slot_rules f c slots is cutting are stamps keys = ?
+
+-- and they are an index of the frame
+pub index_rules : (f : Frame) (c : Cutting) (slots : List Slot) → IsStorable f → IsCutting c → map (λ (s : Slot). s.part) slots ≡ parts (grid_of f c) → AllByRecursion (HasSlotStamps f) slots → AllByRecursion HasTileKey slots → IsIndex (record { schema = f.schema; rows = length f.rows; slots = slots })
+index_rules f c slots is cutting are stamps keys = ?
