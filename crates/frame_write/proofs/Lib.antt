@@ -2,6 +2,9 @@ pub mod TraceLemmas
 pub mod CallLemmas
 pub mod ListLemmas
 pub mod GridSlots
+pub mod ElementLemmas
+pub mod StateLemmas
+pub mod PlanLemmas
 pub mod LoopLemmas
 pub mod SteadyLemmas
 pub mod MeetLemmas

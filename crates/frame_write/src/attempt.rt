@@ -1,5 +1,6 @@
 ghost use Rattle.frame_core.specs.Limits.{IsStorable};
 ghost use Rattle.bucket_core.specs.Calls.{IsSteady};
+ghost use Rattle.frame_write.specs.Placing.{AreTilesOf};
 ghost use Rattle.frame_write.specs.Tries.{DidTry};
 
 use crate::drops::drop_all;
@@ -7,6 +8,7 @@ use crate::options::{Committed, Options};
 use crate::plan::{Plan, plan_write};
 use crate::puts::put_all;
 use crate::refusal::refused_by;
+use crate::tiles::Tile;
 use bucket_core::{Bucket, StoreErr};
 use frame_core::{Frame, Refusal, Refused};
 use key_kind::Symbol;
@@ -29,9 +31,11 @@ pub(crate) fn attempt<R: Wait, B: Bucket<StoreLaw>>(
     bucket: &mut B,
     symbol: &Symbol,
     frame: &Frame,
+    tiles: &[Tile],
     options: &Options,
 ) -> Result<Tried, Refused>
     requires storable { IsStorable frame.now }
+    requires tiles { AreTilesOf frame.now options.now.cutting tiles.now }
     ensures steady { IsSteady B.number B.limit B.faults B.sole bucket.old bucket.new }
     ensures did { DidTry (B.number bucket.old) (B.sole bucket.old) symbol.now frame.now options.now.at options.now.prune (B.limit bucket.old) (B.faults bucket.old) (B.faults bucket.new) (B.seen bucket.old) (B.seen bucket.new) result }
 {
@@ -44,6 +48,7 @@ pub(crate) fn attempt<R: Wait, B: Bucket<StoreLaw>>(
         symbol,
         &state,
         frame,
+        tiles,
         options,
     ) else {
         return Err(Refused {

@@ -4,10 +4,14 @@
 
 mod attempt;
 mod drops;
+mod elements;
+mod numbers;
 mod options;
+mod placing;
 mod plan;
 mod puts;
 mod refusal;
+mod tiles;
 mod write;
 
 pub use base_types::NoMemory;

@@ -1,3 +1,5 @@
+ghost use Rattle.std.specs.Prelude.{◌≡◌};
+
 use segment_cut::Cutting;
 
 /// How a frame is written.
@@ -11,6 +13,15 @@ pub struct Options {
     pub at: i64,
     /// Whether every version that was live before is buried.
     pub prune: bool,
+}
+
+impl Options {
+    /// The stamp of the new version.
+    pub(crate) fn stamp(&self) -> i64
+        ensures { result ≡ self.now.at }
+    {
+        self.at
+    }
 }
 
 /// A commit that stands.

@@ -13,7 +13,19 @@ use Rattle.frame_write.specs.Tries.{DidTry, DidFail}
 use Rattle.frame_write.specs.Stops.{refused_by}
 use Rattle.frame_write.proofs.SteadyLemmas.{on_err, steady_then, change_steady, puts_steady, stops_steady, went_steady}
 use Rattle.frame_write.proofs.AttemptLemmas.{walk_stops, plan_stops, puts_stop, refer_may, commit_stands, refer_fails, still_own, try_met, drops_stop}
+use Rattle.frame_write.proofs.StateLemmas.{walked_lawful, was_told, rising_live}
 use Rattle.frame_write.proofs.attempt.attempt.Goals as goal
+
+pub plan_write-requires : goal.plan_write-requires
+plan_write-requires g c =
+    let seen = c.in_ok-state.ensures.state in
+    let lawful = walked_lawful _ seen.later seen.before seen.split (g.met.B.Bucket.lawful c.walk.new.bucket) in
+    record {
+      storable = c.requires.storable;
+      tiles = c.requires.tiles;
+      was = was_told seen.before c.args.symbol.now c.in_ok-state.state lawful seen.is;
+      rising = rising_live seen.before c.args.symbol.now c.in_ok-state.state lawful seen.is;
+    }
 
 pub returns-in_err-state-clause-did : goal.returns-in_err-state-clause-did
 returns-in_err-state-clause-did g c =
@@ -27,7 +39,7 @@ returns-in_default-clause-did g c = inl (plan_stops _ _ _ _ _ _ _ _ _ c.walk.ens
 pub returns-in_err-put_all-clause-did : goal.returns-in_err-put_all-clause-did
 returns-in_err-put_all-clause-did g c =
     let seen = c.in_ok-state.ensures.state in
-    let p = subst (λ n. IsPlan n c.serial.result seen.before c.args.symbol.now c.args.frame.now c.args.options.now.at c.args.options.now.prune c.in-Ok.plan) (c.client.ensures ∙ c.walk.ensures.steady.same_number) (c.in-Ok.ensures seen.before seen.is) in
+    let p = subst (λ n. IsPlan n c.serial.result seen.before c.args.symbol.now c.args.frame.now c.args.options.now.at c.args.options.now.prune c.in-Ok.plan) (c.client.ensures ∙ c.walk.ensures.steady.same_number) (c.in-Ok.ensures seen.before (walked_lawful _ seen.later seen.before seen.split (g.met.B.Bucket.lawful c.walk.new.bucket)) seen.is) in
     on_err (DidTry (g.B.Bucket.number c.args.bucket.now) (g.B.Bucket.sole c.args.bucket.now) c.args.symbol.now c.args.frame.now c.args.options.now.at c.args.options.now.prune (g.B.Bucket.limit c.args.bucket.now) (g.B.Bucket.faults c.args.bucket.now) (g.B.Bucket.faults c.put_all.new.bucket) (g.B.Bucket.seen c.args.bucket.now) (g.B.Bucket.seen c.put_all.new.bucket))
     c.from_residual-in_err-put_all.result c.in_err-put_all.field-0.0 c.from_residual-in_err-put_all.ensures.0 c.from_residual-in_err-put_all.ensures.1
     (inl (puts_stop (g.B.Bucket.number c.args.bucket.now) (g.B.Bucket.sole c.args.bucket.now) c.args.symbol.now (g.B.Bucket.limit c.args.bucket.now) (g.B.Bucket.faults c.args.bucket.now) (g.B.Bucket.faults c.put_all.new.bucket) (g.B.Bucket.seen c.args.bucket.now) (g.B.Bucket.seen c.walk.new.bucket) (g.B.Bucket.seen c.put_all.new.bucket) (puts_seen c.items.result.now) c.in-Ok.plan.entry c.in_err-put_all.field-0.0 c.walk.ensures.looks
@@ -37,7 +49,7 @@ returns-in_err-put_all-clause-did g c =
 pub refer-requires-clause-may : goal.refer-requires-clause-may
 refer-requires-clause-may g c =
     let seen = c.in_ok-state.ensures.state in
-    let p = subst (λ n. IsPlan n c.serial.result seen.before c.args.symbol.now c.args.frame.now c.args.options.now.at c.args.options.now.prune c.in-Ok.plan) (c.client.ensures ∙ c.walk.ensures.steady.same_number) (c.in-Ok.ensures seen.before seen.is) in
+    let p = subst (λ n. IsPlan n c.serial.result seen.before c.args.symbol.now c.args.frame.now c.args.options.now.at c.args.options.now.prune c.in-Ok.plan) (c.client.ensures ∙ c.walk.ensures.steady.same_number) (c.in-Ok.ensures seen.before (walked_lawful _ seen.later seen.before seen.split (g.met.B.Bucket.lawful c.walk.new.bucket)) seen.is) in
     let puts = puts_steady g.B.Bucket.number g.B.Bucket.limit g.B.Bucket.faults g.B.Bucket.sole c.args.bucket.now c.walk.new.bucket c.walk.ensures.steady (g.B.Bucket.seen c.walk.new.bucket) (g.B.Bucket.seen c.put_all.new.bucket) (puts_seen c.in-Ok.plan.puts)
     (subst (λ ps. PutAll (g.B.Bucket.number c.walk.new.bucket) (g.B.Bucket.sole c.walk.new.bucket) (g.B.Bucket.seen c.walk.new.bucket) (g.B.Bucket.seen c.put_all.new.bucket) (puts_seen ps)) c.items.ensures c.in_ok-put_all.ensures.did) in
     subst (λ n. MayTryRefer IsClaimed (g.B.Bucket.seen c.put_all.new.bucket) n c.args.symbol.now (option_copied c.as_ref.result) c.in-Ok.plan.entry (arc_value c.in-Ok.plan.changes)) (sym (steady_then g.B.Bucket.number g.B.Bucket.limit g.B.Bucket.faults g.B.Bucket.sole c.args.bucket.now c.walk.new.bucket c.walk.ensures.steady c.put_all.new.bucket c.put_all.ensures.steady).same_number)
@@ -47,7 +59,7 @@ refer-requires-clause-may g c =
 pub returns-in-Ok-refer-clause-did : goal.returns-in-Ok-refer-clause-did
 returns-in-Ok-refer-clause-did g c =
     let seen = c.in_ok-state.ensures.state in
-    let p = subst (λ n. IsPlan n c.serial.result seen.before c.args.symbol.now c.args.frame.now c.args.options.now.at c.args.options.now.prune c.in-Ok.plan) (c.client.ensures ∙ c.walk.ensures.steady.same_number) (c.in-Ok.ensures seen.before seen.is) in
+    let p = subst (λ n. IsPlan n c.serial.result seen.before c.args.symbol.now c.args.frame.now c.args.options.now.at c.args.options.now.prune c.in-Ok.plan) (c.client.ensures ∙ c.walk.ensures.steady.same_number) (c.in-Ok.ensures seen.before (walked_lawful _ seen.later seen.before seen.split (g.met.B.Bucket.lawful c.walk.new.bucket)) seen.is) in
     let puts = puts_steady g.B.Bucket.number g.B.Bucket.limit g.B.Bucket.faults g.B.Bucket.sole c.args.bucket.now c.walk.new.bucket c.walk.ensures.steady (g.B.Bucket.seen c.walk.new.bucket) (g.B.Bucket.seen c.put_all.new.bucket) (puts_seen c.in-Ok.plan.puts)
     (subst (λ ps. PutAll (g.B.Bucket.number c.walk.new.bucket) (g.B.Bucket.sole c.walk.new.bucket) (g.B.Bucket.seen c.walk.new.bucket) (g.B.Bucket.seen c.put_all.new.bucket) (puts_seen ps)) c.items.ensures c.in_ok-put_all.ensures.did) in
     let did = (change_steady g.B.Bucket.number g.B.Bucket.limit g.B.Bucket.faults g.B.Bucket.sole c.args.bucket.now c.put_all.new.bucket (steady_then g.B.Bucket.number g.B.Bucket.limit g.B.Bucket.faults g.B.Bucket.sole c.args.bucket.now c.walk.new.bucket c.walk.ensures.steady c.put_all.new.bucket c.put_all.ensures.steady) (g.B.Bucket.faults c.refer.new.self) (g.B.Bucket.seen c.put_all.new.bucket) (g.B.Bucket.seen c.refer.new.self) (λ n. refer_event n c.args.symbol.now c.in-Ok.plan.was c.in-Ok.plan.entry (arc_value c.in-Ok.plan.changes)) (λ l. RefusesRefer l c.args.symbol.now c.in-Ok.plan.was) (Ok c.in-Ok-refer.place)
@@ -58,7 +70,7 @@ returns-in-Ok-refer-clause-did g c =
 pub drop_all-requires-clause-own : goal.drop_all-requires-clause-own
 drop_all-requires-clause-own g c =
     let seen = c.in_ok-state.ensures.state in
-    let p = subst (λ n. IsPlan n c.serial.result seen.before c.args.symbol.now c.args.frame.now c.args.options.now.at c.args.options.now.prune c.in-Ok.plan) (c.client.ensures ∙ c.walk.ensures.steady.same_number) (c.in-Ok.ensures seen.before seen.is) in
+    let p = subst (λ n. IsPlan n c.serial.result seen.before c.args.symbol.now c.args.frame.now c.args.options.now.at c.args.options.now.prune c.in-Ok.plan) (c.client.ensures ∙ c.walk.ensures.steady.same_number) (c.in-Ok.ensures seen.before (walked_lawful _ seen.later seen.before seen.split (g.met.B.Bucket.lawful c.walk.new.bucket)) seen.is) in
     let puts = puts_steady g.B.Bucket.number g.B.Bucket.limit g.B.Bucket.faults g.B.Bucket.sole c.args.bucket.now c.walk.new.bucket c.walk.ensures.steady (g.B.Bucket.seen c.walk.new.bucket) (g.B.Bucket.seen c.put_all.new.bucket) (puts_seen c.in-Ok.plan.puts)
     (subst (λ ps. PutAll (g.B.Bucket.number c.walk.new.bucket) (g.B.Bucket.sole c.walk.new.bucket) (g.B.Bucket.seen c.walk.new.bucket) (g.B.Bucket.seen c.put_all.new.bucket) (puts_seen ps)) c.items.ensures c.in_ok-put_all.ensures.did) in
     let did = (change_steady g.B.Bucket.number g.B.Bucket.limit g.B.Bucket.faults g.B.Bucket.sole c.args.bucket.now c.put_all.new.bucket (steady_then g.B.Bucket.number g.B.Bucket.limit g.B.Bucket.faults g.B.Bucket.sole c.args.bucket.now c.walk.new.bucket c.walk.ensures.steady c.put_all.new.bucket c.put_all.ensures.steady) (g.B.Bucket.faults c.refer.new.self) (g.B.Bucket.seen c.put_all.new.bucket) (g.B.Bucket.seen c.refer.new.self) (λ n. refer_event n c.args.symbol.now c.in-Ok.plan.was c.in-Ok.plan.entry (arc_value c.in-Ok.plan.changes)) (λ l. RefusesRefer l c.args.symbol.now c.in-Ok.plan.was) (Err c.in-Err.err)
@@ -73,7 +85,7 @@ drop_all-requires-clause-own g c =
 pub returns-in_err-drop_all-clause-did : goal.returns-in_err-drop_all-clause-did
 returns-in_err-drop_all-clause-did g c =
     let seen = c.in_ok-state.ensures.state in
-    let p = subst (λ n. IsPlan n c.serial.result seen.before c.args.symbol.now c.args.frame.now c.args.options.now.at c.args.options.now.prune c.in-Ok.plan) (c.client.ensures ∙ c.walk.ensures.steady.same_number) (c.in-Ok.ensures seen.before seen.is) in
+    let p = subst (λ n. IsPlan n c.serial.result seen.before c.args.symbol.now c.args.frame.now c.args.options.now.at c.args.options.now.prune c.in-Ok.plan) (c.client.ensures ∙ c.walk.ensures.steady.same_number) (c.in-Ok.ensures seen.before (walked_lawful _ seen.later seen.before seen.split (g.met.B.Bucket.lawful c.walk.new.bucket)) seen.is) in
     let puts = puts_steady g.B.Bucket.number g.B.Bucket.limit g.B.Bucket.faults g.B.Bucket.sole c.args.bucket.now c.walk.new.bucket c.walk.ensures.steady (g.B.Bucket.seen c.walk.new.bucket) (g.B.Bucket.seen c.put_all.new.bucket) (puts_seen c.in-Ok.plan.puts)
     (subst (λ ps. PutAll (g.B.Bucket.number c.walk.new.bucket) (g.B.Bucket.sole c.walk.new.bucket) (g.B.Bucket.seen c.walk.new.bucket) (g.B.Bucket.seen c.put_all.new.bucket) (puts_seen ps)) c.items.ensures c.in_ok-put_all.ensures.did) in
     let did = (change_steady g.B.Bucket.number g.B.Bucket.limit g.B.Bucket.faults g.B.Bucket.sole c.args.bucket.now c.put_all.new.bucket (steady_then g.B.Bucket.number g.B.Bucket.limit g.B.Bucket.faults g.B.Bucket.sole c.args.bucket.now c.walk.new.bucket c.walk.ensures.steady c.put_all.new.bucket c.put_all.ensures.steady) (g.B.Bucket.faults c.refer.new.self) (g.B.Bucket.seen c.put_all.new.bucket) (g.B.Bucket.seen c.refer.new.self) (λ n. refer_event n c.args.symbol.now c.in-Ok.plan.was c.in-Ok.plan.entry (arc_value c.in-Ok.plan.changes)) (λ l. RefusesRefer l c.args.symbol.now c.in-Ok.plan.was) (Err c.in-Err.err)
@@ -91,7 +103,7 @@ returns-in_err-drop_all-clause-did g c =
 pub returns-clause-did : goal.returns-clause-did
 returns-clause-did g c =
     let seen = c.in_ok-state.ensures.state in
-    let p = subst (λ n. IsPlan n c.serial.result seen.before c.args.symbol.now c.args.frame.now c.args.options.now.at c.args.options.now.prune c.in-Ok.plan) (c.client.ensures ∙ c.walk.ensures.steady.same_number) (c.in-Ok.ensures seen.before seen.is) in
+    let p = subst (λ n. IsPlan n c.serial.result seen.before c.args.symbol.now c.args.frame.now c.args.options.now.at c.args.options.now.prune c.in-Ok.plan) (c.client.ensures ∙ c.walk.ensures.steady.same_number) (c.in-Ok.ensures seen.before (walked_lawful _ seen.later seen.before seen.split (g.met.B.Bucket.lawful c.walk.new.bucket)) seen.is) in
     let puts = puts_steady g.B.Bucket.number g.B.Bucket.limit g.B.Bucket.faults g.B.Bucket.sole c.args.bucket.now c.walk.new.bucket c.walk.ensures.steady (g.B.Bucket.seen c.walk.new.bucket) (g.B.Bucket.seen c.put_all.new.bucket) (puts_seen c.in-Ok.plan.puts)
     (subst (λ ps. PutAll (g.B.Bucket.number c.walk.new.bucket) (g.B.Bucket.sole c.walk.new.bucket) (g.B.Bucket.seen c.walk.new.bucket) (g.B.Bucket.seen c.put_all.new.bucket) (puts_seen ps)) c.items.ensures c.in_ok-put_all.ensures.did) in
     let did = (change_steady g.B.Bucket.number g.B.Bucket.limit g.B.Bucket.faults g.B.Bucket.sole c.args.bucket.now c.put_all.new.bucket (steady_then g.B.Bucket.number g.B.Bucket.limit g.B.Bucket.faults g.B.Bucket.sole c.args.bucket.now c.walk.new.bucket c.walk.ensures.steady c.put_all.new.bucket c.put_all.ensures.steady) (g.B.Bucket.faults c.refer.new.self) (g.B.Bucket.seen c.put_all.new.bucket) (g.B.Bucket.seen c.refer.new.self) (λ n. refer_event n c.args.symbol.now c.in-Ok.plan.was c.in-Ok.plan.entry (arc_value c.in-Ok.plan.changes)) (λ l. RefusesRefer l c.args.symbol.now c.in-Ok.plan.was) (Err c.in-Err.err)
@@ -106,7 +118,7 @@ returns-clause-did g c =
 pub returns-in_default-err : goal.returns-in_default-err
 returns-in_default-err g c =
     let seen = c.in_ok-state.ensures.state in
-    let p = subst (λ n. IsPlan n c.serial.result seen.before c.args.symbol.now c.args.frame.now c.args.options.now.at c.args.options.now.prune c.in-Ok.plan) (c.client.ensures ∙ c.walk.ensures.steady.same_number) (c.in-Ok.ensures seen.before seen.is) in
+    let p = subst (λ n. IsPlan n c.serial.result seen.before c.args.symbol.now c.args.frame.now c.args.options.now.at c.args.options.now.prune c.in-Ok.plan) (c.client.ensures ∙ c.walk.ensures.steady.same_number) (c.in-Ok.ensures seen.before (walked_lawful _ seen.later seen.before seen.split (g.met.B.Bucket.lawful c.walk.new.bucket)) seen.is) in
     let puts = puts_steady g.B.Bucket.number g.B.Bucket.limit g.B.Bucket.faults g.B.Bucket.sole c.args.bucket.now c.walk.new.bucket c.walk.ensures.steady (g.B.Bucket.seen c.walk.new.bucket) (g.B.Bucket.seen c.put_all.new.bucket) (puts_seen c.in-Ok.plan.puts)
     (subst (λ ps. PutAll (g.B.Bucket.number c.walk.new.bucket) (g.B.Bucket.sole c.walk.new.bucket) (g.B.Bucket.seen c.walk.new.bucket) (g.B.Bucket.seen c.put_all.new.bucket) (puts_seen ps)) c.items.ensures c.in_ok-put_all.ensures.did) in
     let did = (change_steady g.B.Bucket.number g.B.Bucket.limit g.B.Bucket.faults g.B.Bucket.sole c.args.bucket.now c.put_all.new.bucket (steady_then g.B.Bucket.number g.B.Bucket.limit g.B.Bucket.faults g.B.Bucket.sole c.args.bucket.now c.walk.new.bucket c.walk.ensures.steady c.put_all.new.bucket c.put_all.ensures.steady) (g.B.Bucket.faults c.refer.new.self) (g.B.Bucket.seen c.put_all.new.bucket) (g.B.Bucket.seen c.refer.new.self) (λ n. refer_event n c.args.symbol.now c.in-Ok.plan.was c.in-Ok.plan.entry (arc_value c.in-Ok.plan.changes)) (λ l. RefusesRefer l c.args.symbol.now c.in-Ok.plan.was) (Err c.in-Err.err)
