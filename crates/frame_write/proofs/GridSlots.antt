@@ -14,6 +14,9 @@ use Rattle.index_tree.specs.declared.index.Slot.{Slot}
 use Rattle.index_tree.specs.declared.index.Index.{Index}
 use Rattle.index_tree.specs.IndexRules.{IsSlot, Cover, IsIndex}
 use Rattle.store_model.specs.Commits.{HasSlotStamps}
+use Rattle.segment_cut.proofs.Cuts.{IsFrame-cut}
+use Rattle.frame_write.proofs.CutLimits.{within_cut}
+use Rattle.frame_write.proofs.RowStamps.{Ends, ends_of, ends_ordered, rising_slice, length_slice, first_cut_rows, last_cut_rows}
 
 -- a part that lies in the frame, with 1 to 100,000 rows; 1 to 127 columns, or none where there is none
 pub record IsGridPart (f : Frame) (part : Part) : Type 0 where
@@ -41,7 +44,7 @@ pub record HasTileKey (s : Slot) : Type 0 where
 
 -- what is cut from a frame that may be written may be written too
 pub storable_cut : (f : Frame) (part : Part) → IsStorable f → LiesIn f part → IsStorable (cut f part)
-storable_cut f part is lies = ?
+storable_cut f part is lies = record { is_frame = IsFrame-cut f part is.is_frame; timed = is.timed; within = within_cut f part is.within }
 
 -- the parts of a frame's grid, one by one
 pub parts_lie_in : (f : Frame) (c : Cutting) → IsCutting c → AllByRecursion (IsGridPart f) (parts (grid_of f c))
@@ -49,18 +52,31 @@ parts_lie_in f c is = ?
 
 -- the stamps of a cut are those of its rows
 pub first_cut : (f : Frame) (part : Part) → first_stamp (cut f part).rows ≡ first_stamp (slice_range f.rows part.first_row (part.first_row + part.rows))
-first_cut f part = ?
+first_cut f part = first_cut_rows part (slice_range f.rows part.first_row (part.first_row + part.rows))
 
 pub last_cut : (f : Frame) (part : Part) → last_stamp (cut f part).rows ≡ last_stamp (slice_range f.rows part.first_row (part.first_row + part.rows))
-last_cut f part = ?
+last_cut f part = last_cut_rows part (slice_range f.rows part.first_row (part.first_row + part.rows))
 
 -- the first and the last stamp of some rows
 pub has_stamps : (f : Frame) (part : Part) → IsFrame f → LiesIn f part → 1 ≤ part.rows → HasStamps f part
-has_stamps f part is lies some = ?
+has_stamps f part is lies some =
+    let a = part.first_row in
+    let b = part.first_row + part.rows in
+    let ends = ends_of (slice_range f.rows a b) (omega (arith, length_slice a b f.rows lies.0)) in
+    record {
+      first = ends.first;
+      last = ends.last;
+      first_is = ends.first_is;
+      last_is = ends.last_is;
+      ordered = ends_ordered (slice_range f.rows a b) ends.first ends.last (rising_slice a b f.rows is.ascending) ends.first_is ends.last_is;
+    }
 
 -- the stamps of a slot do not fall
 pub slot_ordered : (f : Frame) (s : Slot) → IsFrame f → HasSlotStamps f s → s.first ≤ℤ s.last
-slot_ordered f s is stamps = ?
+slot_ordered f s is stamps =
+    let a = s.part.first_row in
+    let b = s.part.first_row + s.part.rows in
+    ends_ordered (slice_range f.rows a b) s.first s.last (rising_slice a b f.rows is.ascending) stamps.first stamps.last
 
 -- the slots of all parts, in their order, cover the frame
 pub grid_covers : (f : Frame) (c : Cutting) (slots : List Slot) → IsFrame f → IsCutting c → map (λ (s : Slot). s.part) slots ≡ parts (grid_of f c) → AllByRecursion (HasSlotStamps f) slots → Cover (length f.rows) (length f.schema.columns) slots

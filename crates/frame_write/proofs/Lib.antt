@@ -1,6 +1,8 @@
 pub mod TraceLemmas
 pub mod CallLemmas
 pub mod ListLemmas
+pub mod RowStamps
+pub mod CutLimits
 pub mod GridSlots
 pub mod LoopLemmas
 pub mod SteadyLemmas
