@@ -21,7 +21,7 @@ pub record IsWithin (rows columns one all : ℕ) : Type 0 where
   pub one_is : one ≤ 65535
   pub all_are : all ≤ 67108864
 
-pub within_from : (r c o a : ℕ) → too_large r c o a ≡ None → IsWithin r c o a
+within_from : (r c o a : ℕ) → too_large r c o a ≡ None → IsWithin r c o a
 within_from r c o a e = record { rows_are = grind arith; columns_are = grind arith; cells_are = grind arith; one_is = grind arith; all_are = grind arith }
 
 within_to : (r c o a : ℕ) → IsWithin r c o a → too_large r c o a ≡ None
@@ -84,11 +84,15 @@ longest-rows part (r ∷ rows) =
       fold_max_cons (longest_text (cut_row part r).cells) (map (λ (r : Row). longest_text r.cells) (map (cut_row part) rows))
     )
 
+-- a frame within the limits
+pub frame_within : (f : Frame) → frame_too_large f ≡ None → IsWithin (length f.rows) (length f.schema.columns) (fold max 0 (map (λ (r : Row). longest_text r.cells) f.rows)) (sum_by (λ (r : Row). all_text_bytes r.cells) f.rows)
+frame_within f e = within_from (length f.rows) (length f.schema.columns) (fold max 0 (map (λ (r : Row). longest_text r.cells) f.rows)) (sum_by (λ (r : Row). all_text_bytes r.cells) f.rows) e
+
 pub within_cut : (f : Frame) (part : Part) → frame_too_large f ≡ None → frame_too_large (cut f part) ≡ None
 within_cut f part e =
     let a = part.first_row in
     let b = part.first_row + part.rows in
-    let w = within_from (length f.rows) (length f.schema.columns) (fold max 0 (map (λ (r : Row). longest_text r.cells) f.rows)) (sum_by (λ (r : Row). all_text_bytes r.cells) f.rows) e in
+    let w = frame_within f e in
     let rows : length (cut f part).rows ≤ length f.rows = omega (arith, length-map (slice_range f.rows a b) (cut_row part), length-part a b f.rows) in
     let columns : length (cut f part).schema.columns ≤ length f.schema.columns = length-part part.first_col (part.first_col + part.cols) f.schema.columns in
     let cells : length (cut f part).rows * length (cut f part).schema.columns ≤ length f.rows * length f.schema.columns = mul-le (length (cut f part).rows) (length (cut f part).schema.columns) (length f.rows) (length f.schema.columns) rows columns in

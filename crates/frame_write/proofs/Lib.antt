@@ -3,6 +3,7 @@ pub mod CallLemmas
 pub mod ListLemmas
 pub mod RowStamps
 pub mod CutLimits
+pub mod GridCover
 pub mod GridSlots
 pub mod LoopLemmas
 pub mod SteadyLemmas
