@@ -1,12 +1,10 @@
 -- What is cut from a frame within the limits is within the limits.
-use Rattle.std.proofs.Common.{◌≡◌, ℕ, zero, suc, ◌+◌, ◌-◌, ◌*◌, ◌≤◌, max, Bool, true, false, List, [], ◌∷◌, length, map, take, drop, Some, None, refl, sym, ap, ◌∙◌, subst, arith, length-drop, length-take}
-use Rattle.std.specs.Prelude.{slice_range, sum_by, fold, nat_lt}
+use Rattle.std.proofs.Common.{◌≡◌, ℕ, zero, suc, ◌+◌, ◌-◌, ◌*◌, ◌≤◌, max, List, [], ◌∷◌, length, map, take, drop, None, arith, length-drop, length-take}
+use Rattle.std.specs.Prelude.{slice_range, sum_by, fold}
 use Rattle.std.proofs.lemmas.List.{length-map}
 use Rattle.std.proofs.lemmas.List.Sums.{sum_by-cons}
 use Rattle.std.proofs.lemmas.Nat.{mul-le}
 use Rattle.frame_core.specs.declared.part.Part.{Part}
-use Rattle.frame_core.specs.declared.cell.Cell.{Cell}
-use Rattle.frame_core.specs.Schemas.{Head}
 use Rattle.frame_core.specs.Frames.{Row, Frame}
 use Rattle.frame_core.specs.Limits.{text_bytes, all_text_bytes, longest_text, too_large, frame_too_large}
 use Rattle.frame_core.proofs.FrameLimits.{fold_max_cons}
@@ -70,7 +68,7 @@ bytes-rows part (r ∷ rows) =
       bytes-rows part rows,
       sum-slice text_bytes part.first_col (part.first_col + part.cols) r.cells,
       sum_by-cons (λ (r : Row). all_text_bytes r.cells) r rows,
-      sum_by-cons (λ (r : Row). all_text_bytes r.cells) (cut_row part r) (map (cut_row part) rows)
+      sum_by-cons (λ (r : Row). all_text_bytes r.cells) (cut_row part r) (map (cut_row part) rows),
     )
 
 longest-rows : (part : Part) (rows : List Row) → fold max 0 (map (λ (r : Row). longest_text r.cells) (map (cut_row part) rows)) ≤ fold max 0 (map (λ (r : Row). longest_text r.cells) rows)
@@ -81,7 +79,7 @@ longest-rows part (r ∷ rows) =
       longest-rows part rows,
       max-slice text_bytes part.first_col (part.first_col + part.cols) r.cells,
       fold_max_cons (longest_text r.cells) (map (λ (r : Row). longest_text r.cells) rows),
-      fold_max_cons (longest_text (cut_row part r).cells) (map (λ (r : Row). longest_text r.cells) (map (cut_row part) rows))
+      fold_max_cons (longest_text (cut_row part r).cells) (map (λ (r : Row). longest_text r.cells) (map (cut_row part) rows)),
     )
 
 -- a frame within the limits

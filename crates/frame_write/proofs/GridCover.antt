@@ -1,5 +1,5 @@
 -- Slots of all parts of a grid, in their order, cover the frame.
-use Rattle.std.proofs.Common.{◌≡◌, ℕ, zero, suc, ◌+◌, ◌-◌, ◌*◌, ◌<◌, ◌≤◌, ℤ, ◌≤ℤ◌, min, max, List, [], ◌∷◌, ◌++◌, length, map, Some, refl, sym, ap, ◌∙◌, subst, arith, inl, inr}
+use Rattle.std.proofs.Common.{◌≡◌, ℕ, zero, suc, ◌+◌, ◌-◌, ◌*◌, ◌<◌, ◌≤◌, min, max, List, [], ◌∷◌, ◌++◌, length, map, Some, refl, sym, ap, ◌∙◌, subst, arith, inl, inr}
 use Rattle.std.specs.Prelude.{slice_range}
 use Rattle.std.specs.List.{AllByRecursion, flat_map, range_with_len}
 use Rattle.std.specs.Int.{div_ceil}
@@ -123,80 +123,80 @@ module _ (f : Frame) (c : Cutting) (is : IsFrame f) (cutting : IsCutting c) wher
 
   same_block : (s t : Slot) (block slice : ℕ) → IsAt s block slice → IsAt t block (slice + 1) → slice + 1 < col_blocks (grid_of f c) → HasSlotStamps f s → HasSlotStamps f t → SameBlock (length f.schema.columns) s t
   same_block s t block slice at next lt stamps later =
-    let left = places_left (length f.schema.columns) c.cols slice cutting.some_cols (grind arith) in
-    let begin = next_begin slice c.cols in
-    let row : t.part.first_row ≡ s.part.first_row = next.first_row ∙ sym at.first_row in
-    let rows : t.part.rows ≡ s.part.rows = next.rows ∙ sym at.rows in
-    let range : slice_range f.rows t.part.first_row (t.part.first_row + t.part.rows) ≡ slice_range f.rows s.part.first_row (s.part.first_row + s.part.rows) = rw (row, rows) refl in
-    let first : Some t.first ≡ Some s.first = sym later.first ∙ ap first_stamp range ∙ stamps.first in
-    let last : Some t.last ≡ Some s.last = sym later.last ∙ ap last_stamp range ∙ stamps.last in
-    record {
-      left = omega (arith, at.first_col, at.cols, left);
-      first_row = row;
-      rows = rows;
-      first = cc;
-      last = cc;
-      first_col = omega (arith, at.first_col, at.cols, left, next.first_col, begin);
-    }
+      let left = places_left (length f.schema.columns) c.cols slice cutting.some_cols (grind arith) in
+      let begin = next_begin slice c.cols in
+      let row : t.part.first_row ≡ s.part.first_row = next.first_row ∙ sym at.first_row in
+      let rows : t.part.rows ≡ s.part.rows = next.rows ∙ sym at.rows in
+      let range : slice_range f.rows t.part.first_row (t.part.first_row + t.part.rows) ≡ slice_range f.rows s.part.first_row (s.part.first_row + s.part.rows) = rw (row, rows) refl in
+      let first : Some t.first ≡ Some s.first = sym later.first ∙ ap first_stamp range ∙ stamps.first in
+      let last : Some t.last ≡ Some s.last = sym later.last ∙ ap last_stamp range ∙ stamps.last in
+      record {
+        left = omega (arith, at.first_col, at.cols, left);
+        first_row = row;
+        rows = rows;
+        first = cc;
+        last = cc;
+        first_col = omega (arith, at.first_col, at.cols, left, next.first_col, begin);
+      }
 
   next_block : (s t : Slot) (block slice : ℕ) → IsAt s block slice → IsAt t (block + 1) 0 → slice + 1 ≡ col_blocks (grid_of f c) → block + 1 < row_blocks (grid_of f c) → HasSlotStamps f s → HasSlotStamps f t → NextBlock (length f.schema.columns) s t
   next_block s t block slice at next last lt stamps later =
-    let whole = ends_there_max (length f.schema.columns) c.cols slice cutting.some_cols last in
-    let left = places_left (length f.rows) c.rows block cutting.some_rows lt in
-    let begin = next_begin block c.rows in
-    let row : t.part.first_row ≡ s.part.first_row + s.part.rows = omega (arith, at.first_row, at.rows, next.first_row, left, begin) in
-    let after : first_stamp (slice_range f.rows (s.part.first_row + s.part.rows) ((s.part.first_row + s.part.rows) + t.part.rows)) ≡ Some t.first = subst (λ n. first_stamp (slice_range f.rows n (n + t.part.rows)) ≡ Some t.first) row later.first in
-    record {
-      whole = omega (arith, at.first_col, at.cols, whole);
-      first_row = row;
-      first = slices_ordered s.part.first_row s.part.rows t.part.rows f.rows s.last t.first is.ascending stamps.last after;
-      first_col = omega (arith, next.first_col);
-    }
+      let whole = ends_there_max (length f.schema.columns) c.cols slice cutting.some_cols last in
+      let left = places_left (length f.rows) c.rows block cutting.some_rows lt in
+      let begin = next_begin block c.rows in
+      let row : t.part.first_row ≡ s.part.first_row + s.part.rows = omega (arith, at.first_row, at.rows, next.first_row, left, begin) in
+      let after : first_stamp (slice_range f.rows (s.part.first_row + s.part.rows) ((s.part.first_row + s.part.rows) + t.part.rows)) ≡ Some t.first = subst (λ n. first_stamp (slice_range f.rows n (n + t.part.rows)) ≡ Some t.first) row later.first in
+      record {
+        whole = omega (arith, at.first_col, at.cols, whole);
+        first_row = row;
+        first = slices_ordered s.part.first_row s.part.rows t.part.rows f.rows s.last t.first is.ascending stamps.last after;
+        first_col = omega (arith, next.first_col);
+      }
 
   -- the slots from one on, where so many slices of its block and so many blocks are left
   lead_on : (s : Slot) (more : List Slot) (block slice left blocks : ℕ) → s.part ≡ part_at (grid_of f c) block slice → map (λ (s : Slot). s.part) more ≡ map (part_at (grid_of f c) block) (range_with_len (slice + 1) left) ++ flat_map (block_parts (grid_of f c)) (range_with_len (block + 1) blocks) → (slice + 1) + left ≡ col_blocks (grid_of f c) → (block + 1) + blocks ≡ row_blocks (grid_of f c) → HasSlotStamps f s → AllByRecursion (HasSlotStamps f) more → LeadOn (length f.rows) (length f.schema.columns) s more
   lead_on s [] block slice (suc left) blocks here are slices_are blocks_are stamps all = absurd cc
   lead_on s (t ∷ more) block slice (suc left) blocks here are slices_are blocks_are stamps all =
-    let next : t.part ≡ part_at (grid_of f c) block (slice + 1) = cc in
-    let rest : map (λ (s : Slot). s.part) more ≡ map (part_at (grid_of f c) block) (range_with_len ((slice + 1) + 1) left) ++ flat_map (block_parts (grid_of f c)) (range_with_len (block + 1) blocks) = cc in
-    let lt : slice + 1 < col_blocks (grid_of f c) = omega (arith, slices_are) in
-    let less : ((slice + 1) + 1) + left ≡ col_blocks (grid_of f c) = omega arith ∙ slices_are in
-    (inl (same_block s t block slice (is_at s block slice here) (is_at t block (slice + 1) next) lt stamps all.0), lead_on t more block (slice + 1) left blocks next rest less blocks_are all.0 all.1)
+      let next : t.part ≡ part_at (grid_of f c) block (slice + 1) = cc in
+      let rest : map (λ (s : Slot). s.part) more ≡ map (part_at (grid_of f c) block) (range_with_len ((slice + 1) + 1) left) ++ flat_map (block_parts (grid_of f c)) (range_with_len (block + 1) blocks) = cc in
+      let lt : slice + 1 < col_blocks (grid_of f c) = omega (arith, slices_are) in
+      let less : ((slice + 1) + 1) + left ≡ col_blocks (grid_of f c) = omega arith ∙ slices_are in
+      (inl (same_block s t block slice (is_at s block slice here) (is_at t block (slice + 1) next) lt stamps all.0), lead_on t more block (slice + 1) left blocks next rest less blocks_are all.0 all.1)
   lead_on s [] block slice zero zero here are slices_are blocks_are stamps all =
-    let at = is_at s block slice here in
-    let rows = ends_there (length f.rows) c.rows block cutting.some_rows (omega arith ∙ blocks_are) in
-    let cols = ends_there_max (length f.schema.columns) c.cols slice cutting.some_cols (omega arith ∙ slices_are) in
-    (omega (arith, at.first_row, at.rows, rows), omega (arith, at.first_col, at.cols, cols))
+      let at = is_at s block slice here in
+      let rows = ends_there (length f.rows) c.rows block cutting.some_rows (omega arith ∙ blocks_are) in
+      let cols = ends_there_max (length f.schema.columns) c.cols slice cutting.some_cols (omega arith ∙ slices_are) in
+      (omega (arith, at.first_row, at.rows, rows), omega (arith, at.first_col, at.cols, cols))
   lead_on s (t ∷ more) block slice zero zero here are slices_are blocks_are stamps all = absurd cc
   lead_on s [] block slice zero (suc blocks) here are slices_are blocks_are stamps all =
-    let k = is_more (col_blocks (grid_of f c)) (grind arith) in
-    let split : map (λ (s : Slot). s.part) [] ≡ map (part_at (grid_of f c) (block + 1)) (range_with_len 0 (suc k.one_less)) ++ flat_map (block_parts (grid_of f c)) (range_with_len ((block + 1) + 1) blocks) = subst (λ n. map (λ (s : Slot). s.part) [] ≡ map (part_at (grid_of f c) (block + 1)) (range_with_len 0 n) ++ flat_map (block_parts (grid_of f c)) (range_with_len ((block + 1) + 1) blocks)) k.is are in
-    absurd cc
+      let k = is_more (col_blocks (grid_of f c)) (grind arith) in
+      let split : map (λ (s : Slot). s.part) [] ≡ map (part_at (grid_of f c) (block + 1)) (range_with_len 0 (suc k.one_less)) ++ flat_map (block_parts (grid_of f c)) (range_with_len ((block + 1) + 1) blocks) = subst (λ n. map (λ (s : Slot). s.part) [] ≡ map (part_at (grid_of f c) (block + 1)) (range_with_len 0 n) ++ flat_map (block_parts (grid_of f c)) (range_with_len ((block + 1) + 1) blocks)) k.is are in
+      absurd cc
   lead_on s (t ∷ more) block slice zero (suc blocks) here are slices_are blocks_are stamps all =
-    let k = is_more (col_blocks (grid_of f c)) (grind arith) in
-    let split : map (λ (s : Slot). s.part) (t ∷ more) ≡ map (part_at (grid_of f c) (block + 1)) (range_with_len 0 (suc k.one_less)) ++ flat_map (block_parts (grid_of f c)) (range_with_len ((block + 1) + 1) blocks) = subst (λ n. map (λ (s : Slot). s.part) (t ∷ more) ≡ map (part_at (grid_of f c) (block + 1)) (range_with_len 0 n) ++ flat_map (block_parts (grid_of f c)) (range_with_len ((block + 1) + 1) blocks)) k.is are in
-    let next : t.part ≡ part_at (grid_of f c) (block + 1) 0 = cc in
-    let rest : map (λ (s : Slot). s.part) more ≡ map (part_at (grid_of f c) (block + 1)) (range_with_len (0 + 1) k.one_less) ++ flat_map (block_parts (grid_of f c)) (range_with_len ((block + 1) + 1) blocks) = cc in
-    let last : slice + 1 ≡ col_blocks (grid_of f c) = omega arith ∙ slices_are in
-    let lt : block + 1 < row_blocks (grid_of f c) = omega (arith, blocks_are) in
-    let slices_next : (0 + 1) + k.one_less ≡ col_blocks (grid_of f c) = omega arith ∙ sym k.is in
-    let blocks_next : ((block + 1) + 1) + blocks ≡ row_blocks (grid_of f c) = omega arith ∙ blocks_are in
-    (inr (next_block s t block slice (is_at s block slice here) (is_at t (block + 1) 0 next) last lt stamps all.0), lead_on t more (block + 1) 0 k.one_less blocks next rest slices_next blocks_next all.0 all.1)
+      let k = is_more (col_blocks (grid_of f c)) (grind arith) in
+      let split : map (λ (s : Slot). s.part) (t ∷ more) ≡ map (part_at (grid_of f c) (block + 1)) (range_with_len 0 (suc k.one_less)) ++ flat_map (block_parts (grid_of f c)) (range_with_len ((block + 1) + 1) blocks) = subst (λ n. map (λ (s : Slot). s.part) (t ∷ more) ≡ map (part_at (grid_of f c) (block + 1)) (range_with_len 0 n) ++ flat_map (block_parts (grid_of f c)) (range_with_len ((block + 1) + 1) blocks)) k.is are in
+      let next : t.part ≡ part_at (grid_of f c) (block + 1) 0 = cc in
+      let rest : map (λ (s : Slot). s.part) more ≡ map (part_at (grid_of f c) (block + 1)) (range_with_len (0 + 1) k.one_less) ++ flat_map (block_parts (grid_of f c)) (range_with_len ((block + 1) + 1) blocks) = cc in
+      let last : slice + 1 ≡ col_blocks (grid_of f c) = omega arith ∙ slices_are in
+      let lt : block + 1 < row_blocks (grid_of f c) = omega (arith, blocks_are) in
+      let slices_next : (0 + 1) + k.one_less ≡ col_blocks (grid_of f c) = omega arith ∙ sym k.is in
+      let blocks_next : ((block + 1) + 1) + blocks ≡ row_blocks (grid_of f c) = omega arith ∙ blocks_are in
+      (inr (next_block s t block slice (is_at s block slice here) (is_at t (block + 1) 0 next) last lt stamps all.0), lead_on t more (block + 1) 0 k.one_less blocks next rest slices_next blocks_next all.0 all.1)
 
   -- from the first on
   pub cover_from : (slots : List Slot) (blocks : ℕ) → row_blocks (grid_of f c) ≡ blocks → map (λ (s : Slot). s.part) slots ≡ flat_map (block_parts (grid_of f c)) (range_with_len 0 blocks) → AllByRecursion (HasSlotStamps f) slots → Cover (length f.rows) (length f.schema.columns) slots
   cover_from [] zero blocks_are are all = no_places (length f.rows) c.rows cutting.some_rows blocks_are
   cover_from (s ∷ more) zero blocks_are are all = absurd cc
   cover_from [] (suc blocks) blocks_are are all =
-    let k = is_more (col_blocks (grid_of f c)) (grind arith) in
-    let split : map (λ (s : Slot). s.part) [] ≡ map (part_at (grid_of f c) 0) (range_with_len 0 (suc k.one_less)) ++ flat_map (block_parts (grid_of f c)) (range_with_len (0 + 1) blocks) = subst (λ n. map (λ (s : Slot). s.part) [] ≡ map (part_at (grid_of f c) 0) (range_with_len 0 n) ++ flat_map (block_parts (grid_of f c)) (range_with_len (0 + 1) blocks)) k.is are in
-    absurd cc
+      let k = is_more (col_blocks (grid_of f c)) (grind arith) in
+      let split : map (λ (s : Slot). s.part) [] ≡ map (part_at (grid_of f c) 0) (range_with_len 0 (suc k.one_less)) ++ flat_map (block_parts (grid_of f c)) (range_with_len (0 + 1) blocks) = subst (λ n. map (λ (s : Slot). s.part) [] ≡ map (part_at (grid_of f c) 0) (range_with_len 0 n) ++ flat_map (block_parts (grid_of f c)) (range_with_len (0 + 1) blocks)) k.is are in
+      absurd cc
   cover_from (s ∷ more) (suc blocks) blocks_are are all =
-    let k = is_more (col_blocks (grid_of f c)) (grind arith) in
-    let split : map (λ (s : Slot). s.part) (s ∷ more) ≡ map (part_at (grid_of f c) 0) (range_with_len 0 (suc k.one_less)) ++ flat_map (block_parts (grid_of f c)) (range_with_len (0 + 1) blocks) = subst (λ n. map (λ (s : Slot). s.part) (s ∷ more) ≡ map (part_at (grid_of f c) 0) (range_with_len 0 n) ++ flat_map (block_parts (grid_of f c)) (range_with_len (0 + 1) blocks)) k.is are in
-    let here : s.part ≡ part_at (grid_of f c) 0 0 = cc in
-    let rest : map (λ (s : Slot). s.part) more ≡ map (part_at (grid_of f c) 0) (range_with_len (0 + 1) k.one_less) ++ flat_map (block_parts (grid_of f c)) (range_with_len (0 + 1) blocks) = cc in
-    let at = is_at s 0 0 here in
-    let slices_are : (0 + 1) + k.one_less ≡ col_blocks (grid_of f c) = omega arith ∙ sym k.is in
-    let all_blocks : (0 + 1) + blocks ≡ row_blocks (grid_of f c) = omega arith ∙ sym blocks_are in
-    (omega (arith, at.first_row), omega (arith, at.first_col), lead_on s more 0 0 k.one_less blocks here rest slices_are all_blocks all.0 all.1)
+      let k = is_more (col_blocks (grid_of f c)) (grind arith) in
+      let split : map (λ (s : Slot). s.part) (s ∷ more) ≡ map (part_at (grid_of f c) 0) (range_with_len 0 (suc k.one_less)) ++ flat_map (block_parts (grid_of f c)) (range_with_len (0 + 1) blocks) = subst (λ n. map (λ (s : Slot). s.part) (s ∷ more) ≡ map (part_at (grid_of f c) 0) (range_with_len 0 n) ++ flat_map (block_parts (grid_of f c)) (range_with_len (0 + 1) blocks)) k.is are in
+      let here : s.part ≡ part_at (grid_of f c) 0 0 = cc in
+      let rest : map (λ (s : Slot). s.part) more ≡ map (part_at (grid_of f c) 0) (range_with_len (0 + 1) k.one_less) ++ flat_map (block_parts (grid_of f c)) (range_with_len (0 + 1) blocks) = cc in
+      let at = is_at s 0 0 here in
+      let slices_are : (0 + 1) + k.one_less ≡ col_blocks (grid_of f c) = omega arith ∙ sym k.is in
+      let all_blocks : (0 + 1) + blocks ≡ row_blocks (grid_of f c) = omega arith ∙ sym blocks_are in
+      (omega (arith, at.first_row), omega (arith, at.first_col), lead_on s more 0 0 k.one_less blocks here rest slices_are all_blocks all.0 all.1)

@@ -1,26 +1,26 @@
 -- The parts of a grid, as the slots of an index.
-use Rattle.std.proofs.Common.{◌≡◌, ℕ, zero, suc, ◌+◌, ◌-◌, ◌*◌, ◌<◌, ◌≤◌, ℤ, min, max, List, [], ◌∷◌, ◌++◌, length, map, Some, refl, sym, ap, ◌∙◌, subst, arith}
+use Rattle.std.proofs.Common.{◌≡◌, ℕ, ◌+◌, ◌<◌, ◌≤◌, ℤ, List, [], ◌∷◌, length, map, Some, refl, sym, ap, ◌∙◌, subst, arith}
 use Rattle.std.specs.Prelude.{slice_range, ◌≤ℤ◌}
 use Rattle.std.specs.List.{AllByRecursion, range_with_len}
 use Rattle.std.proofs.lemmas.List.{length-map}
 use Rattle.key_kind.specs.declared.key.KeyKind.TheVariants as kinds
 use Rattle.key_kind.specs.Keys.{IsKey, FitsFields}
 use Rattle.frame_core.specs.declared.part.Part.{Part}
-use Rattle.frame_core.specs.Frames.{Row, Frame, IsFrame, first_stamp, last_stamp}
+use Rattle.frame_core.specs.Frames.{Frame, IsFrame, first_stamp, last_stamp}
 use Rattle.frame_core.specs.Limits.{IsStorable}
 use Rattle.segment_cut.specs.Cuttings.{Cutting, IsCutting}
-use Rattle.segment_cut.specs.Tiles.{LiesIn, cut}
-use Rattle.segment_cut.specs.Grids.{grid_of, part_at, block_parts, row_blocks, col_blocks, parts}
+use Rattle.segment_cut.specs.Tiles.{LiesIn, Tiled, cut}
+use Rattle.segment_cut.specs.Grids.{grid_of, part_at, block_parts, row_blocks, col_blocks, parts, tiles_of}
 use Rattle.index_tree.specs.declared.index.Slot.{Slot}
-use Rattle.index_tree.specs.declared.index.Index.{Index}
 use Rattle.index_tree.specs.IndexRules.{IsSlot, Cover, IsIndex}
 use Rattle.store_model.specs.Commits.{HasSlotStamps}
+use Rattle.frame_core.proofs.Totals.{map-map}
 use Rattle.segment_cut.proofs.Cuts.{IsFrame-cut}
-use Rattle.segment_cut.proofs.GridLemmas.{begins-within-max}
+use Rattle.segment_cut.proofs.GridLemmas.{begins-within-max, tiled-grid}
 use Rattle.segment_cut.proofs.Lists.{all-flat_map, all-map, all-range, all-unmap}
 use Rattle.frame_write.proofs.GridCover.{begins_before, begins_before_max, few_parts, cover_from}
 use Rattle.frame_write.proofs.CutLimits.{frame_within, within_cut}
-use Rattle.frame_write.proofs.RowStamps.{Ends, ends_of, ends_ordered, rising_slice, length_slice, first_cut_rows, last_cut_rows}
+use Rattle.frame_write.proofs.RowStamps.{ends_of, ends_ordered, rising_slice, length_slice, first_cut_rows, last_cut_rows}
 
 -- a part that lies in the frame, with 1 to 100,000 rows; 1 to 127 columns, or none where there is none
 pub record IsGridPart (f : Frame) (part : Part) : Type 0 where
@@ -142,3 +142,9 @@ index_rules f c slots is cutting are stamps keys =
       each = slot_rules f c slots is.is_frame cutting are stamps keys;
       cover = grid_covers f c slots is.is_frame cutting are stamps;
     }
+
+-- their tiles tile the frame
+pub slots_tiled : (f : Frame) (c : Cutting) (slots : List Slot) → IsCutting c → map (λ (s : Slot). s.part) slots ≡ parts (grid_of f c) → Tiled f (map (λ (s : Slot). (s.part, cut f s.part)) slots)
+slots_tiled f c slots cutting are =
+    let same : map (λ (s : Slot). (s.part, cut f s.part)) slots ≡ tiles_of f c = sym (map-map (λ (p : Part). (p, cut f p)) (λ (s : Slot). s.part) slots) ∙ ap (map (λ (p : Part). (p, cut f p))) are in
+    subst (Tiled f) (sym same) (tiled-grid f c cutting)

@@ -1,11 +1,13 @@
 -- The first and the last stamp of rows that never fall.
-use Rattle.std.proofs.Common.{◌≡◌, ℕ, zero, suc, ◌+◌, ◌-◌, ◌≤◌, ℤ, ◌≤ℤ◌, List, [], ◌∷◌, length, map, take, drop, Some, refl, sym, ap, ◌∙◌, subst, arith, length-drop}
+use Rattle.std.proofs.Common.{◌≡◌, ℕ, zero, suc, ◌+◌, ◌-◌, ◌≤◌, ℤ, ◌≤ℤ◌, List, [], ◌∷◌, length, map, take, drop, Some, refl, ap, ◌∙◌, subst, arith, length-drop}
 use Rattle.std.specs.Prelude.{slice_range}
 use Rattle.std.proofs.lemmas.Int.{ints}
 use Rattle.std.proofs.lemmas.List.{drop-drop, length-take-le}
 use Rattle.frame_core.specs.declared.part.Part.{Part}
 use Rattle.frame_core.specs.Frames.{Row, NeverFall, stamps_of, first_stamp, last_stamp}
 use Rattle.segment_cut.specs.Tiles.{cut_row}
+use Rattle.frame_core.proofs.Parts.{NeverFall-slice}
+use Rattle.frame_core.proofs.ColumnParts.{slice-map}
 
 le_trans : (a b c : ℤ) → a ≤ℤ b → b ≤ℤ c → a ≤ℤ c
 le_trans a b c ab bc = grind (arith, ints)
@@ -13,9 +15,11 @@ le_trans a b c ab bc = grind (arith, ints)
 le_refl : (a : ℤ) → a ≤ℤ a
 le_refl a = grind (arith, ints)
 
+-- how many rows a part has
 pub length_slice : {X : Type 0} (a b : ℕ) (xs : List X) → b ≤ length xs → length (slice_range xs a b) ≡ b - a
 length_slice a b xs le = length-take-le (b - a) (drop a xs) (omega (arith, length-drop a xs))
 
+-- the stamps of rows with fewer cells
 pub first_cut_rows : (part : Part) (rows : List Row) → first_stamp (map (cut_row part) rows) ≡ first_stamp rows
 first_cut_rows part [] = refl
 first_cut_rows part (r ∷ rows) = refl
@@ -47,21 +51,15 @@ ends_ordered (r ∷ s ∷ rows) x y rising first last =
     let here : r.stamp ≡ x = cc in
     rw (← here) (le_trans r.stamp s.stamp y rising.0 (ends_ordered (s ∷ rows) s.stamp y rising.1 refl last))
 
-pub rising_take : (n : ℕ) (rows : List Row) → NeverFall (stamps_of rows) → NeverFall (stamps_of (take n rows))
-rising_take zero rows rising = tt
-rising_take (suc n) [] rising = tt
-rising_take (suc zero) (r ∷ rows) rising = tt
-rising_take (suc (suc n)) (r ∷ []) rising = tt
-rising_take (suc (suc n)) (r ∷ s ∷ rows) rising = (rising.0, rising_take (suc n) (s ∷ rows) rising.1)
-
-pub rising_drop : (n : ℕ) (rows : List Row) → NeverFall (stamps_of rows) → NeverFall (stamps_of (drop n rows))
+-- the stamps of a part never fall
+rising_drop : (n : ℕ) (rows : List Row) → NeverFall (stamps_of rows) → NeverFall (stamps_of (drop n rows))
 rising_drop zero rows rising = rising
 rising_drop (suc n) [] rising = tt
 rising_drop (suc n) (r ∷ []) rising = rising_drop n [] tt
 rising_drop (suc n) (r ∷ s ∷ rows) rising = rising_drop n (s ∷ rows) rising.1
 
 pub rising_slice : (a b : ℕ) (rows : List Row) → NeverFall (stamps_of rows) → NeverFall (stamps_of (slice_range rows a b))
-rising_slice a b rows rising = rising_take (b - a) (drop a rows) (rising_drop a rows rising)
+rising_slice a b rows rising = rw (slice-map (λ (r : Row). r.stamp) a b rows) (NeverFall-slice a b (stamps_of rows) rising)
 
 -- the last stamp of the first rows is not above the first of the others
 last-before : (n : ℕ) (rows : List Row) (x y : ℤ) → NeverFall (stamps_of rows) → last_stamp (take n rows) ≡ Some x → first_stamp (drop n rows) ≡ Some y → x ≤ℤ y
