@@ -1,6 +1,9 @@
 pub mod TraceLemmas
 pub mod CallLemmas
 pub mod ListLemmas
+pub mod RowStamps
+pub mod CutLimits
+pub mod GridCover
 pub mod GridSlots
 pub mod ElementLemmas
 pub mod StateLemmas
