@@ -5,7 +5,7 @@
 --     index_key, element_key      the keys of the index and of the element
 --     IsElementKey        the key of an element that stands before
 --     live_of, next_of    of a walked state: the numbers of the live versions, ascending, and the number of the next version
-use Rattle.std.specs.Prelude.{◌≡◌, ℕ, suc, ℤ, pos, not, List, [], ◌∷◌, ◌+◌, map, length, reverse, filter, slice_range, unwrap_or, Some, Ok, FitsSigned}
+use Rattle.std.specs.Prelude.{◌≡◌, ℕ, suc, pos, not, List, [], ◌∷◌, ◌+◌, map, reverse, filter, slice_range, unwrap_or, Some, Ok, FitsSigned}
 use Rattle.std.specs.Int.{w64}
 use Rattle.std.specs.Arc.{arc_value}
 use Rattle.std.specs.List.{AllByRecursion}

@@ -17,8 +17,13 @@ pub(crate) fn next_version(state: &SymbolState) -> Result<u64, NoMemory>
     ensures next { IfOk result (λ number. number ≡ next_of state.now) }
     ensures fits { IfOk result (λ number. number < 2 ^ 64) }
 {
-    let _ = state;
-    Err(NoMemory)
+    match state.links.items().last() {
+        None => Ok(0),
+        Some(row) => match row.version.checked_add(1) {
+            Some(number) => Ok(number),
+            None => Err(NoMemory),
+        },
+    }
 }
 
 /// The numbers of the versions that a commit buries: with prune those that are live, ascending.

@@ -1,11 +1,11 @@
-ghost use Rattle.std.specs.Prelude.{◌≡◌, ◌+◌, ◌<◌, ◌^◌, length, IfOk, OnOk, Ok};
+ghost use Rattle.std.specs.Prelude.{◌≡◌, ◌+◌, ◌<◌, ◌^◌, suc, [], ◌∷◌, ◌++◌, length, IfOk, OnOk, Ok};
 ghost use Rattle.std.specs.Arc.{arc_value};
 ghost use Rattle.index_tree.specs.IndexText.{index_of};
 ghost use Rattle.index_tree.specs.IndexRules.{IsIndex};
 ghost use Rattle.key_kind.specs.Names.{IsName};
 ghost use Rattle.store_model.specs.OwnPuts.{slots_of};
 ghost use Rattle.frame_write.specs.Plans.{puts_seen};
-ghost use Rattle.frame_write.specs.Placing.{placed, tile_puts, index_key};
+ghost use Rattle.frame_write.specs.Placing.{slot_at, placed, tile_puts, index_key};
 
 use crate::puts::Prepared;
 use crate::tiles::Tile;
@@ -13,7 +13,7 @@ use base_types::{Items, Keep, NoMemory};
 use bucket_core::Body;
 use frame_core::Frame;
 use index_tree::{Index, Slot, build};
-use key_kind::{Key, KeyKind, Symbol};
+use key_kind::{Key, KeyKind, Name, Symbol};
 use std::alloc::Global;
 use std::sync::Arc;
 
@@ -26,6 +26,48 @@ pub(crate) struct Placed {
     pub(crate) puts: Items<Prepared>,
     /// The serial behind them.
     pub(crate) next: u64,
+}
+
+impl Placed {
+    /// Puts a tile behind the others.
+    fn add(
+        &mut self,
+        alloc: Global,
+        client: u32,
+        name: &Name,
+        version: u64,
+        tile: &Tile,
+    ) -> Result<(), NoMemory>
+        ensures slots { OnOk result (self.new.slots ≡ self.old.slots ++ slot_at client name.now version self.old.next tile.now ∷ []) }
+        ensures puts { OnOk result (puts_seen self.new.puts ≡ puts_seen self.old.puts ++ ((slot_at client name.now version self.old.next tile.now).key, arc_value tile.now.body) ∷ []) }
+        ensures next { OnOk result (self.new.next ≡ suc self.old.next) }
+        ensures fits { OnOk result (self.new.next < 2 ^ 64) }
+    {
+        let Some(next) = self.next.checked_add(1) else {
+            return Err(NoMemory);
+        };
+        let key = Key {
+            kind: KeyKind::TableData,
+            name: name.copy(alloc)?,
+            client,
+            serial: self.next,
+            version,
+            first: tile.first,
+            last: tile.last,
+        };
+        self.puts.push(Prepared {
+            key: key.copy(alloc)?,
+            body: Arc::try_clone(&tile.body)?,
+        })?;
+        self.slots.push(Slot {
+            key,
+            part: tile.part,
+            first: tile.first,
+            last: tile.last,
+        })?;
+        self.next = next;
+        Ok(())
+    }
 }
 
 /// The tiles under keys from this serial on.
@@ -43,13 +85,16 @@ pub(crate) fn place_tiles(
     ensures fits { OnOk result (serial + length tiles.now < 2 ^ 64) }
     ensures is_name { OnOk result (IsName symbol.now) }
 {
-    let _ = alloc;
-    let _ = client;
-    let _ = serial;
-    let _ = symbol;
-    let _ = version;
-    let _ = tiles;
-    Err(NoMemory)
+    let name = symbol.name();
+    let mut all = Placed {
+        slots: Items::new(alloc),
+        puts: Items::new(alloc),
+        next: serial,
+    };
+    for tile in tiles {
+        all.add(alloc, client, name, version, tile)?;
+    }
+    Ok(all)
 }
 
 /// The index of these slots under its key.

@@ -1,4 +1,4 @@
-use Rattle.std.proofs.Common.{true, ap, inl, subst, sym, ◌∙◌, refl, Ok, Err}
+use Rattle.std.proofs.Common.{ℕ, true, ap, inl, subst, sym, ◌∙◌, refl, Ok, Err}
 use Rattle.std.specs.Prelude.{map, option_copied}
 use Rattle.std.specs.Arc.{arc_value}
 use Rattle.bucket_core.specs.declared.answer.StoreErr.{StoreErr}
@@ -8,7 +8,8 @@ use Rattle.reply_model.specs.Tries.{put_of, drop_of, IsTry}
 use Rattle.store_model.specs.OwnPuts.{AreOwnPuts}
 use Rattle.frame_write.specs.Traces.{Went}
 use Rattle.frame_write.specs.PutCalls.{PutAll, StoppedCalls}
-use Rattle.frame_write.specs.Plans.{IsPlan, puts_seen}
+use Rattle.frame_write.specs.Plans.{IsPlan, ArePutsFrom, puts_seen}
+use Rattle.bucket_core.specs.History.{puts_by}
 use Rattle.frame_write.specs.Tries.{DidTry, DidFail}
 use Rattle.frame_write.specs.Stops.{refused_by}
 use Rattle.frame_write.proofs.SteadyLemmas.{on_err, steady_then, change_steady, puts_steady, stops_steady, went_steady}
@@ -26,6 +27,30 @@ plan_write-requires g c =
       was = was_told seen.before c.args.symbol.now c.in_ok-state.state lawful seen.is;
       rising = rising_live seen.before c.args.symbol.now c.in_ok-state.state lawful seen.is;
     }
+
+pub put_all-requires : goal.put_all-requires
+put_all-requires g c =
+    let seen = c.in_ok-state.ensures.state in
+    let q = c.in-Ok.ensures seen.before (walked_lawful _ seen.later seen.before seen.split (g.met.B.Bucket.lawful c.walk.new.bucket)) seen.is in
+    let number : ℕ = g.B.Bucket.number c.walk.new.bucket in
+    record {
+      puts = subst (λ ps. ArePutsFrom number (puts_by number (g.B.Bucket.seen c.walk.new.bucket)) (puts_seen ps)) (sym c.items.ensures)
+          (subst (λ n. ArePutsFrom number n (puts_seen c.in-Ok.plan.puts)) c.serial.ensures
+          (subst (λ n. ArePutsFrom n c.serial.result (puts_seen c.in-Ok.plan.puts)) c.client.ensures q.puts));
+    }
+
+pub refer-requires-clause-mark : goal.refer-requires-clause-mark
+refer-requires-clause-mark g c =
+    let seen = c.in_ok-state.ensures.state in
+    (c.in-Ok.ensures seen.before (walked_lawful _ seen.later seen.before seen.split (g.met.B.Bucket.lawful c.walk.new.bucket)) seen.is).mark
+
+pub drop_all-requires-clause-apart : goal.drop_all-requires-clause-apart
+drop_all-requires-clause-apart g c =
+    let seen = c.in_ok-state.ensures.state in
+    let q = c.in-Ok.ensures seen.before (walked_lawful _ seen.later seen.before seen.split (g.met.B.Bucket.lawful c.walk.new.bucket)) seen.is in
+    let st3 = steady_then g.B.Bucket.number g.B.Bucket.limit g.B.Bucket.faults g.B.Bucket.sole c.args.bucket.now c.put_all.new.bucket (steady_then g.B.Bucket.number g.B.Bucket.limit g.B.Bucket.faults g.B.Bucket.sole c.args.bucket.now c.walk.new.bucket c.walk.ensures.steady c.put_all.new.bucket c.put_all.ensures.steady) c.refer.new.self c.refer.ensures.steady in
+    (c.serial.result, subst (λ ps. ArePutsFrom (g.B.Bucket.number c.refer.new.self) c.serial.result (puts_seen ps)) (sym c.items-2.ensures)
+    (subst (λ n. ArePutsFrom n c.serial.result (puts_seen c.in-Ok.plan.puts)) (c.client.ensures ∙ (c.walk.ensures.steady.same_number ∙ sym st3.same_number)) q.puts))
 
 pub returns-in_err-state-clause-did : goal.returns-in_err-state-clause-did
 returns-in_err-state-clause-did g c =
