@@ -51,7 +51,7 @@ pub storable_cut : (f : Frame) (part : Part) → IsStorable f → LiesIn f part 
 storable_cut f part is lies = record { is_frame = IsFrame-cut f part is.is_frame; timed = is.timed; within = within_cut f part is.within }
 
 -- the part of a block and a slice
-grid_part : (f : Frame) (c : Cutting) (block slice : ℕ) → IsCutting c → block < row_blocks (grid_of f c) → slice < col_blocks (grid_of f c) → IsGridPart f (part_at (grid_of f c) block slice)
+pub grid_part : (f : Frame) (c : Cutting) (block slice : ℕ) → IsCutting c → block < row_blocks (grid_of f c) → slice < col_blocks (grid_of f c) → IsGridPart f (part_at (grid_of f c) block slice)
 grid_part f c block slice is block_lt slice_lt =
     let row = begins_before (length f.rows) c.rows block is.some_rows block_lt in
     let col = begins-within-max (length f.schema.columns) c.cols slice is.some_cols slice_lt in

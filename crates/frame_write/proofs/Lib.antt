@@ -5,6 +5,7 @@ pub mod RowStamps
 pub mod CutLimits
 pub mod GridCover
 pub mod GridSlots
+pub mod TileLemmas
 pub mod ElementLemmas
 pub mod StateLemmas
 pub mod PlanLemmas

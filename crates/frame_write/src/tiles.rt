@@ -37,8 +37,7 @@ pub(crate) fn tiles_of(
 {
     let _rows = cutting.rows();
     let mut tiles = Items::new(alloc);
-    let grid = divided(frame, cutting);
-    for block in 0..grid.row_blocks() {
+    for block in 0..divided(frame, cutting).row_blocks() {
         add_block(alloc, frame, cutting, block, &mut tiles)?;
     }
     Ok(tiles)
@@ -64,12 +63,13 @@ fn add_block(
     ensures parts { OnOk result (map (λ (t : Tile). t.part) tiles.new ≡ map (λ (t : Tile). t.part) tiles.old ++ block_parts (grid_of frame.now cutting) block) }
     ensures each { OnOk result (AllByRecursion (IsTileOf frame.now) tiles.old → AllByRecursion (IsTileOf frame.now) tiles.new) }
 {
-    let _ = alloc;
-    let _ = cutting;
-    let _ = block;
-    let _ = tiles;
-    let _ = frame;
-    Err(NoMemory)
+    let _rows = cutting.rows();
+    let grid = divided(frame, cutting);
+    for slice in 0..grid.col_blocks() {
+        let part = grid.part(block, slice);
+        tiles.push(tile_of(alloc, frame, part)?)?;
+    }
+    Ok(())
 }
 
 /// The tile of a part.
@@ -81,10 +81,10 @@ fn tile_of(alloc: Global, frame: &Frame, part: Part) -> Result<Tile, NoMemory>
     ensures tile { IfOk result (IsTileOf frame.now) }
 {
     let tile = cut(alloc, frame, part)?;
-    let (Some(first), Some(last)) = (tile.first_stamp(), tile.last_stamp()) else {
-        return Err(NoMemory);
-    };
-    let body = Arc::new(alloc, Body::make(encode(alloc, &tile)?))?;
+    let first = tile.first_stamp().unwrap_or(0);
+    let last = tile.last_stamp().unwrap_or(0);
+    let bytes = encode(alloc, &tile)?;
+    let body = Arc::new(alloc, Body::make(bytes))?;
     Ok(Tile {
         part,
         first,

@@ -1,13 +1,10 @@
-use Rattle.std.proofs.Common.{rules, arith, ◌≡◌, ◌+◌, ◌<◌, ◌^◌, suc, length, sym, subst, refl, ◌∙◌, List, ℕ, ap, ◌++◌, ◌∷◌, [], Ok}
-use Rattle.std.specs.Arc.{arc_value}
+use Rattle.std.proofs.Common.{rules, arith, ◌≡◌, ◌+◌, ◌<◌, ◌^◌, suc, length, sym, subst, refl, ◌∙◌, List, ap, ◌++◌, ◌∷◌, [], Ok}
 use Rattle.index_tree.specs.declared.index.Slot.{Slot}
 use Rattle.index_tree.specs.IndexRules.{IsIndex}
-use Rattle.index_tree.specs.IndexText.{index_of}
-use Rattle.store_model.specs.ChainText.{entry_of}
 use Rattle.frame_write.specs.declared.plan.Plan.{Plan}
 use Rattle.frame_write.specs.Placing.{index_key, element_key}
 use Rattle.frame_write.specs.declared.puts.Prepared.{Prepared}
-use Rattle.frame_write.proofs.PlanLemmas.{FitsTry, index_is, IsMade, plan_is, small_rows, index_key_of}
+use Rattle.frame_write.proofs.PlanLemmas.{FitsTry, index_is, plan_is, small_rows, index_key_of}
 use Rattle.frame_write.proofs.plan.plan_write.Goals as goal
 
 pub place_index-requires : goal.place_index-requires
