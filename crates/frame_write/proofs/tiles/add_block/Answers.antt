@@ -1,4 +1,4 @@
-use Rattle.std.proofs.Common.{rules, ◌<◌, ◌≡◌, sym, subst, ap, ◌∙◌}
+use Rattle.std.proofs.Common.{rules, ◌<◌, sym, subst, ap, ◌∙◌}
 use Rattle.segment_cut.specs.Grids.{grid_of, col_blocks, part_at}
 use Rattle.frame_write.specs.Placing.{IsTileOf}
 use Rattle.frame_write.proofs.GridSlots.{IsGridPart, grid_part}
