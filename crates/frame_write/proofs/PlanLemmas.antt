@@ -205,14 +205,17 @@ module _ (client serial : ℕ) (symbol : Name) (version : ℕ) (frame : Frame) (
         table = refl;
         spelled = ok_is_ok (index_of index_body) _ index_spelled;
       },
-      (record {
-        key_is = entry_key_is;
-        fits = record { client = try_fits.client_fits; serial = small; version = search arith; first = search arith; last = search arith };
-        own = refl;
-        serial_is = refl;
-        table = refl;
-        spelled = spelled;
-      }, tt),
+      (
+        record {
+          key_is = entry_key_is;
+          fits = record { client = try_fits.client_fits; serial = small; version = search arith; first = search arith; last = search arith };
+          own = refl;
+          serial_is = refl;
+          table = refl;
+          spelled = spelled;
+        },
+        tt,
+      ),
     )
 
     pub link_put : (h : History) (row : LinkRow) → row.index ≡ index_at → AreOwnPuts h client puts → IsPutLink h client symbol frame row

@@ -76,7 +76,15 @@ pub(crate) fn plan_write(
     puts.push(index)?;
     let buried = buried_by(alloc, state, options.prune)?;
     let was = copied(alloc, &state.was)?;
-    let element = place_element(alloc, client, last, symbol, copied(alloc, &was)?, row, buried.items())?;
+    let element = place_element(
+        alloc,
+        client,
+        last,
+        symbol,
+        copied(alloc, &was)?,
+        row,
+        buried.items(),
+    )?;
     let entry = element.key.copy(alloc)?;
     puts.push(element)?;
     Ok(Plan {

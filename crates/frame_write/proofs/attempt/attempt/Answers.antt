@@ -48,9 +48,11 @@ pub drop_all-requires-clause-apart : goal.drop_all-requires-clause-apart
 drop_all-requires-clause-apart g c =
     let seen = c.in_ok-state.ensures.state in
     let q = c.in-Ok.ensures seen.before (walked_lawful _ seen.later seen.before seen.split (g.met.B.Bucket.lawful c.walk.new.bucket)) seen.is in
-    let st3 = steady_then g.B.Bucket.number g.B.Bucket.limit g.B.Bucket.faults g.B.Bucket.sole c.args.bucket.now c.put_all.new.bucket (steady_then g.B.Bucket.number g.B.Bucket.limit g.B.Bucket.faults g.B.Bucket.sole c.args.bucket.now c.walk.new.bucket c.walk.ensures.steady c.put_all.new.bucket c.put_all.ensures.steady) c.refer.new.self c.refer.ensures.steady in
-    (c.serial.result, subst (λ ps. ArePutsFrom (g.B.Bucket.number c.refer.new.self) c.serial.result (puts_seen ps)) (sym c.items-2.ensures)
-    (subst (λ n. ArePutsFrom n c.serial.result (puts_seen c.in-Ok.plan.puts)) (c.client.ensures ∙ (c.walk.ensures.steady.same_number ∙ sym st3.same_number)) q.puts))
+    let st3 = steady_then g.B.Bucket.number g.B.Bucket.limit g.B.Bucket.faults g.B.Bucket.sole c.args.bucket.now c.put_all.new.bucket (steady_then g.B.Bucket.number g.B.Bucket.limit g.B.Bucket.faults g.B.Bucket.sole c.args.bucket.now c.walk.new.bucket c.walk.ensures.steady c.put_all.new.bucket c.put_all.ensures.steady) c.refer.new.self c.refer.ensures.steady in (
+      c.serial.result,
+      subst (λ ps. ArePutsFrom (g.B.Bucket.number c.refer.new.self) c.serial.result (puts_seen ps)) (sym c.items-2.ensures)
+          (subst (λ n. ArePutsFrom n c.serial.result (puts_seen c.in-Ok.plan.puts)) (c.client.ensures ∙ (c.walk.ensures.steady.same_number ∙ sym st3.same_number)) q.puts),
+    )
 
 pub returns-in_err-state-clause-did : goal.returns-in_err-state-clause-did
 returns-in_err-state-clause-did g c =

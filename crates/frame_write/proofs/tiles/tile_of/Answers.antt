@@ -16,7 +16,7 @@ returns-clause-tile c =
     let stamps = has_stamps c.args.frame.now c.args.part c.requires.storable.is_frame c.requires.lies c.requires.some_rows in
     let part = c.args.part in
     let one : first_stamp (slice_range c.args.frame.now.rows part.first_row (part.first_row + part.rows)) ≡ Some c.unwrap_or-first.result =
-        some_of _ stamps.first _ stamps.first_is (c.unwrap_or-first.ensures ∙ ap (λ o. unwrap_or o (pos 0)) (c.first_stamp.ensures ∙ (ap (λ (f : Frame). first_stamp f.rows) c.in_ok-tile.ensures ∙ first_cut c.args.frame.now c.args.part))) in
+    some_of _ stamps.first _ stamps.first_is (c.unwrap_or-first.ensures ∙ ap (λ o. unwrap_or o (pos 0)) (c.first_stamp.ensures ∙ (ap (λ (f : Frame). first_stamp f.rows) c.in_ok-tile.ensures ∙ first_cut c.args.frame.now c.args.part))) in
     let two : last_stamp (slice_range c.args.frame.now.rows part.first_row (part.first_row + part.rows)) ≡ Some c.unwrap_or-last.result =
-        some_of _ stamps.last _ stamps.last_is (c.unwrap_or-last.ensures ∙ ap (λ o. unwrap_or o (pos 0)) (c.last_stamp.ensures ∙ (ap (λ (f : Frame). last_stamp f.rows) c.in_ok-tile.ensures ∙ last_cut c.args.frame.now c.args.part))) in
+    some_of _ stamps.last _ stamps.last_is (c.unwrap_or-last.ensures ∙ ap (λ o. unwrap_or o (pos 0)) (c.last_stamp.ensures ∙ (ap (λ (f : Frame). last_stamp f.rows) c.in_ok-tile.ensures ∙ last_cut c.args.frame.now c.args.part))) in
     record { first = search rules; last = search rules; spelled = search rules; first_fits = search rules; last_fits = search rules }
