@@ -1,0 +1,8 @@
+pub mod Traces
+pub mod Stops
+pub mod PutCalls
+pub mod Placing
+pub mod Plans
+pub mod Loops
+pub mod Tries
+pub mod Writes

@@ -1,0 +1,50 @@
+-- What the calls of a try did.
+--     StoppedCall, StoppedCalls      a refused call, and several calls of which one was refused
+--     DidCall             what one put or drop did
+--     DidPuts, DidDrops   what several puts and several drops did
+use Rattle.std.specs.Prelude.{◌≡◌, ◌⊎◌, ℕ, Bool, List, [], ◌∷◌, map, take, Result, Ok, Err}
+use Rattle.frame_core.specs.declared.refusal.Refused.{Refused}
+use Rattle.key_kind.specs.declared.key.Key.{Key}
+use Rattle.bucket_core.specs.declared.event.Event.{Event}
+use Rattle.bucket_core.specs.History.{History, Bytes}
+use Rattle.bucket_core.specs.Laws.{Adds}
+use Rattle.store_model.specs.Law.{IsClaimed}
+use Rattle.store_model.specs.OwnPuts.{AreOwnPuts}
+use Rattle.reply_model.specs.Tries.{put_of, drop_of}
+use Rattle.frame_write.specs.Traces.{Went}
+use Rattle.frame_write.specs.Stops.{StopsAt, HasCause}
+
+-- a refused call, and its own events: none, or this one
+pub record StoppedCall (client : ℕ) (sole : Bool) (limit before now : ℕ) (old new : History) (e : Event) (refused : Refused) : Type 0 where
+  pub own : List Event
+  pub is : (own ≡ []) ⊎ (own ≡ e ∷ [])
+  pub went : Went client sole old new own
+  pub stops : StopsAt client old new refused
+  pub cause : HasCause limit before now new refused refused.why
+
+-- several calls, with these events, of which one was refused: the first ones stand
+pub record StoppedCalls (client : ℕ) (sole : Bool) (limit before now : ℕ) (old new : History) (es : List Event) (refused : Refused) : Type 0 where
+  pub count : ℕ
+  pub went : Went client sole old new (take count es)
+  pub stops : StopsAt client old new refused
+  pub cause : HasCause limit before now new refused refused.why
+
+-- one call
+abbrev pub DidCall : ℕ → Bool → ℕ → ℕ → ℕ → History → History → Event → Result Unit Refused → Type 0
+DidCall client sole limit before now old new e (Ok done) = Adds IsClaimed client sole old new e
+DidCall client sole limit before now old new e (Err refused) = StoppedCall client sole limit before now old new e refused
+
+-- several puts, all of which stand afterwards
+pub record PutAll (client : ℕ) (sole : Bool) (old new : History) (puts : List (Key × Bytes)) : Type 0 where
+  pub went : Went client sole old new (map (put_of client) puts)
+  pub own : AreOwnPuts new client puts
+
+-- several puts
+abbrev pub DidPuts : ℕ → Bool → ℕ → ℕ → ℕ → History → History → List (Key × Bytes) → Result Unit Refused → Type 0
+DidPuts client sole limit before now old new puts (Ok done) = PutAll client sole old new puts
+DidPuts client sole limit before now old new puts (Err refused) = StoppedCalls client sole limit before now old new (map (put_of client) puts) refused
+
+-- several drops
+abbrev pub DidDrops : ℕ → Bool → ℕ → ℕ → ℕ → History → History → List (Key × Bytes) → Result Unit Refused → Type 0
+DidDrops client sole limit before now old new puts (Ok done) = Went client sole old new (map (drop_of client) puts)
+DidDrops client sole limit before now old new puts (Err refused) = StoppedCalls client sole limit before now old new (map (drop_of client) puts) refused

@@ -1,0 +1,19 @@
+//! Writes of whole frames: a frame is cut into tiles, and these, their index and an element are put and then linked in one commit,
+//! which is tried again where another client's commit came between.
+#![tactic(auto)]
+
+mod attempt;
+mod drops;
+mod elements;
+mod numbers;
+mod options;
+mod placing;
+mod plan;
+mod puts;
+mod refusal;
+mod tiles;
+mod write;
+
+pub use base_types::NoMemory;
+pub use options::{Committed, Options};
+pub use write::write_link;

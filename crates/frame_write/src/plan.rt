@@ -1,0 +1,108 @@
+ghost use Rattle.std.specs.Prelude.{◌≡◌, IfOk, IfSome};
+ghost use Rattle.frame_core.specs.Limits.{IsStorable};
+ghost use Rattle.bucket_core.specs.History.{History};
+ghost use Rattle.store_model.specs.Law.{IsLawful};
+ghost use Rattle.store_model.specs.Commits.{Rising};
+ghost use Rattle.version_chain.specs.States.{IsStateOf};
+ghost use Rattle.frame_write.specs.Placing.{AreTilesOf, IsElementKey, live_of};
+ghost use Rattle.frame_write.specs.Plans.{IsPlan};
+
+use crate::elements::{mark_of, place_element};
+use crate::numbers::{buried_by, changes_of, next_version};
+use crate::options::Options;
+use crate::placing::{Placed, place_index, place_tiles};
+use crate::puts::Prepared;
+use crate::tiles::Tile;
+use base_types::{Items, Keep, NoMemory};
+use bucket_core::{Body, Changes};
+use frame_core::Frame;
+use key_kind::{Key, Symbol};
+use std::alloc::Global;
+use std::sync::Arc;
+use store_model::LinkRow;
+use version_chain::SymbolState;
+
+/// All that a try puts and refers, built before its first put.
+#[derive(Drop)]
+pub(crate) struct Plan {
+    /// The new tiles in the order of the index, the index, and the element.
+    pub(crate) puts: Items<Prepared>,
+    /// The symbol's reference on which the element stands.
+    pub(crate) was: Option<Key>,
+    /// The key of the element.
+    pub(crate) entry: Key,
+    /// The spelling of that key.
+    pub(crate) mark: Arc<Body>,
+    /// What the commit changes.
+    pub(crate) changes: Arc<Changes>,
+    /// The number of the new version.
+    pub(crate) version: u64,
+}
+
+/// The plan of a try on the symbol's state, for the client's puts from this serial on.
+pub(crate) fn plan_write(
+    alloc: Global,
+    client: u32,
+    serial: u64,
+    symbol: &Symbol,
+    state: &SymbolState,
+    frame: &Frame,
+    tiles: &[Tile],
+    options: &Options,
+) -> Result<Plan, NoMemory>
+    requires storable { IsStorable frame.now }
+    requires tiles { AreTilesOf frame.now options.now.cutting tiles.now }
+    requires was { IfSome state.now.was (IsElementKey symbol.now) }
+    requires rising { Rising (live_of state.now) }
+    ensures { IfOk result (λ plan. (before : History) → ∥ IsLawful before ∥₁ → IsStateOf before symbol.now state.now → IsPlan client serial before symbol.now frame.now options.now.at options.now.prune plan) }
+{
+    let at = options.stamp();
+    let version = next_version(state)?;
+    let Placed {
+        slots,
+        mut puts,
+        next,
+    } = place_tiles(alloc, client, serial, symbol, version, tiles)?;
+    let Some(last) = next.checked_add(1) else {
+        return Err(NoMemory);
+    };
+    let index = place_index(alloc, client, next, symbol, version, frame, slots)?;
+    let row = LinkRow {
+        version,
+        stamp: at,
+        rows: frame.rows(),
+        index: index.key.copy(alloc)?,
+    };
+    puts.push(index)?;
+    let buried = buried_by(alloc, state, options.prune)?;
+    let was = copied(alloc, &state.was)?;
+    let element = place_element(
+        alloc,
+        client,
+        last,
+        symbol,
+        copied(alloc, &was)?,
+        row,
+        buried.items(),
+    )?;
+    let entry = element.key.copy(alloc)?;
+    puts.push(element)?;
+    Ok(Plan {
+        puts,
+        was,
+        mark: mark_of(alloc, &entry)?,
+        entry,
+        changes: changes_of(alloc, frame, at, buried)?,
+        version,
+    })
+}
+
+/// A copy of a key, where there is one.
+fn copied(alloc: Global, key: &Option<Key>) -> Result<Option<Key>, NoMemory>
+    ensures { IfOk result (λ copy. copy ≡ key.now) }
+{
+    match key {
+        None => Ok(None),
+        Some(key) => Ok(Some(key.copy(alloc)?)),
+    }
+}
