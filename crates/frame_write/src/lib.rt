@@ -11,6 +11,8 @@ mod placing;
 mod plan;
 mod puts;
 mod refusal;
+#[cfg(test)]
+mod tests;
 mod tiles;
 mod write;
 
