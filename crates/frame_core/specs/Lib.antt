@@ -5,6 +5,7 @@ pub mod Frames
 pub mod Columns
 pub mod Selecting
 pub mod Limits
+pub mod Parts
 pub mod RawFrames
 pub mod Refusals
 pub mod Making

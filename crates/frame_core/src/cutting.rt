@@ -2,7 +2,7 @@
 
 ghost use Rattle.std.specs.Prelude.{◌≡◌, ◌≤◌, true, not, length, map, count_by, slice_range, IfOk};
 ghost use Rattle.std.specs.List.{AllByRecursion};
-ghost use Rattle.frame_core.specs.Ranges.{is_below, is_above};
+ghost use Rattle.frame_core.specs.Ranges.{IsRange, is_below, is_above};
 ghost use Rattle.frame_core.specs.Frames.{NeverFall, rows_between, slice};
 ghost use Rattle.frame_core.specs.Columns.{column_type, column_cells};
 
@@ -55,10 +55,11 @@ impl Keep for Frame {
     }
 }
 
-/// How many of these stamps lie below the range.
-fn count_below(stamps: &[i64], range: Range) -> usize
+/// How many of these stamps lie below the range. They are searched by halves.
+pub fn count_below(stamps: &[i64], range: Range) -> usize
     requires { NeverFall stamps.now }
-    ensures { result ≡ count_by (is_below range) stamps.now }
+    ensures count { result ≡ count_by (is_below range) stamps.now }
+    ensures range { IsRange range }
 {
     match range.from() {
         Some(from) => stamps.partition_point(|stamp| *stamp < from),
@@ -66,8 +67,8 @@ fn count_below(stamps: &[i64], range: Range) -> usize
     }
 }
 
-/// How many of these stamps do not lie above the range.
-fn count_up_to(stamps: &[i64], range: Range) -> usize
+/// How many of these stamps do not lie above the range. They are searched by halves.
+pub fn count_up_to(stamps: &[i64], range: Range) -> usize
     requires { NeverFall stamps.now }
     ensures { result ≡ count_by (λ t. not (is_above range t)) stamps.now }
 {

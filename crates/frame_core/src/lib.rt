@@ -25,6 +25,7 @@ mod texts;
 pub use base_types::{Items, Keep, NoMemory, Text};
 pub use cell::{Cell, CellRef, ColType};
 pub use column::Column;
+pub use cutting::{count_below, count_up_to};
 pub use frame::Frame;
 pub use maker::FrameMaker;
 pub use name::{ColName, NameFault};
@@ -33,6 +34,7 @@ pub use range::Range;
 pub use raw::RawFrame;
 pub use refusal::{Asked, Extent, Refusal, Refused};
 pub use schema::Schema;
+pub use selecting::place_of_name;
 pub use texts::TextList;
 
 /// The places of events, seen as a list.

@@ -37,7 +37,7 @@ impl Frame {
 }
 
 /// The place of a name among the columns, counted from 0.
-fn place_of_name(name: &ColName, columns: &[(ColName, ColType)]) -> Option<usize>
+pub fn place_of_name(name: &ColName, columns: &[(ColName, ColType)]) -> Option<usize>
     ensures { result ≡ place_of name.now columns.now }
 {
     for place in 0..columns.len() {

@@ -16,7 +16,7 @@ use Rattle.frame_core.specs.Columns.{column_type, column_cells, cells_of, column
 use Rattle.frame_core.specs.Selecting.{place_of}
 use Rattle.frame_core.proofs.SelectLemmas.{place_is}
 use Rattle.segment_cut.specs.Tiles.{Tile, cut, has_row, has_cell}
-use Rattle.segment_cut.specs.Joins.{has_column}
+use Rattle.frame_core.specs.Parts.{has_column}
 use Rattle.segment_cut.proofs.Lists.{count_by-yes, count_by-no}
 use Rattle.segment_cut.proofs.Orders.{Rising-from, all-permutation}
 use Rattle.segment_cut.proofs.Wholes.{IsWhole-frame, frame-whole}

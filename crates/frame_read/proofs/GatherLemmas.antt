@@ -15,7 +15,7 @@ use Rattle.frame_core.specs.Columns.{cells_of}
 use Rattle.frame_core.specs.Selecting.{place_of}
 use Rattle.frame_core.proofs.SelectLemmas.{same_text-true}
 use Rattle.segment_cut.specs.Tiles.{Tile, cut, cut_row, has_row}
-use Rattle.segment_cut.specs.Joins.{has_column}
+use Rattle.frame_core.specs.Parts.{has_column}
 use Rattle.segment_cut.proofs.Cuts.{get-slice, stamps-cut, cells_of-cut}
 use Rattle.segment_cut.proofs.Orders.{Rising}
 use Rattle.frame_read.specs.Gathers.{fresh, reach, cells_gathered, stamps_gathered}

@@ -30,8 +30,8 @@ use Rattle.store_model.proofs.Standing.{snapshot_stands}
 use Rattle.store_model.proofs.Listing.{lists_agree}
 use Rattle.version_chain.specs.declared.state.SymbolState.{SymbolState}
 use Rattle.version_chain.specs.States.{IsStateOf, IsStateAt}
-use Rattle.reply_model.specs.declared.command.AsOf.{AsOf}
-use Rattle.reply_model.specs.declared.command.AsOf.TheVariants as moments
+use Rattle.expr_clause.specs.declared.command.AsOf.{AsOf}
+use Rattle.expr_clause.specs.declared.command.AsOf.TheVariants as moments
 use Rattle.reply_model.specs.Answering.{◌then◌, version_or, or_refuse}
 use Rattle.reply_model.specs.ReadAnswers.{read_version, picked, numbered}
 use Rattle.reply_model.proofs.Later.{history_at_later}

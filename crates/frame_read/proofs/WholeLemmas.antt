@@ -14,7 +14,8 @@ use Rattle.frame_core.specs.Frames.{Row, Frame, stamp_at, stamps_of, NeverFall}
 use Rattle.segment_bytes.specs.Segments.{segment_of}
 use Rattle.index_tree.specs.declared.index.Slot.{Slot}
 use Rattle.index_tree.specs.declared.index.Index.{Index}
-use Rattle.index_tree.specs.Covering.{covers, has_column, has_one, shares_stamps}
+use Rattle.frame_core.specs.Parts.{has_column}
+use Rattle.index_tree.specs.Covering.{covers, has_one, shares_stamps}
 use Rattle.segment_cut.specs.Tiles.{Tile, Tiled, LiesIn, cut, has_row, has_cell}
 use Rattle.bucket_core.specs.History.{History}
 use Rattle.store_model.specs.declared.chain.LinkRow.{LinkRow}

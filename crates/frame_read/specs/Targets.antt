@@ -21,8 +21,8 @@ use Rattle.store_model.specs.Holders.{has_index}
 use Rattle.store_model.specs.Snapshots.{library_of}
 use Rattle.version_chain.specs.declared.state.SymbolState.{SymbolState}
 use Rattle.version_chain.specs.States.{is_tomb, IsWithin}
-use Rattle.reply_model.specs.declared.command.AsOf.{AsOf}
-use Rattle.reply_model.specs.declared.command.AsOf.TheVariants as moments
+use Rattle.expr_clause.specs.declared.command.AsOf.{AsOf}
+use Rattle.expr_clause.specs.declared.command.AsOf.TheVariants as moments
 use Rattle.reply_model.specs.ReadAnswers.{read_version}
 use Rattle.frame_read.specs.declared.target.Target.{Target}
 

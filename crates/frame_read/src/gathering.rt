@@ -13,7 +13,9 @@ ghost use Rattle.frame_read.specs.Gathers.{fresh, reach, cells_gathered, stamps_
 
 use crate::tiles::FetchedTile;
 use base_types::{Items, NoMemory};
-use frame_core::{ColName, ColType, Column, Frame, Part, Range};
+use frame_core::{
+    ColName, ColType, Column, Frame, Part, Range, count_below, count_up_to, place_of_name,
+};
 use segment_bytes::view;
 use std::alloc::Global;
 
@@ -97,24 +99,12 @@ fn gathered_column(
     let mut column = Column::empty(alloc, head.1);
     let mut reached = 0;
     for tile in tiles {
-        if let Some(place) = place_in(&head.0, tile.1.schema().columns()) {
+        if let Some(place) = place_of_name(&head.0, tile.1.schema().columns()) {
             add_cells(alloc, &mut column, range, reached, tile, place)?;
             reached = reach_of(reached, tile)?;
         }
     }
     Ok(column)
-}
-
-/// The place of a name among the columns, counted from 0.
-fn place_in(name: &ColName, columns: &[(ColName, ColType)]) -> Option<usize>
-    ensures { result ≡ place_of name.now columns.now }
-{
-    for place in 0..columns.len() {
-        if *name == columns[place].0 {
-            return Some(place);
-        }
-    }
-    None
 }
 
 /// Puts the cells of a tile's column behind these: of its rows in the range, those beyond what is reached.
@@ -159,28 +149,5 @@ fn reach_of(reached: u64, tile: &(Part, Frame)) -> Result<u64, NoMemory>
     match tile.0.first_row.checked_add(tile.1.rows()) {
         Some(end) => Ok(reached.max(end)),
         None => Err(NoMemory),
-    }
-}
-
-/// How many of these stamps lie below the range.
-fn count_below(stamps: &[i64], range: Range) -> usize
-    requires { NeverFall stamps.now }
-    ensures count { result ≡ count_by (is_below range) stamps.now }
-    ensures range { IsRange range }
-{
-    match range.from() {
-        Some(from) => stamps.partition_point(|stamp| *stamp < from),
-        None => 0,
-    }
-}
-
-/// How many of these stamps do not lie above the range.
-fn count_up_to(stamps: &[i64], range: Range) -> usize
-    requires { NeverFall stamps.now }
-    ensures { result ≡ count_by (λ t. not (is_above range t)) stamps.now }
-{
-    match range.to() {
-        Some(to) => stamps.partition_point(|stamp| *stamp <= to),
-        None => stamps.len(),
     }
 }

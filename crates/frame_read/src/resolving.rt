@@ -16,7 +16,7 @@ use base_types::{Keep, NoMemory};
 use bucket_core::{Bucket, Found, StoreErr};
 use frame_core::{Asked, Refusal, Refused};
 use key_kind::{Key, SnapName, Symbol};
-use reply_model::AsOf;
+use expr_clause::AsOf;
 use std::alloc::Global;
 use std::sync::Wait;
 use store_model::SnapRow;

@@ -13,8 +13,8 @@ use Rattle.bucket_core.specs.declared.event.Event.TheVariants as events
 use Rattle.bucket_core.specs.declared.event.Change.TheVariants as changes
 use Rattle.bucket_core.specs.History.{History, Bytes, history_at, event_at}
 use Rattle.store_model.specs.Library.{state_of, next_number}
-use Rattle.reply_model.specs.declared.command.Command.{Command}
-use Rattle.reply_model.specs.declared.command.Command.TheVariants as commands
+use Rattle.expr_clause.specs.declared.command.Command.{Command}
+use Rattle.expr_clause.specs.declared.command.Command.TheVariants as commands
 use Rattle.reply_model.specs.declared.outcome.Outcome.TheVariants as outcomes
 use Rattle.reply_model.specs.Answering.{Session, frame_of, stamp_of, pruned, committed, answered, ◌then◌}
 use Rattle.reply_model.specs.Answers.{answer}

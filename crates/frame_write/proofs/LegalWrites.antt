@@ -14,7 +14,7 @@ use Rattle.key_kind.specs.Names.{Name}
 use Rattle.bucket_core.specs.declared.event.Event.{Event}
 use Rattle.bucket_core.specs.declared.event.Event.TheVariants as events
 use Rattle.bucket_core.specs.History.{History, Bytes, history_at, event_at}
-use Rattle.reply_model.specs.declared.command.Command.TheVariants as commands
+use Rattle.expr_clause.specs.declared.command.Command.TheVariants as commands
 use Rattle.reply_model.specs.declared.outcome.Outcome.TheVariants as outcomes
 use Rattle.reply_model.specs.Answering.{Session, stamp_of, frame_of, committed, answered, ◌then◌}
 use Rattle.reply_model.specs.Answers.{answer}

@@ -12,7 +12,8 @@ use Rattle.std.proofs.lemmas.List.Sorted.{list_any-IsPermutation, length_permuta
 use Rattle.frame_core.specs.declared.part.Part.{Part}
 use Rattle.frame_core.specs.Ranges.{Range}
 use Rattle.index_tree.specs.declared.index.Slot.{Slot}
-use Rattle.index_tree.specs.Covering.{shares_stamps, has_column, has_one, covers, places_where}
+use Rattle.frame_core.specs.Parts.{has_column}
+use Rattle.index_tree.specs.Covering.{shares_stamps, has_one, covers, places_where}
 
 -- ---- places
 

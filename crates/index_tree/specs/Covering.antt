@@ -4,16 +4,13 @@
 use Rattle.std.specs.Prelude.{ℕ, ◌+◌, Bool, ◌&&◌, not, List, [], map, nat_eq, nat_le, nat_lt}
 use Rattle.std.specs.List.{filter, list_any, enumerate_from}
 use Rattle.frame_core.specs.declared.part.Part.{Part}
+use Rattle.frame_core.specs.Parts.{has_column}
 use Rattle.frame_core.specs.Ranges.{Range, is_below, is_above}
 use Rattle.index_tree.specs.declared.index.Slot.{Slot}
 
 -- the stamps of the slot do not all lie below the range, nor all above it
 abbrev pub shares_stamps : Range → Slot → Bool
 shares_stamps range s = not (is_below range s.last) && not (is_above range s.first)
-
--- the part has the column
-abbrev pub has_column : Part → ℕ → Bool
-has_column part column = nat_le part.first_col column && nat_lt column (part.first_col + part.cols)
 
 -- the part has one of the columns; where none is asked, it begins at column 0
 abbrev pub has_one : List ℕ → Part → Bool

@@ -15,7 +15,7 @@ use Rattle.segment_bytes.specs.Segments.{segment_text, segment_of, sheet_spelled
 use Rattle.store_model.specs.ChainText.{entry_of, entry_text}
 use Rattle.store_model.proofs.SmallFrames.{S}
 use Rattle.store_model.proofs.Witness as w
-use Rattle.reply_model.specs.declared.command.Command.TheVariants as commands
+use Rattle.expr_clause.specs.declared.command.Command.TheVariants as commands
 use Rattle.reply_model.specs.declared.outcome.Outcome.TheVariants as outcomes
 use Rattle.reply_model.specs.Tries.{IsTry, of_version}
 use Rattle.reply_model.specs.Legal.{IsLegalSeen}

@@ -29,7 +29,7 @@ use Rattle.store_model.proofs.SmallFrames.{S}
 use Rattle.store_model.proofs.WorkedHistories.{commit}
 use Rattle.store_model.proofs.Witness as w
 use Rattle.store_model.proofs.WitnessShared as shared
-use Rattle.reply_model.specs.declared.command.Command.TheVariants as commands
+use Rattle.expr_clause.specs.declared.command.Command.TheVariants as commands
 use Rattle.reply_model.specs.declared.outcome.Outcome.TheVariants as outcomes
 use Rattle.reply_model.specs.declared.reply.Reply.{Reply}
 use Rattle.reply_model.specs.Windows.{Client}

@@ -25,7 +25,7 @@ use Rattle.store_model.specs.Links.{Linked, links, reaches, is_needed, IsUnneede
 use Rattle.store_model.proofs.SmallFrames.{S}
 use Rattle.store_model.proofs.Witness as w
 use Rattle.store_model.proofs.WitnessPruned as pruned
-use Rattle.reply_model.specs.declared.command.Command.TheVariants as commands
+use Rattle.expr_clause.specs.declared.command.Command.TheVariants as commands
 use Rattle.reply_model.specs.declared.outcome.Outcome.TheVariants as outcomes
 use Rattle.reply_model.specs.Tries.{IsTry, of_version}
 use Rattle.reply_model.specs.Drops.{IsDeadIndex, IsDeadTile}

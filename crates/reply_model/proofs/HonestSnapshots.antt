@@ -31,9 +31,9 @@ use Rattle.store_model.specs.Links.{Linked, links, reaches, is_needed, IsUnneede
 use Rattle.store_model.proofs.SmallFrames.{S, k}
 use Rattle.store_model.proofs.Witness as w
 use Rattle.store_model.proofs.WitnessKept as kept
-use Rattle.reply_model.specs.declared.command.AsOf.TheVariants as moments
+use Rattle.expr_clause.specs.declared.command.AsOf.TheVariants as moments
 use Rattle.reply_model.specs.declared.outcome.HeldAt.{HeldAt}
-use Rattle.reply_model.specs.declared.command.Command.TheVariants as commands
+use Rattle.expr_clause.specs.declared.command.Command.TheVariants as commands
 use Rattle.reply_model.specs.declared.outcome.Outcome.TheVariants as outcomes
 use Rattle.reply_model.specs.declared.reply.Reply.{Reply}
 use Rattle.reply_model.specs.Windows.{Client}

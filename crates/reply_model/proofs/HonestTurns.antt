@@ -8,7 +8,7 @@ use Rattle.bucket_core.specs.declared.event.Change.{Change}
 use Rattle.bucket_core.specs.declared.event.Change.TheVariants as changes
 use Rattle.bucket_core.specs.History.{History, Bytes}
 use Rattle.key_kind.specs.Names.{Name}
-use Rattle.reply_model.specs.declared.command.Pick.{Pick}
+use Rattle.expr_clause.specs.declared.command.Pick.{Pick}
 use Rattle.key_kind.specs.declared.key.Key.{Key}
 use Rattle.key_kind.specs.declared.key.Holder.{Holder}
 use Rattle.key_kind.specs.declared.key.KeyKind.TheVariants as kinds
@@ -22,8 +22,8 @@ use Rattle.store_model.proofs.SmallFrames.{S, k}
 use Rattle.store_model.proofs.Witness as w
 use Rattle.store_model.proofs.WitnessKept as kept
 use Rattle.store_model.proofs.WitnessShared.{element_key}
-use Rattle.reply_model.specs.declared.command.Command.{Command}
-use Rattle.reply_model.specs.declared.command.Command.TheVariants as commands
+use Rattle.expr_clause.specs.declared.command.Command.{Command}
+use Rattle.expr_clause.specs.declared.command.Command.TheVariants as commands
 use Rattle.reply_model.specs.declared.outcome.Outcome.TheVariants as outcomes
 use Rattle.reply_model.specs.Tries.{IsTry, of_mark}
 use Rattle.reply_model.specs.Legal.{IsLegalSeen}

@@ -20,10 +20,10 @@ use Rattle.bucket_core.specs.History.{History, author, event_at, history_at}
 use Rattle.bucket_core.specs.Laws.{refers}
 use Rattle.store_model.specs.Library.{State, Version, Piece, state_of, is_buried, live_versions, unknown}
 use Rattle.store_model.specs.Snapshots.{Library}
-use Rattle.reply_model.specs.declared.command.AsOf.{AsOf}
-use Rattle.reply_model.specs.declared.command.AsOf.TheVariants as moments
-use Rattle.reply_model.specs.declared.command.Command.{Command}
-use Rattle.reply_model.specs.declared.command.Command.TheVariants as commands
+use Rattle.expr_clause.specs.declared.command.AsOf.{AsOf}
+use Rattle.expr_clause.specs.declared.command.AsOf.TheVariants as moments
+use Rattle.expr_clause.specs.declared.command.Command.{Command}
+use Rattle.expr_clause.specs.declared.command.Command.TheVariants as commands
 use Rattle.reply_model.specs.declared.outcome.Outcome.{Outcome}
 use Rattle.reply_model.specs.declared.outcome.Outcome.TheVariants as outcomes
 use Rattle.reply_model.specs.declared.reply.Reply.{Reply}

@@ -1,7 +1,7 @@
 -- Replies that are legal in a history are legal in each longer one.
 use Rattle.std.proofs.Common.{◌≡◌, ℕ, suc, ◌-◌, ◌≤◌, List, [], ◌∷◌, ◌++◌, length, drop, refl, ap, sym, ◌∙◌, subst, arith, length-append}
 use Rattle.bucket_core.specs.History.{History, history_at}
-use Rattle.reply_model.specs.declared.command.Command.{Command}
+use Rattle.expr_clause.specs.declared.command.Command.{Command}
 use Rattle.reply_model.specs.declared.reply.Reply.{Reply}
 use Rattle.reply_model.specs.Windows.{Client, Window}
 use Rattle.reply_model.specs.Legal.{IsLegalSeen, LegalFrom, LegalStays}

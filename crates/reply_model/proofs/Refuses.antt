@@ -24,9 +24,9 @@ use Rattle.store_model.proofs.WitnessKept as kept
 use Rattle.reply_model.proofs.HonestSnapshots.{index_drops}
 use Rattle.store_model.specs.ChainText.{entry_of, snap_of, snap_text}
 use Rattle.store_model.specs.Law.{MayPut}
-use Rattle.reply_model.specs.declared.command.AsOf.TheVariants as moments
-use Rattle.reply_model.specs.declared.command.Pick.{Pick}
-use Rattle.reply_model.specs.declared.command.Command.TheVariants as commands
+use Rattle.expr_clause.specs.declared.command.AsOf.TheVariants as moments
+use Rattle.expr_clause.specs.declared.command.Pick.{Pick}
+use Rattle.expr_clause.specs.declared.command.Command.TheVariants as commands
 use Rattle.reply_model.specs.declared.outcome.Outcome.{Outcome}
 use Rattle.reply_model.specs.declared.outcome.Outcome.TheVariants as outcomes
 use Rattle.reply_model.specs.declared.reply.Reply.{Reply}

@@ -22,10 +22,10 @@ use Rattle.store_model.specs.Library.{Piece, unknown}
 use Rattle.store_model.specs.Snapshots.{library_of}
 use Rattle.store_model.proofs.SmallFrames.{S, X, k, frame}
 use Rattle.store_model.proofs.WorkedHistories.{after_append, after_update, after_clear, after_two_writes, after_pruning_write, after_prune, after_snapshot, after_delete, after_release, after_stages, after_finalize, holder, stage}
-use Rattle.reply_model.specs.declared.command.AsOf.{AsOf}
-use Rattle.reply_model.specs.declared.command.AsOf.TheVariants as moments
-use Rattle.reply_model.specs.declared.command.Command.{Command}
-use Rattle.reply_model.specs.declared.command.Command.TheVariants as commands
+use Rattle.expr_clause.specs.declared.command.AsOf.{AsOf}
+use Rattle.expr_clause.specs.declared.command.AsOf.TheVariants as moments
+use Rattle.expr_clause.specs.declared.command.Command.{Command}
+use Rattle.expr_clause.specs.declared.command.Command.TheVariants as commands
 use Rattle.reply_model.specs.declared.outcome.Outcome.{Outcome}
 use Rattle.reply_model.specs.declared.outcome.Outcome.TheVariants as outcomes
 use Rattle.reply_model.specs.Answering.{Session, Answer, refused, answered}

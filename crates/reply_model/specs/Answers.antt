@@ -6,8 +6,8 @@ use Rattle.bucket_core.specs.declared.event.Change.TheVariants as changes
 use Rattle.store_model.specs.Library.{base_of}
 use Rattle.store_model.specs.Snapshots.{Library}
 use Rattle.reply_model.specs.declared.outcome.SymbolRow.{SymbolRow}
-use Rattle.reply_model.specs.declared.command.Command.{Command}
-use Rattle.reply_model.specs.declared.command.Command.TheVariants as commands
+use Rattle.expr_clause.specs.declared.command.Command.{Command}
+use Rattle.expr_clause.specs.declared.command.Command.TheVariants as commands
 use Rattle.reply_model.specs.declared.outcome.Outcome.TheVariants as outcomes
 use Rattle.reply_model.specs.Answering.{Session, Answer, answered, ◌then◌, with_frame, stamp_of, committed, base_or}
 use Rattle.reply_model.specs.CommitAnswers.{append_answer, update_answer, delete_answer, prune_answer}

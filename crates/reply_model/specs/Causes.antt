@@ -17,11 +17,11 @@ use Rattle.store_model.specs.Library.{Version, state_of, base_of, is_buried, is_
 use Rattle.store_model.specs.Snapshots.{snap_body}
 use Rattle.store_model.specs.Links.{Linked, links, reached}
 use Rattle.bucket_core.specs.Laws.{refers}
-use Rattle.reply_model.specs.declared.command.AsOf.{AsOf}
-use Rattle.reply_model.specs.declared.command.AsOf.TheVariants as moments
-use Rattle.reply_model.specs.declared.command.Pick.{Pick}
-use Rattle.reply_model.specs.declared.command.Command.{Command}
-use Rattle.reply_model.specs.declared.command.Command.TheVariants as commands
+use Rattle.expr_clause.specs.declared.command.AsOf.{AsOf}
+use Rattle.expr_clause.specs.declared.command.AsOf.TheVariants as moments
+use Rattle.expr_clause.specs.declared.command.Pick.{Pick}
+use Rattle.expr_clause.specs.declared.command.Command.{Command}
+use Rattle.expr_clause.specs.declared.command.Command.TheVariants as commands
 use Rattle.reply_model.specs.declared.outcome.Outcome.TheVariants as outcomes
 use Rattle.reply_model.specs.declared.reply.Reply.{Reply}
 use Rattle.reply_model.specs.Answering.{Session, Answer}

@@ -13,8 +13,8 @@ use Rattle.frame_core.specs.Selecting.{select}
 use Rattle.key_kind.specs.Names.{Name, same_name}
 use Rattle.store_model.specs.Library.{State, Version, is_buried, live_versions}
 use Rattle.store_model.specs.Snapshots.{Snapshot, Library, snapshot_named}
-use Rattle.reply_model.specs.declared.command.AsOf.{AsOf}
-use Rattle.reply_model.specs.declared.command.AsOf.TheVariants as moments
+use Rattle.expr_clause.specs.declared.command.AsOf.{AsOf}
+use Rattle.expr_clause.specs.declared.command.AsOf.TheVariants as moments
 use Rattle.reply_model.specs.declared.outcome.VersionRow.{VersionRow}
 use Rattle.reply_model.specs.declared.outcome.Outcome.TheVariants as outcomes
 use Rattle.reply_model.specs.Answering.{Answer, ◌then◌, refuse_if, or_refuse, version_or}

@@ -19,10 +19,10 @@ use Rattle.store_model.specs.declared.snapshot.SnapBody.{SnapBody}
 use Rattle.store_model.specs.ChainText.{snap_of}
 use Rattle.store_model.specs.Library.{Version, state_of, base_of}
 use Rattle.store_model.specs.Snapshots.{snap_body}
-use Rattle.reply_model.specs.declared.command.Pick.{Pick}
+use Rattle.expr_clause.specs.declared.command.Pick.{Pick}
 use Rattle.reply_model.specs.declared.outcome.HeldAt.{HeldAt}
 use Rattle.reply_model.specs.declared.outcome.SymbolRow.{SymbolRow}
-use Rattle.reply_model.specs.declared.command.Command.{Command}
+use Rattle.expr_clause.specs.declared.command.Command.{Command}
 use Rattle.reply_model.specs.declared.outcome.Outcome.{Outcome}
 use Rattle.reply_model.specs.declared.outcome.Outcome.TheVariants as outcomes
 use Rattle.reply_model.specs.declared.reply.Reply.{Reply}

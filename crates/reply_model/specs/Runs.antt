@@ -15,10 +15,10 @@ use Rattle.bucket_core.specs.declared.event.Change.TheVariants as changes
 use Rattle.bucket_core.specs.declared.event.Event.{Event}
 use Rattle.bucket_core.specs.declared.event.Event.TheVariants as events
 use Rattle.bucket_core.specs.History.{History, author, event_at, history_at, events_within}
-use Rattle.reply_model.specs.declared.command.AsOf.TheVariants as moments
-use Rattle.reply_model.specs.declared.command.Pick.{Pick}
-use Rattle.reply_model.specs.declared.command.Command.{Command}
-use Rattle.reply_model.specs.declared.command.Command.TheVariants as commands
+use Rattle.expr_clause.specs.declared.command.AsOf.TheVariants as moments
+use Rattle.expr_clause.specs.declared.command.Pick.{Pick}
+use Rattle.expr_clause.specs.declared.command.Command.{Command}
+use Rattle.expr_clause.specs.declared.command.Command.TheVariants as commands
 use Rattle.reply_model.specs.declared.reply.Reply.{Reply}
 use Rattle.reply_model.specs.Answering.{Session, Answer}
 use Rattle.reply_model.specs.Answers.{answer}

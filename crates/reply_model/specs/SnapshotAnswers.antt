@@ -11,7 +11,7 @@ use Rattle.bucket_core.specs.declared.event.Change.{Change}
 use Rattle.bucket_core.specs.declared.event.Change.TheVariants as changes
 use Rattle.store_model.specs.Library.{base_of}
 use Rattle.store_model.specs.Snapshots.{Library, snapshot_named}
-use Rattle.reply_model.specs.declared.command.Pick.{Pick}
+use Rattle.expr_clause.specs.declared.command.Pick.{Pick}
 use Rattle.reply_model.specs.Answering.{◌then◌, refuse_if, or_refuse}
 use Rattle.reply_model.specs.Windows.{picked_version}
 use Rattle.reply_model.specs.Causes.{asked_version}

@@ -15,9 +15,9 @@ use Rattle.bucket_core.specs.declared.event.Change.{Change}
 use Rattle.bucket_core.specs.declared.event.Change.TheVariants as changes
 use Rattle.store_model.specs.Library.{State, unknown, after_changes}
 use Rattle.store_model.specs.Snapshots.{Library, Snapshot, snapshot_named, insert_name, insert_named, without_named}
-use Rattle.reply_model.specs.declared.command.Pick.{Pick}
-use Rattle.reply_model.specs.declared.command.Command.{Command}
-use Rattle.reply_model.specs.declared.command.Command.TheVariants as commands
+use Rattle.expr_clause.specs.declared.command.Pick.{Pick}
+use Rattle.expr_clause.specs.declared.command.Command.{Command}
+use Rattle.expr_clause.specs.declared.command.Command.TheVariants as commands
 use Rattle.reply_model.specs.declared.outcome.HeldAt.{HeldAt}
 use Rattle.reply_model.specs.declared.outcome.Outcome.{Outcome}
 use Rattle.reply_model.specs.declared.outcome.Outcome.TheVariants as outcomes

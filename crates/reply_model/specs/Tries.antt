@@ -14,7 +14,7 @@ use Rattle.bucket_core.specs.declared.event.Change.{Change}
 use Rattle.bucket_core.specs.declared.event.Event.{Event}
 use Rattle.bucket_core.specs.declared.event.Event.TheVariants as events
 use Rattle.bucket_core.specs.History.{History, Bytes}
-use Rattle.reply_model.specs.declared.command.Pick.{Pick}
+use Rattle.expr_clause.specs.declared.command.Pick.{Pick}
 use Rattle.reply_model.specs.Answering.{Session}
 use Rattle.index_tree.specs.declared.index.Slot.{Slot}
 use Rattle.index_tree.specs.declared.index.Index.{Index}

@@ -18,9 +18,9 @@ use Rattle.bucket_core.specs.History.{History, author, history_at, event_at, eve
 use Rattle.store_model.specs.Library.{State, base_of, is_live}
 use Rattle.store_model.specs.Snapshots.{Library, library_of}
 use Rattle.bucket_core.specs.Laws.{refers}
-use Rattle.reply_model.specs.declared.command.Pick.{Pick}
-use Rattle.reply_model.specs.declared.command.Command.{Command}
-use Rattle.reply_model.specs.declared.command.Command.TheVariants as commands
+use Rattle.expr_clause.specs.declared.command.Pick.{Pick}
+use Rattle.expr_clause.specs.declared.command.Command.{Command}
+use Rattle.expr_clause.specs.declared.command.Command.TheVariants as commands
 use Rattle.reply_model.specs.declared.outcome.Outcome.{Outcome}
 use Rattle.reply_model.specs.declared.outcome.Outcome.TheVariants as outcomes
 use Rattle.reply_model.specs.declared.reply.Reply.{Reply}

@@ -1,26 +1,18 @@
 //! What a client may ask of a store, what the one-thread library answers, and when replies are legal in a history.
 #![tactic(auto)]
 
-mod command;
 mod outcome;
 mod reply;
 mod theorem;
 
 pub use base_types::{Items, Keep, NoMemory};
-pub use command::{AsOf, Command, Pick};
-use frame_core::{ColName, RawFrame};
+use frame_core::RawFrame;
 use key_kind::SnapName;
 pub use outcome::{HeldAt, Outcome, SymbolRow, VersionRow};
 pub use reply::Reply;
 pub use theorem::{
     commands_are_isolated, legal_replies_stay_legal, refused_commands_change_nothing,
 };
-
-/// The symbols that a snapshot is to hold, seen as a list.
-pub type Picks = Items<Pick>;
-
-/// Names of columns, seen as a list.
-pub type ColNames = Items<ColName>;
 
 /// Raw frames, seen as a list.
 pub type RawFrames = Items<RawFrame>;

@@ -11,7 +11,8 @@ use Rattle.frame_core.specs.Columns.{cells_of}
 use Rattle.frame_core.proofs.Rows.{length-cells_of}
 use Rattle.frame_core.proofs.ColumnParts.{slice-map}
 use Rattle.segment_cut.specs.Tiles.{Tile, LiesIn, cut, has_row, has_cell}
-use Rattle.segment_cut.specs.Joins.{has_column, tile_cells, joined_cells, with_stamps, joined_stamps}
+use Rattle.frame_core.specs.Parts.{has_column}
+use Rattle.segment_cut.specs.Joins.{tile_cells, joined_cells, with_stamps, joined_stamps}
 use Rattle.segment_cut.proofs.Lists.{count_by-no, count_by-yes, and-assoc}
 use Rattle.segment_cut.proofs.Wholes.{widths}
 use Rattle.segment_cut.proofs.Cuts.{cells_of-cut, cells_of-slice, stamps-cut}

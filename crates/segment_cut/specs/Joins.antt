@@ -1,6 +1,6 @@
 -- How tiles are joined.
 --     IsTiledBy, AreTiles     a frame of this schema that tiles make; tiles of which there is one
---     has_column, tile_cells, joined_cells    the cells that a tile has of a column, and that tiles have, one behind another
+--     tile_cells, joined_cells    the cells that a tile has of a column, and that tiles have, one behind another
 --     with_stamps, joined_stamps      the stamps with those of a tile that lie beyond them, and with those of tiles in turn
 --     FitsKinds               whether a tile's columns are those of these types from its first column on
 use Rattle.std.specs.Prelude.{◌≡◌, ℕ, ◌+◌, ◌-◌, ◌≤◌, ℤ, Bool, ◌&&◌, if◌then◌else◌, nat_le, nat_lt, List, [], ◌++◌, length, map, drop, fold, slice_range}
@@ -8,6 +8,7 @@ use Rattle.std.specs.List.{flat_map}
 use Rattle.frame_core.specs.declared.cell.ColType.{ColType}
 use Rattle.frame_core.specs.declared.cell.Cell.{Cell}
 use Rattle.frame_core.specs.declared.part.Part.{Part}
+use Rattle.frame_core.specs.Parts.{has_column}
 use Rattle.frame_core.specs.Schemas.{Head, Schema}
 use Rattle.frame_core.specs.Frames.{Frame, IsFrame, stamps_of}
 use Rattle.frame_core.specs.Columns.{cells_of}
@@ -23,10 +24,6 @@ pub record IsTiledBy (schema : Schema) (tiles : List Tile) (frame : Frame) : Typ
 pub record AreTiles (schema : Schema) (tiles : List Tile) : Type 0 where
   pub frame : Frame
   pub is : IsTiledBy schema tiles frame
-
--- whether the part has the column
-abbrev pub has_column : Part → ℕ → Bool
-has_column part column = nat_le part.first_col column && nat_lt column (part.first_col + part.cols)
 
 -- the cells that a tile has of a column
 abbrev pub tile_cells : ℕ → Tile → List Cell

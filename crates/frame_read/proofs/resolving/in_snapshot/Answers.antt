@@ -4,7 +4,7 @@ use Rattle.std.specs.Arc.{arc_value}
 use Rattle.key_kind.specs.Names.{same_name}
 use Rattle.frame_core.specs.declared.refusal.Refusal.TheVariants as refusals
 use Rattle.store_model.specs.ChainText.{snap_of}
-use Rattle.reply_model.specs.declared.command.AsOf.TheVariants as moments
+use Rattle.expr_clause.specs.declared.command.AsOf.TheVariants as moments
 use Rattle.frame_read.proofs.ResolvingLemmas.{made_target, refuses_here, unnamed_refuses, unpicked_refuses, picked_is_chosen, chosen_here}
 use Rattle.frame_read.proofs.resolving.in_snapshot.Goals as goal
 
