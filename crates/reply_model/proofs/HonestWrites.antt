@@ -7,7 +7,9 @@ use lib.Utf8.{encode}
 use Rattle.frame_core.specs.Ranges.{Range}
 use Rattle.frame_core.specs.declared.part.Part.{Part}
 use Rattle.frame_core.specs.declared.column.Column.TheVariants as columns
-use Rattle.frame_core.specs.declared.raw.RawFrame.{RawFrame}
+use Rattle.frame_core.specs.declared.cell.ColType.TheVariants as types
+use Rattle.frame_core.specs.declared.cell.Cell.TheVariants as cells
+use Rattle.frame_core.specs.RawFrames.{Table}
 use Rattle.frame_core.specs.declared.refusal.Refusal.TheVariants as refusals
 use Rattle.bucket_core.specs.declared.event.Event.TheVariants as events
 use Rattle.bucket_core.specs.declared.event.Change.TheVariants as changes
@@ -37,8 +39,8 @@ use Rattle.reply_model.specs.Legal.{IsLegalSeen, Legal}
 
 -- ---- the frames, the sessions, the replies
 
-abbrev pub raw : ℕ → ℕ → RawFrame
-raw stamp cell = record { stamps = pos stamp ∷ []; names = (97 ∷ []) ∷ []; columns = columns.Ints (pos cell ∷ []) ∷ [] }
+abbrev pub raw : ℕ → ℕ → Table
+raw stamp cell = record { stamps = pos stamp ∷ []; names = (97 ∷ []) ∷ []; columns = (types.Int, cells.Int (pos cell) ∷ []) ∷ [] }
 
 abbrev pub client : ℕ → ℕ → Client
 client number tries = record { session = record { frames = raw 1 5 ∷ raw 2 6 ∷ []; moment = pos 60; tries = tries; client = number }; limit = 1000 }

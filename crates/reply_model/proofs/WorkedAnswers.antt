@@ -7,7 +7,9 @@ use Rattle.std.specs.Str.{is_utf8, chars}
 use lib.Utf8.{encode}
 use Rattle.byte_fields.specs.Reading.{signed_text}
 use Rattle.frame_core.specs.Ranges.{Range}
-use Rattle.frame_core.specs.declared.raw.RawFrame.{RawFrame}
+use Rattle.frame_core.specs.declared.cell.ColType.TheVariants as types
+use Rattle.frame_core.specs.declared.cell.Cell.TheVariants as cells
+use Rattle.frame_core.specs.RawFrames.{Table}
 use Rattle.frame_core.specs.declared.column.Column.TheVariants as columns
 use Rattle.frame_core.specs.declared.refusal.Asked.TheVariants as asks
 use Rattle.frame_core.specs.declared.refusal.Refusal.{Refusal}
@@ -36,8 +38,8 @@ use Rattle.reply_model.specs.Answers.{answer}
 -- ---- the session
 
 -- raw stamps and numbers of one column `a`
-abbrev raw : List (ℕ × ℕ) → RawFrame
-raw lines = record { stamps = map (λ x. pos x.0) lines; names = (97 ∷ []) ∷ []; columns = columns.Ints (map (λ x. pos x.1) lines) ∷ [] }
+abbrev raw : List (ℕ × ℕ) → Table
+raw lines = record { stamps = map (λ x. pos x.0) lines; names = (97 ∷ []) ∷ []; columns = (types.Int, map (λ x. cells.Int (pos x.1)) lines) ∷ [] }
 
 -- frames 0 to 6: one row at 9; one at 8; two from 25 to 35; none; rows at 3 and 12; falling stamps; a column `q` in place of `a`
 abbrev session : Session

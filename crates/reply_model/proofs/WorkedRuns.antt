@@ -1,7 +1,9 @@
 -- Whole runs of one client, computed: what is replied, at which place, and how many events there are at the end.
 use Rattle.std.specs.Prelude.{◌≡◌, ℕ, pos, Bool, true, false, List, [], ◌∷◌, map, Option, Some, None, refl, option_map}
 use Rattle.frame_core.specs.Ranges.{Range}
-use Rattle.frame_core.specs.declared.raw.RawFrame.{RawFrame}
+use Rattle.frame_core.specs.declared.cell.ColType.TheVariants as types
+use Rattle.frame_core.specs.declared.cell.Cell.TheVariants as cells
+use Rattle.frame_core.specs.RawFrames.{Table}
 use Rattle.frame_core.specs.declared.column.Column.TheVariants as columns
 use Rattle.frame_core.specs.declared.refusal.Asked.TheVariants as asks
 use Rattle.frame_core.specs.declared.refusal.Refusal.{Refusal}
@@ -24,19 +26,19 @@ abbrev six : List (ℕ × ℕ)
 six = (10, 1) ∷ (20, 2) ∷ (30, 3) ∷ (40, 4) ∷ (50, 5) ∷ (60, 6) ∷ []
 
 -- raw stamps and numbers of one column `a`
-abbrev raw : List (ℕ × ℕ) → RawFrame
-raw lines = record { stamps = map (λ x. pos x.0) lines; names = (97 ∷ []) ∷ []; columns = columns.Ints (map (λ x. pos x.1) lines) ∷ [] }
+abbrev raw : List (ℕ × ℕ) → Table
+raw lines = record { stamps = map (λ x. pos x.0) lines; names = (97 ∷ []) ∷ []; columns = (types.Int, map (λ x. cells.Int (pos x.1)) lines) ∷ [] }
 
 -- five rows of three columns
-abbrev three_columns : RawFrame
+abbrev three_columns : Table
 three_columns = record {
   stamps = map (λ x. pos x.0) five;
   names = (97 ∷ []) ∷ (98 ∷ []) ∷ (99 ∷ []) ∷ [];
-  columns = columns.Ints (map (λ x. pos x.1) five) ∷ columns.Ints (map (λ x. pos x.1) five) ∷ columns.Ints (map (λ x. pos x.1) five) ∷ [];
+  columns = (types.Int, map (λ x. cells.Int (pos x.1)) five) ∷ (types.Int, map (λ x. cells.Int (pos x.1)) five) ∷ (types.Int, map (λ x. cells.Int (pos x.1)) five) ∷ [];
 }
 
 -- frames 0 to 9: five rows; none; one at 9; one at 8; six; two in the middle; three pieces, of which two overlap; five rows of three columns
-abbrev frames : List RawFrame
+abbrev frames : List Table
 frames = raw five ∷ raw [] ∷ raw ((9, 106) ∷ []) ∷ raw ((8, 1) ∷ []) ∷ raw six ∷ raw ((25, 7) ∷ (35, 8) ∷ [])
     ∷ raw ((10, 1) ∷ (20, 2) ∷ []) ∷ raw ((15, 3) ∷ (30, 4) ∷ []) ∷ raw ((40, 5) ∷ []) ∷ three_columns ∷ []
 

@@ -6,7 +6,6 @@
 --     version_or, base_or     a version, or why there is none
 --     may_append, joined_within      whether a frame may be joined to the base
 use Rattle.std.specs.Prelude.{ℕ, ℤ, Bool, true, false, not, if◌then◌else◌, List, [], ◌∷◌, map, reverse, slice_get, Option, Some, None, Result, Ok, Err, int_lt, unwrap_or, option_map}
-use Rattle.frame_core.specs.declared.raw.RawFrame.{RawFrame}
 use Rattle.frame_core.specs.declared.refusal.Asked.{Asked}
 use Rattle.frame_core.specs.declared.refusal.Asked.TheVariants as asks
 use Rattle.frame_core.specs.declared.refusal.Refusal.{Refusal}
@@ -14,16 +13,16 @@ use Rattle.frame_core.specs.declared.refusal.Refusal.TheVariants as refusals
 use Rattle.frame_core.specs.Frames.{Row, Frame, first_stamp, last_stamp}
 use Rattle.frame_core.specs.Schemas.{schemas_differ}
 use Rattle.frame_core.specs.Limits.{frame_too_large, refuse_large}
-use Rattle.frame_core.specs.RawFrames.{frame_from, unless}
+use Rattle.frame_core.specs.RawFrames.{Table, frame_of_table, unless}
 use Rattle.bucket_core.specs.declared.event.Change.{Change}
 use Rattle.bucket_core.specs.declared.event.Change.TheVariants as changes
 use Rattle.store_model.specs.Library.{State, Version, base_of, live_versions, next_number, on_base}
 use Rattle.reply_model.specs.declared.outcome.Outcome.{Outcome}
 use Rattle.reply_model.specs.declared.outcome.Outcome.TheVariants as outcomes
 
--- the frames of a session, its moment, its number of tries and its client
+-- the raw frames of a session as tables, its moment, its number of tries and its client
 pub record Session : Type 0 where
-  pub frames : List RawFrame
+  pub frames : List Table
   pub moment : ℤ
   pub tries : ℕ
   pub client : ℕ
@@ -62,7 +61,7 @@ or_refuse (Some a) why = Ok a
 
 -- the session's frame of this number, counted from 0, or the first refusal of it
 abbrev pub frame_of : Session → ℕ → Option (Result Frame Refusal)
-frame_of s n = option_map frame_from (slice_get s.frames n)
+frame_of s n = option_map frame_of_table (slice_get s.frames n)
 
 -- the answer that goes on with the session's frame of this number; there is none where no frame has it
 abbrev pub with_frame : Session → ℕ → (Frame → Result Answer Refusal) → Option Answer

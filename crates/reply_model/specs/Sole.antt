@@ -6,7 +6,7 @@
 use Rattle.std.specs.Prelude.{ℕ, ℤ, suc, ◌+◌, if◌then◌else◌, List, [], ◌∷◌, ◌++◌, map, length, Option, Some, None, Result, Ok, Err, is_some, option_map, option_and_then}
 use Rattle.frame_core.specs.declared.refusal.Refusal.{Refusal}
 use Rattle.frame_core.specs.declared.refusal.Refusal.TheVariants as refusals
-use Rattle.frame_core.specs.declared.raw.RawFrame.{RawFrame}
+use Rattle.frame_core.specs.RawFrames.{Table}
 use Rattle.frame_core.specs.Frames.{Frame}
 use Rattle.key_kind.specs.declared.key.Holder.{Holder}
 use Rattle.key_kind.specs.Names.{Name, same_name}
@@ -216,11 +216,11 @@ pub record SoleRun : Type 0 where
   pub events : ℕ
 
 -- the session of a client of the run
-abbrev pub session_of : List RawFrame → ℤ → ℕ → Session
+abbrev pub session_of : List Table → ℤ → ℕ → Session
 session_of frames moment client = record { frames = frames; moment = moment; tries = 1; client = client }
 
 -- first and last commands are those of client 1, and the block's are those of client 2
-abbrev pub sole : Cutting → List RawFrame → ℤ → List Command → List Command → List Command → Option SoleRun
+abbrev pub sole : Cutting → List Table → ℤ → List Command → List Command → List Command → Option SoleRun
 sole c frames moment first block last =
     option_and_then (λ (x : List Reply × Alone).
     option_and_then (λ (y : List Reply × Alone).

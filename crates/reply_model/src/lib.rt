@@ -6,16 +6,12 @@ mod reply;
 mod theorem;
 
 pub use base_types::{Items, Keep, NoMemory};
-use frame_core::RawFrame;
 use key_kind::SnapName;
 pub use outcome::{HeldAt, Outcome, SymbolRow, VersionRow};
 pub use reply::Reply;
 pub use theorem::{
     commands_are_isolated, legal_replies_stay_legal, refused_commands_change_nothing,
 };
-
-/// Raw frames, seen as a list.
-pub type RawFrames = Items<RawFrame>;
 
 /// The symbols that a snapshot holds, in ascending order, seen as a list.
 pub type HeldList = Items<HeldAt>;
