@@ -44,6 +44,8 @@ impl<'a, L: Law, B: Bucket<L>, G: Gate> Bucket<L> for Gated<'a, B, G> {
 
     ghost sole = { λ g. B.sole g.inner };
 
+    ghost may_tell = { λ g. B.may_tell g.inner };
+
     ghost lawful = { λ g. B.lawful g.inner };
 
     fn place(&self) -> u64 {
