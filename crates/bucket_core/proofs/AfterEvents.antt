@@ -1,4 +1,4 @@
--- What a plain bucket keeps beside its events after one event more.
+-- What contents have after one event more.
 use Rattle.std.proofs.Common.{◌≡◌, ℕ, suc, true, false, cond, not, List, [], ◌∷◌, ◌++◌, length, map, filter, reverse, Option, Some, None, refl, ap, sym, ◌∙◌}
 use Rattle.std.specs.Arc.{arc_value}
 use Rattle.std.specs.Map.{keys_of, remove_entry}
@@ -20,7 +20,7 @@ use Rattle.bucket_core.specs.declared.event.Change.{Change}
 use Rattle.bucket_core.specs.declared.event.Event.{Event}
 use Rattle.bucket_core.specs.History.{History, Bytes, key_of, body_of, reference, referred_at}
 use Rattle.bucket_core.specs.Calls.{refer_event}
-use Rattle.bucket_core.specs.Contents.{Shown, shown, with_event, contents_of, ShowsEvents}
+use Rattle.bucket_core.specs.Contents.{Shown, shown}
 use Rattle.bucket_core.specs.Heads.{head_in, head_of}
 use Rattle.bucket_core.proofs.ContentsLemmas.{shown-insert_entry}
 
@@ -55,33 +55,6 @@ shown-remove_entry key (e ∷ es) sorted =
 pub history_after : (events later : List Event) (event : Event) → later ≡ events ++ event ∷ [] → reverse later ≡ event ∷ reverse events
 history_after events later event more = ap reverse more ∙ reverse-append events (event ∷ [])
 
--- what is kept shows the history as it has become
-made : (events later : List Event) (event : Event) (entries : List (Key × Entry)) (heads : List (Name × Head)) → later ≡ events ++ event ∷ [] → map shown entries ≡ contents_of (event ∷ reverse events) → ((symbol : Name) → head_in heads symbol ≡ head_of (event ∷ reverse events) symbol) → ShowsEvents later entries heads
-made events later event entries heads more contents known =
-    let is : reverse later ≡ event ∷ reverse events = history_after events later event more in
-    record {
-      contents = contents ∙ ap contents_of (sym is);
-      heads = λ symbol. known symbol ∙ ap (λ (h : History). head_of h symbol) (sym is);
-    }
-
--- after an event that sets a body
-pub ShowsEvents-body : (events later : List Event) (event : Event) (old new : List (Key × Entry)) (entry : Entry) (heads : List (Name × Head)) → map shown old ≡ contents_of (reverse events) → later ≡ events ++ event ∷ [] → new ≡ insert_entry key_cmp old (key_of event) entry → entry.since ≡ suc (length events) → body_of event ≡ Some (arc_value entry.body) → ((symbol : Name) → head_in heads symbol ≡ head_of (event ∷ reverse events) symbol) → ShowsEvents later new heads
-ShowsEvents-body events later event old new entry heads was more added place sets known =
-    made events later event new heads more
-    (ap (map shown) added
-    ∙ (shown-insert_entry old (key_of event) entry
-    ∙ (ap (λ (es : List Shown). insert_entry key_cmp es (key_of event) (arc_value entry.body, entry.since)) was
-    ∙ (ap (λ n. insert_entry key_cmp (contents_of (reverse events)) (key_of event) (arc_value entry.body, n)) (place ∙ ap suc (sym (length-reverse events)))
-    ∙ ap (λ (body : Option Bytes). with_event (key_of event) body (suc (length (reverse events))) (contents_of (reverse events))) (sym sets))))) known
-
--- after an event that takes a body away
-pub ShowsEvents-drop : (events later : List Event) (event : Event) (old new : List (Key × Entry)) (heads : List (Name × Head)) → map shown old ≡ contents_of (reverse events) → later ≡ events ++ event ∷ [] → map shown new ≡ with_event (key_of event) None 0 (map shown old) → body_of event ≡ None → ((symbol : Name) → head_in heads symbol ≡ head_of (event ∷ reverse events) symbol) → ShowsEvents later new heads
-ShowsEvents-drop events later event old new heads was more dropped sets known =
-    made events later event new heads more
-    (dropped
-    ∙ (ap (with_event (key_of event) None 0) was
-    ∙ ap (λ (body : Option Bytes). with_event (key_of event) body (suc (length (reverse events))) (contents_of (reverse events))) (sym sets))) known
-
 -- the heads after a Refer
 pub head_of-refer : (client : ℕ) (symbol : Name) (was : Option Key) (entry : Key) (list : List Change) (h : History) (other : Name) → cond (same_name symbol other) (record { entry = Some entry; since = suc (length h) }) (head_of h other) ≡ head_of (refer_event client symbol was entry list ∷ h) other
 head_of-refer client symbol was entry list h other =
@@ -95,10 +68,3 @@ head_in-refer before later name head client symbol was entry list h set known na
     ∙ (ap (λ (x : Head). cond (same_name symbol other) x (head_in before other)) is
     ∙ (ap (λ (x : Head). cond (same_name symbol other) (record { entry = Some entry; since = suc (length h) }) x) (known other)
     ∙ head_of-refer client symbol was entry list h other)))
-
--- what is kept, where nothing was added
-pub ShowsEvents-same : (events later : List Event) (old new : List (Key × Entry)) (before now : List (Name × Head)) → ShowsEvents events old before → later ≡ events → new ≡ old → ((other : Name) → head_in now other ≡ head_in before other) → ShowsEvents later new now
-ShowsEvents-same events later old new before now shows same kept heads = record {
-  contents = ap (map shown) kept ∙ (shows.contents ∙ ap (λ (es : List Event). contents_of (reverse es)) (sym same));
-  heads = λ symbol. heads symbol ∙ (shows.heads symbol ∙ ap (λ (es : List Event). head_of (reverse es) symbol) (sym same));
-}

@@ -2,21 +2,17 @@
 --     Shown, shown        an entry of such contents, as contracts see it
 --     with_event          contents after one event more
 --     contents_of         the contents that a history leaves, in the order of keys
---     ShowsEvents         contents and heads that a plain bucket keeps beside its events
 --     IsSetAt             whether something stands under a key, and since which place
 --     LacksName           whether a snapshot's name stands as it was set at a place, and else a place at which it does not
-use Rattle.std.specs.Prelude.{◌≡◌, ℕ, suc, true, map, reverse, is_some, List, [], ◌∷◌, length, filter, not, Option, Some, None}
+use Rattle.std.specs.Prelude.{◌≡◌, ℕ, suc, true, is_some, List, [], ◌∷◌, length, filter, not, Option, Some, None}
 use Rattle.std.specs.Arc.{arc_value}
 use Rattle.std.specs.BTreeMap.{insert_entry}
 use Rattle.key_kind.specs.declared.key.Key.{Key}
 use Rattle.key_kind.specs.Keys.{same_key, key_cmp}
 use Rattle.bucket_core.specs.declared.entry.Entry.{Entry}
 use Rattle.key_kind.specs.Names.{Name}
-use Rattle.bucket_core.specs.declared.head.Head.{Head}
-use Rattle.bucket_core.specs.declared.event.Event.{Event}
 use Rattle.bucket_core.specs.History.{History, Bytes, key_of, body_of, stored, since}
 use Rattle.bucket_core.specs.Calls.{StandsSince, IsMissingAt}
-use Rattle.bucket_core.specs.Heads.{head_in, head_of}
 
 -- a key, and under it a body and the place of the event that set it
 abbrev pub Shown : Type 0
@@ -35,11 +31,6 @@ with_event key (Some body) place entries = insert_entry key_cmp entries key (bod
 abbrev pub contents_of : History → List Shown
 contents_of [] = []
 contents_of (e ∷ h) = with_event (key_of e) (body_of e) (suc (length h)) (contents_of h)
-
--- the entries are the contents that these events leave, the oldest event first, and each symbol has its head
-pub record ShowsEvents (events : List Event) (entries : List (Key × Entry)) (kept : List (Name × Head)) : Type 0 where
-  pub contents : map shown entries ≡ contents_of (reverse events)
-  pub heads : (symbol : Name) → head_in kept symbol ≡ head_of (reverse events) symbol
 
 -- nothing stands under the key, or something stands there since this place
 abbrev pub IsSetAt : History → Key → Option ℕ → Type 0

@@ -1,5 +1,6 @@
 ghost use Rattle.std.specs.Prelude.{◌≡◌, ◌≤◌, ℕ, Bool, true, false, length, IfOk, IfErr, option_copied};
 ghost use Rattle.std.specs.Arc.{arc_value};
+ghost use Rattle.key_kind.specs.Names.{Name as NameBytes};
 ghost use Rattle.key_kind.specs.KeyText.{key_text};
 ghost use Rattle.bucket_core.specs.History.{History, puts_by};
 ghost use Rattle.bucket_core.specs.Laws.{IsLawful, Looks};
@@ -31,6 +32,9 @@ pub trait Bucket<L: Law> {
 
     /// Whether the store has no other client.
     ghost sole: { Self → Bool };
+
+    /// What `unchanged` may answer of a symbol and a place.
+    ghost may_tell: { Self → NameBytes → ℕ → Bool → Type 0 };
 
     /// The number of events that the bucket has seen.
     fn place(&self) -> u64
@@ -110,6 +114,7 @@ pub trait Bucket<L: Law> {
         requires seen { place ≤ length (seen self.old) }
         ensures same { seen self.new ≡ seen self.old }
         ensures steady { IsSteady number limit faults sole self.old self.new }
+        ensures told { may_tell self.old symbol.now place result }
         ensures unchanged { result ≡ true → refers_after (seen self.old) symbol.now place ≡ false };
 
     /// Each event that the bucket has seen was lawful after those before it.

@@ -1,17 +1,16 @@
-ghost use Rattle.std.specs.Prelude.{◌≡◌, ◌^◌, ◌-◌, ◌<◌, [], IfOk, OnOk, OnErr, None, Some, option_copied};
+ghost use Rattle.std.specs.Prelude.{◌≡◌, ◌↔◌, ◌^◌, ◌-◌, ◌<◌, [], IsTrue, IfOk, OnOk, OnErr, None, Some, option_copied};
 ghost use Rattle.std.specs.Arc.{arc_value};
 ghost use Rattle.std.specs.BTreeMap.{insert_entry};
 ghost use Rattle.key_kind.specs.Keys.{key_cmp, snapshot_key};
-ghost use Rattle.bucket_core.specs.History.{History};
+ghost use Rattle.bucket_core.specs.History.{History, referred_at};
 ghost use Rattle.bucket_core.specs.Heads.{HasMoved};
 ghost use Rattle.bucket_core.specs.Contents.{IsSetAt, LacksName};
 ghost use Rattle.bucket_core.specs.Showing.{Shows, ShowsSame, Sets, SetsReference, events_of};
-ghost use Rattle.bucket_core.specs.Calls.{IsFound, keys_that_match};
+ghost use Rattle.bucket_core.specs.Calls.{IsFound, keys_that_match, matches};
 
 use crate::answer::Found;
 use crate::body::Body;
 use crate::entry::Entry;
-use crate::event_log::{matches, same_entry};
 use crate::head::{Head, Heads};
 use base_types::{Items, Keep, NoMemory};
 use key_kind::{Key, KeyKind, Name, SnapName, Symbol};
@@ -131,6 +130,16 @@ impl Contents {
         }
     }
 
+    /// The place of the symbol's newest Refer, or 0.
+    pub fn referred_at(&self, symbol: &Symbol) -> u64
+        ensures { (h : History) → Shows self.now h → result ≡ referred_at h symbol.now }
+    {
+        match self.heads.find(symbol.name()) {
+            None => 0,
+            Some(head) => head.since,
+        }
+    }
+
     /// Adds an event that sets a body under a key, and is no Refer.
     pub fn set(&mut self, key: Key, body: Arc<Body>) -> Result<(), NoMemory>
         requires room { events_of self.old < 2 ^ 64 - 1 }
@@ -189,4 +198,23 @@ fn put_entry(entries: &mut BTreeMap<Key, Entry>, key: Key, entry: Entry) -> Resu
         Ok(_) => Ok(()),
         Err(_) => Err(NoMemory),
     }
+}
+
+/// Whether both are the same key, or both are none.
+fn same_entry(entry: Option<&Key>, was: Option<&Key>) -> bool
+    ensures { IsTrue result ↔ (option_copied entry.entry ≡ option_copied was.entry) }
+{
+    match (entry, was) {
+        (None, None) => true,
+        (Some(entry), Some(was)) => entry == was,
+        _ => false,
+    }
+}
+
+/// Whether a key is of this kind and of this name, where they are given.
+fn matches(kind: Option<KeyKind>, name: Option<&Name>, key: &Key) -> bool
+    ensures { result ≡ matches kind (option_copied name.entry) key.now }
+{
+    kind.is_none_or(|kind| kind.code() == key.kind.code())
+        && name.is_none_or(|name| *name == key.name)
 }

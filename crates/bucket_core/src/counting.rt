@@ -85,6 +85,8 @@ impl<L: Law, B: Bucket<L>> Bucket<L> for Counting<B> {
 
     ghost sole = { λ c. B.sole c.inner };
 
+    ghost may_tell = { λ c. B.may_tell c.inner };
+
     ghost lawful = { λ c. B.lawful c.inner };
 
     fn place(&self) -> u64 {

@@ -101,6 +101,8 @@ impl<L: Law, B: Bucket<L>> Bucket<L> for Flaky<B> {
 
     ghost sole = { λ f. B.sole f.inner };
 
+    ghost may_tell = { λ f. B.may_tell f.inner };
+
     ghost lawful = { λ f. B.lawful f.inner };
 
     fn place(&self) -> u64 {

@@ -1,8 +1,7 @@
-ghost use Rattle.std.specs.Prelude.{◌≡◌, ◌↔◌, ◌≤◌, ◌<◌, [], ◌∷◌, not, reverse, true, IsTrue, IfOk};
+ghost use Rattle.std.specs.Prelude.{◌≡◌, ◌↔◌, ◌≤◌, ◌<◌, [], ◌∷◌, reverse, true, IsTrue, IfOk};
 ghost use Rattle.std.specs.Arc.{arc_value};
 ghost use Rattle.bucket_core.specs.History.{puts_by};
 ghost use Rattle.bucket_core.specs.Laws.{IsLawful};
-ghost use Rattle.bucket_core.specs.Calls.{IsSteady, refers_after};
 
 use crate::Changes;
 use crate::answer::{Dropped, Found, Listed, StoreErr};
@@ -64,7 +63,8 @@ impl<L: Law> PlainBucket<L> {
 }
 
 impl<L: Law> Bucket<L> for PlainBucket<L> {
-    ghost use Rattle.std.specs.Prelude.{true};
+    ghost use Rattle.std.specs.Prelude.{◌≡◌, not, true};
+    ghost use Rattle.bucket_core.specs.Calls.{refers_after};
 
     ghost seen = { λ b. b.log };
 
@@ -75,6 +75,8 @@ impl<L: Law> Bucket<L> for PlainBucket<L> {
     ghost faults = { λ b. 0 };
 
     ghost sole = { λ b. true };
+
+    ghost may_tell = { λ b symbol place answer. answer ≡ not (refers_after b.log symbol place) };
 
     ghost lawful = { λ b. b.lawful };
 
@@ -207,11 +209,7 @@ impl<L: Law> Bucket<L> for PlainBucket<L> {
     }
 
     /// It is false only where the symbol has a Refer above the place.
-    fn unchanged(&mut self, symbol: &Symbol, place: u64) -> bool
-        ensures same { ⟦<PlainBucket<L> as Bucket<L>>⟧.seen self.new ≡ ⟦<PlainBucket<L> as Bucket<L>>⟧.seen self.old }
-        ensures steady { IsSteady ⟦<PlainBucket<L> as Bucket<L>>⟧.number ⟦<PlainBucket<L> as Bucket<L>>⟧.limit ⟦<PlainBucket<L> as Bucket<L>>⟧.faults ⟦<PlainBucket<L> as Bucket<L>>⟧.sole self.old self.new }
-        ensures unchanged { result ≡ not (refers_after (⟦<PlainBucket<L> as Bucket<L>>⟧.seen self.old) symbol.now place) }
-    {
+    fn unchanged(&mut self, symbol: &Symbol, place: u64) -> bool {
         self.log.referred_at(symbol) <= place
     }
 }

@@ -3,11 +3,14 @@ ghost use Rattle.std.specs.Arc.{arc_value};
 ghost use Rattle.key_kind.specs.Keys.{IsKey};
 ghost use Rattle.key_kind.specs.KeyText.{key_text};
 
-use crate::{Body, Bucket, Changes, Counting, Flaky, Law, PlainBucket, StoreErr, When};
+use crate::{
+    Body, Bucket, Changes, Counting, Flaky, Gate, GatePoint, Gated, Law, PlainBucket, Step,
+    StoreErr, When,
+};
 use base_types::{Items, Keep};
 use key_kind::{Key, KeyKind, SnapName, Symbol};
 use std::alloc::Global;
-use std::sync::{Arc, Wait};
+use std::sync::{Arc, Mutex, Wait};
 use std::test::Fail;
 
 // No entry of a symbol is referred twice.
@@ -190,5 +193,40 @@ fn gets_are_counted_by_kind(rt: HostRuntime) -> Result<(), Fail> {
     assert!(rt; stands(&rt, &mut bucket, &key, b"a").is_none());
     assert_eq!(rt; bucket.gets(KeyKind::Version), 2);
     assert_eq!(rt; bucket.gets(KeyKind::TableData), 0);
+    Ok(())
+}
+
+// A gate that counts how often it was passed before a put, and how often behind one.
+#[derive(Drop)]
+struct PutsPassed {
+    before: Mutex<u64>,
+    behind: Mutex<u64>,
+}
+
+impl Gate for PutsPassed {
+    fn pass_by<R: Wait>(&self, rt: &R, at: GatePoint) {
+        if at.step == Step::Put {
+            let passed = if at.after { &self.behind } else { &self.before };
+            let mut count = passed.lock(rt);
+            *count = count.saturating_add(1);
+        }
+    }
+}
+
+#[test]
+fn a_gate_is_passed_before_and_behind_each_put(rt: HostRuntime) -> Result<(), Fail> {
+    let alloc = rt.alloc();
+    let key = element(alloc, &Symbol::make(alloc, "S")?, 0)?;
+    let gate = PutsPassed {
+        before: Mutex::new(0),
+        behind: Mutex::new(0),
+    };
+    let mut bucket = Gated::make(plain(alloc, 9)?, &gate);
+    assert!(rt; matches!(put(&rt, alloc, &mut bucket, &key, b"a")?, Ok(1)));
+    assert!(rt; matches!(put(&rt, alloc, &mut bucket, &key, b"b")?, Ok(2)));
+    assert!(rt; matches!(stands(&rt, &mut bucket, &key, b"b"), Some((2, true))));
+    assert_eq!(rt; bucket.into_inner().events().len(), 2);
+    assert_eq!(rt; *gate.before.lock(&rt), 2);
+    assert_eq!(rt; *gate.behind.lock(&rt), 2);
     Ok(())
 }

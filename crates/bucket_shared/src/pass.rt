@@ -1,10 +1,11 @@
 // A pass: a client's way to a shared store.
-ghost use Rattle.std.specs.Prelude.{◌≡◌, ◌≤◌, ◌^◌, length, IfOk};
+ghost use Rattle.std.specs.Prelude.{◌≡◌, ◌≤◌, ◌^◌, length, true, false, IfOk};
 ghost use Rattle.std.specs.Arc.{arc_value};
 ghost use Rattle.turn_cell.specs.Seats.{view, seen, Rests};
 ghost use Rattle.turn_cell.specs.Views.{first_view};
 ghost use Rattle.bucket_core.specs.History.{puts_by};
 ghost use Rattle.bucket_core.specs.Laws.{IsLawful};
+ghost use Rattle.bucket_core.specs.Calls.{refers_after};
 ghost use Rattle.store_model.specs.Law.{IsClaimed};
 ghost use Rattle.bucket_shared.specs.Sole.{is_sole};
 ghost use Rattle.bucket_shared.specs.Stories.{history};
@@ -86,6 +87,8 @@ impl Bucket<StoreLaw> for Pass {
     ghost faults = { λ p. 0 };
 
     ghost sole = { λ p. is_sole p.seat.me.0.badge };
+
+    ghost may_tell = { λ p symbol place answer. answer ≡ true → refers_after (history p.seat) symbol place ≡ false };
 
     ghost lawful = { λ p. p.lawful };
 

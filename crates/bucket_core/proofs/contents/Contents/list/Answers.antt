@@ -1,6 +1,5 @@
-use Rattle.std.proofs.Common.{rules, ◌≡◌, List, filter, ap, ◌∙◌, option_copied}
+use Rattle.std.proofs.Common.{rules, ◌≡◌, filter, ap, ◌∙◌, option_copied}
 use Rattle.std.specs.Map.{keys_of}
-use Rattle.key_kind.specs.declared.key.Key.{Key}
 use Rattle.bucket_core.specs.Calls.{matches}
 use Rattle.bucket_core.proofs.ContentsLemmas.{keys-shown}
 use Rattle.bucket_core.proofs.contents.Contents.list.Goals as goal

@@ -1,6 +1,6 @@
 use Rattle.std.proofs.Common.{ap, option_copied}
 use Rattle.bucket_core.proofs.HeadLemmas.{same_entries}
-use Rattle.bucket_core.proofs.event_log.same_entry.Goals as goal
+use Rattle.bucket_core.proofs.contents.same_entry.Goals as goal
 
 pub returns-in-Some-Some : goal.returns-in-Some-Some
 returns-in-Some-Some c =
