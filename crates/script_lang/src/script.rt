@@ -2,12 +2,12 @@ ghost use Rattle.std.specs.Prelude.{IfOk};
 ghost use Rattle.script_lang.specs.Scripts.{finished, plain_script_of, AreLoaded};
 ghost use Rattle.script_lang.specs.Answers.{GivesScript};
 
-use crate::command::Command;
 use crate::draft::{Draft, after_lines};
 use crate::fault::ScriptFault;
 use crate::lines::lines_of;
 use crate::load::Loads;
 use base_types::Items;
+use expr_clause::Command;
 use std::alloc::Global;
 
 /// Commands, seen as a list.
@@ -17,7 +17,7 @@ pub type Commands = Items<Command>;
 const MOST_LINES: usize = 1000;
 
 /// A script. A command names its frame by the place among the loads.
-#[derive(Debug, Drop)]
+#[derive(Drop)]
 pub struct Script {
     pub loads: Loads,
     pub first: Commands,
