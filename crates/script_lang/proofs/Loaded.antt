@@ -4,6 +4,7 @@ use Rattle.std.specs.Prelude.{option_map, unwrap_or, is_none, find, Result, Ok, 
 use Rattle.std.specs.List.{AllByRecursion, position_from}
 use Rattle.std.proofs.lemmas.List.{length-map}
 use Rattle.frame_core.specs.Texts.{Text, same_text}
+use Rattle.frame_core.specs.Ranges.{Range}
 use Rattle.expr_clause.specs.declared.command.AsOf.TheVariants as moments
 use Rattle.expr_clause.specs.declared.command.Command.{Command}
 use Rattle.expr_clause.specs.declared.command.Command.TheVariants as commands
@@ -96,15 +97,19 @@ update_form-loaded frames (symbol ∷ frame ∷ more) c h =
     let set = bind-some (update_options more) (λ o. Some (update_made named.0 placed.0 o)) c placed.2 in
     subst (IsLoaded (length frames)) (some-same (update_made named.0 placed.0 set.0) c set.2) (target-below frames frame placed.0 placed.1)
 
--- a form without a frame, whose commands have none, gives such commands
+-- ---- forms without a frame
+
+abbrev range_made : Text → Range → CommitOptions → Command
+range_made s r o = commands.DeleteRange s r o.at o.prune
+
 delete_range_form-loaded : IsForm (λ frames. delete_range_form)
 delete_range_form-loaded frames [] c h = absurd cc
 delete_range_form-loaded frames (symbol ∷ []) c h = absurd cc
 delete_range_form-loaded frames (symbol ∷ range ∷ more) c h =
-    let named = bind-some (symbol_of symbol) (λ s. required_range range >>= λ r. commit_options more >>= λ o. Some (commands.DeleteRange s r o.at o.prune)) c h in
-    let ranged = bind-some (required_range range) (λ r. commit_options more >>= λ o. Some (commands.DeleteRange named.0 r o.at o.prune)) c named.2 in
-    let set = bind-some (commit_options more) (λ o. Some (commands.DeleteRange named.0 ranged.0 o.at o.prune)) c ranged.2 in
-    subst (IsLoaded (length frames)) (some-same (commands.DeleteRange named.0 ranged.0 set.0.at set.0.prune) c set.2) tt
+    let named = bind-some (symbol_of symbol) (λ s. required_range range >>= λ r. commit_options more >>= λ o. Some (range_made s r o)) c h in
+    let ranged = bind-some (required_range range) (λ r. commit_options more >>= λ o. Some (range_made named.0 r o)) c named.2 in
+    let set = bind-some (commit_options more) (λ o. Some (range_made named.0 ranged.0 o)) c ranged.2 in
+    subst (IsLoaded (length frames)) (some-same (range_made named.0 ranged.0 set.0) c set.2) tt
 
 delete_form-loaded : IsForm (λ frames. delete_form)
 delete_form-loaded frames [] c h = absurd cc

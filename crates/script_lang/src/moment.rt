@@ -1,7 +1,6 @@
 ghost use Rattle.std.specs.Prelude.{◌≡◌, option_map};
-ghost use Rattle.script_lang.specs.Fronts.{sign_at};
+ghost use Rattle.script_lang.specs.Fronts.{where_true, sign_at};
 ghost use Rattle.script_lang.specs.Moments.{is_i64, signed, signed_at, int_at, moment_of, version_of, back_of, as_of_of, end_at, is_range, range_at, range_of};
-ghost use Rattle.script_lang.specs.Fronts.{where_true};
 ghost use Rattle.script_lang.specs.Answers.{Reads};
 
 use crate::number::{count_all, digits_of};
