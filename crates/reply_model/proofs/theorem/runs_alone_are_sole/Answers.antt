@@ -1,4 +1,3 @@
-use Rattle.reply_model.proofs.StoredCounts.{keys_behind_put, reference_behind}
 use Rattle.reply_model.proofs.AloneRuns.{runs_grow, runs_are_sole}
 use Rattle.reply_model.proofs.theorem.runs_alone_are_sole.Goals as goal
 
