@@ -2,7 +2,6 @@
 use Rattle.std.proofs.Common.{◌≡◌, ℕ, suc, ◌+◌, ◌≤◌, ◌<◌, Bool, true, false, List, [], ◌∷◌, ◌++◌, length, Option, Some, None, refl, sym, ◌∙◌, ap, subst, arith, cond, fold}
 use Rattle.std.specs.Prelude.{MatchBool, ◌&&◌}
 use Rattle.std.specs.List.{AllByRecursion}
-use Rattle.std.proofs.lemmas.Bool.{true≢false, and_right}
 use Rattle.std.proofs.lemmas.List.Sums.{sum_by-append}
 use Rattle.key_kind.specs.Names.{Name, same_name}
 use Rattle.key_kind.specs.declared.key.Key.{Key}
@@ -13,7 +12,7 @@ use Rattle.key_kind.proofs.KeyTests.{same_name_is, same_name_self}
 use Rattle.bucket_core.specs.declared.event.Change.{Change}
 use Rattle.bucket_core.specs.declared.event.Change.TheVariants as changes
 use Rattle.bucket_core.specs.declared.event.Event.TheVariants as events
-use Rattle.bucket_core.specs.History.{History, PutOnce}
+use Rattle.bucket_core.specs.History.{History}
 use Rattle.store_model.specs.Library.{State, state_of, next_number, after_change, after_changes}
 use Rattle.store_model.specs.Law.{IsLawful}
 use Rattle.store_model.proofs.Lists.{all_weaker}
@@ -23,7 +22,7 @@ use Rattle.reply_model.specs.Blocks.{Cutting, Block, Shape, tiles_in, made_for, 
 use Rattle.reply_model.specs.Sole.{Alone, committing}
 use Rattle.reply_model.specs.Standing.{HasShape, StandsAs}
 use Rattle.reply_model.proofs.StoredCounts.{keys_behind_refer, reference_behind}
-use Rattle.reply_model.proofs.TryCounts.{puts_of, keys_behind_puts, PutsKeys}
+use Rattle.reply_model.proofs.TryCounts.{keys_behind_puts, PutsKeys}
 use Rattle.reply_model.proofs.AloneWindows.{IsKept}
 
 -- ---- numbers of versions
@@ -70,9 +69,13 @@ module _ (c : Cutting) (client : ℕ) (symbol : Name) (makes : Bool) (old behind
   -- the keys of a kind other than references
   keys_are : (other : Name) (kind : KeyKind) → same_kind kinds.VersionRef kind ≡ false
       → keys_of new other kind ≡ cond (same_kind kinds.TableData kind && same_name symbol other) puts.tiles 0 + cond (same_kind kinds.TableIndex kind && same_name symbol other) puts.indexes 0
-        + cond (same_kind kinds.Version kind && same_name symbol other) 1 0 + keys_of old other kind
-  keys_are other kind plain = omega (arith, keys_behind_refer before client symbol was entry (first ∷ rest) other kind (ap (λ b. b && same_name symbol other) plain),
-      keys_behind_puts other kind behind old puts.none (lawful_is_intact new lawful).once, puts.counted other kind)
+      + cond (same_kind kinds.Version kind && same_name symbol other) 1 0 + keys_of old other kind
+  keys_are other kind plain = omega (
+    arith,
+    keys_behind_refer before client symbol was entry (first ∷ rest) other kind (ap (λ b. b && same_name symbol other) plain),
+    keys_behind_puts other kind behind old puts.none (lawful_is_intact new lawful).once,
+    puts.counted other kind,
+  )
 
   -- the references of a symbol just before
   references_before : (other : Name) → keys_of before other kinds.VersionRef ≡ cond (state_of before other).has_reference 1 0
@@ -108,8 +111,8 @@ module _ (c : Cutting) (client : ℕ) (symbol : Name) (makes : Bool) (old behind
   -- the symbol's own shape, by the blocks that were made
   own_shape : (m : Bool) (o : Option (ℕ × List Block)) → m ≡ makes → blocks_made c (r.library.state symbol) (r.shape symbol) first ≡ o
       → MatchBool m
-        ((x : ℕ × List Block) × (o ≡ Some x) × (tiles_in (made_for x.0 x.1) ≡ puts.tiles) × AreMade (next_number (after_changes (r.library.state symbol) (first ∷ rest))) x.1)
-        (o ≡ None)
+      ((x : ℕ × List Block) × (o ≡ Some x) × (tiles_in (made_for x.0 x.1) ≡ puts.tiles) × AreMade (next_number (after_changes (r.library.state symbol) (first ∷ rest))) x.1)
+      (o ≡ None)
       → HasShape new symbol (record (with_version o (r.shape symbol)) { elements = suc (r.shape symbol).elements })
   own_shape m o is blocks made =
       let was_shape = stands.shapes symbol in
@@ -122,8 +125,8 @@ module _ (c : Cutting) (client : ℕ) (symbol : Name) (makes : Bool) (old behind
     where
       by_blocks : (n : Bool) (p : Option (ℕ × List Block)) → n ≡ makes
           → MatchBool n
-            ((x : ℕ × List Block) × (p ≡ Some x) × (tiles_in (made_for x.0 x.1) ≡ puts.tiles) × AreMade (next_number (after_changes (r.library.state symbol) (first ∷ rest))) x.1)
-            (p ≡ None)
+          ((x : ℕ × List Block) × (p ≡ Some x) × (tiles_in (made_for x.0 x.1) ≡ puts.tiles) × AreMade (next_number (after_changes (r.library.state symbol) (first ∷ rest))) x.1)
+          (p ≡ None)
           → keys_of new symbol kinds.VersionRef ≡ cond (state_of new symbol).has_reference 1 0 → keys_of new symbol kinds.Version ≡ suc (r.shape symbol).elements
           → keys_of new symbol kinds.Staged ≡ length (r.shape symbol).pieces → HasShape new symbol (record (with_version p (r.shape symbol)) { elements = suc (r.shape symbol).elements })
       by_blocks true p e made referred elements pieces =

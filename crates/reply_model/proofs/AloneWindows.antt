@@ -1,11 +1,11 @@
 -- A window without events of others: its own events are all events, no Refer is met, and puts change nothing that the library tells.
-use Rattle.std.proofs.Common.{◌≡◌, ℕ, suc, ◌-◌, ◌≤◌, ◌<◌, Bool, true, false, List, [], ◌∷◌, ◌++◌, map, length, take, Option, Some, None, refl, sym, ◌∙◌, ap, subst, arith, length-append, cond}
-use Rattle.std.specs.Prelude.{◌&&◌, not, filter, reverse, count_by, MatchBool, nat_eq, nat_le, is_some}
+use Rattle.std.proofs.Common.{◌≡◌, ℕ, suc, ◌-◌, ◌≤◌, ◌<◌, Bool, true, false, List, [], ◌∷◌, ◌++◌, map, length, take, Option, Some, refl, sym, ◌∙◌, ap, subst, arith, length-append, cond}
+use Rattle.std.specs.Prelude.{◌&&◌, not, filter, reverse, count_by, MatchBool, nat_eq, nat_le}
 use Rattle.std.specs.List.{list_any, flat_map, AllByRecursion}
 use Rattle.std.proofs.Math.Seq.{take-append_seam}
 use Rattle.std.proofs.lemmas.Bool.{true≢false, eqb-true, eq-eqb, lt-leb, and_right, or_parts, or_from}
 use Rattle.segment_cut.proofs.Lists.{count_by-cons}
-use Rattle.std.proofs.lemmas.List.{reverse-reverse, reverse-append, length-reverse, length-map}
+use Rattle.std.proofs.lemmas.List.{reverse-reverse, reverse-append}
 use Rattle.key_kind.specs.Names.{Name, same_name}
 use Rattle.key_kind.specs.declared.key.Key.{Key}
 use Rattle.key_kind.specs.declared.key.KeyKind.TheVariants as kinds
@@ -19,11 +19,11 @@ use Rattle.store_model.specs.Library.{state_of}
 use Rattle.store_model.specs.Snapshots.{symbols_of, snapshots_of}
 use Rattle.reply_model.specs.Answering.{Session}
 use Rattle.reply_model.specs.Windows.{Window, own_events, refer_places, refers_by_others}
-use Rattle.reply_model.specs.Tries.{put_of, Before, of_mark, of_version, index_linked, IsAccepted, IsTurn}
+use Rattle.reply_model.specs.Tries.{put_of, IsAccepted, IsTurn}
 use Rattle.reply_model.specs.OwnEvents.{AnyMarks}
 use Rattle.reply_model.specs.Runs.{harms}
 use Rattle.reply_model.proofs.Later.{history_at_later}
-use Rattle.reply_model.proofs.Places.{history_at_end, behind, within_is_behind, none_at, none_of_reversed}
+use Rattle.reply_model.proofs.Places.{history_at_end, behind, within_is_behind, none_at}
 use Rattle.reply_model.proofs.Harmless.{try_harms_nothing}
 use Rattle.reply_model.proofs.TryCounts.{PutsKeys, reversed_none, try_puts}
 use Rattle.reply_model.proofs.Quiet.{touches, untouched, not_first}

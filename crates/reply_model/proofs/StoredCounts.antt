@@ -1,12 +1,12 @@
 -- How many keys are stored of each kind of a symbol, behind puts and behind a Refer.
-use Rattle.std.proofs.Common.{◌≡◌, ℕ, suc, ◌+◌, Bool, true, false, List, [], ◌∷◌, ◌++◌, Option, Some, None, refl, sym, ◌∙◌, ap, subst, arith, cond}
+use Rattle.std.proofs.Common.{◌≡◌, ℕ, ◌+◌, Bool, true, false, List, [], ◌∷◌, Option, Some, None, refl, sym, ◌∙◌, ap, subst, arith, cond}
 use Rattle.std.specs.Prelude.{◌&&◌, ◌||◌, ⊤, not, filter, count_by, map, is_some, option_map}
 use Rattle.std.specs.List.{list_any, AllByRecursion}
 use Rattle.std.specs.Map.{lookup}
 use Rattle.std.specs.Ordering.{is_lt, is_eq, ordering_reverse}
 use Rattle.std.specs.declared.cmp.Ordering.{Ordering}
 use Rattle.std.specs.declared.cmp.Ordering.TheVariants.{Less, Equal, Greater}
-use Rattle.std.proofs.lemmas.Bool.{true≢false, or_parts, or_from, and_left, and_right}
+use Rattle.std.proofs.lemmas.Bool.{true≢false, or_parts, or_from}
 use Rattle.segment_cut.proofs.Lists.{count_by-cons}
 use Rattle.key_kind.specs.Names.{Name, same_name}
 use Rattle.key_kind.specs.declared.key.Key.{Key}
@@ -16,9 +16,8 @@ use Rattle.key_kind.specs.Keys.{is_put, same_kind, same_key, key_cmp, key_before
 use Rattle.key_kind.specs.KeyOrder.{key_cmp_total, same_key_ties}
 use Rattle.key_kind.proofs.KeyTests.{same_key_is, same_key_self, same_name_self, put_is_no_reference, put_is_no_snapshot}
 use Rattle.bucket_core.specs.declared.event.Change.{Change}
-use Rattle.bucket_core.specs.declared.event.Event.{Event}
 use Rattle.bucket_core.specs.declared.event.Event.TheVariants as events
-use Rattle.bucket_core.specs.History.{History, Bytes, key_of, body_of, stored, stored_keys, insert_key, without_key, body_put, reference, PutOnce}
+use Rattle.bucket_core.specs.History.{History, Bytes, key_of, body_of, stored, stored_keys, insert_key, without_key, body_put, reference}
 use Rattle.key_kind.specs.KeyText.{key_text}
 use Rattle.bucket_core.specs.Contents.{Shown, contents_of}
 use Rattle.bucket_core.proofs.ContentsLemmas.{keys-contents_of, body_found}

@@ -1,6 +1,6 @@
 -- How many keys of each kind a try puts.
-use Rattle.std.proofs.Common.{◌≡◌, ℕ, suc, ◌+◌, Bool, true, false, List, [], ◌∷◌, ◌++◌, map, length, Option, Some, None, refl, sym, ◌∙◌, ap, subst, arith, length-append, cond}
-use Rattle.std.specs.Prelude.{◌&&◌, not, reverse, count_by, is_some, sum_by}
+use Rattle.std.proofs.Common.{◌≡◌, ℕ, suc, ◌+◌, Bool, true, false, List, [], ◌∷◌, ◌++◌, map, length, Option, Some, None, refl, sym, ◌∙◌, ap, arith, length-append, cond}
+use Rattle.std.specs.Prelude.{◌&&◌, not, reverse, count_by, is_some}
 use Rattle.std.specs.List.{list_any, AllByRecursion}
 use Rattle.std.proofs.lemmas.Bool.{true≢false, or_parts, or_from}
 use Rattle.std.proofs.lemmas.List.{reverse-reverse, reverse-append, length-reverse, length-map}
@@ -38,8 +38,12 @@ pub keys_behind_puts : (symbol : Name) (kind : KeyKind) (es old : History) → l
 keys_behind_puts symbol kind [] old none once = omega arith
 keys_behind_puts symbol kind (events.Put c key body ∷ es) old none once =
     let parts = or_parts (not (is_put key.kind)) (list_any is_no_put es) none in
-    omega (arith, keys_behind_put (es ++ old) c key body symbol kind (of_not (is_put key.kind) parts.0) once.0, count_by-cons (puts_of symbol kind) (events.Put c key body) es,
-    keys_behind_puts symbol kind es old parts.1 once.1)
+    omega (
+      arith,
+      keys_behind_put (es ++ old) c key body symbol kind (of_not (is_put key.kind) parts.0) once.0,
+      count_by-cons (puts_of symbol kind) (events.Put c key body) es,
+      keys_behind_puts symbol kind es old parts.1 once.1,
+    )
   where
     of_not : (b : Bool) → not b ≡ false → b ≡ true
     of_not true f = refl
@@ -124,8 +128,12 @@ first_puts client symbol (Some key) makes first (of_version tiles own body index
   none = ap (list_any is_no_put) (map_append client tiles ((key, body) ∷ []))
       ∙ none_append (map (put_of client) tiles) (map (put_of client) ((key, body) ∷ [])) (no_put_of client symbol kinds.TableData tiles refl tile_are) (no_put_of client symbol kinds.TableIndex ((key, body) ∷ []) refl (key_is, tt));
   counted = λ other kind. ap (count_by (puts_of other kind)) (map_append client tiles ((key, body) ∷ []))
-      ∙ omega (arith, counted_append (puts_of other kind) (map (put_of client) tiles) (map (put_of client) ((key, body) ∷ [])),
-      counted_keys client symbol other kinds.TableData kind tiles tile_are, counted_keys client symbol other kinds.TableIndex kind ((key, body) ∷ []) (key_is, tt));
+      ∙ omega (
+        arith,
+        counted_append (puts_of other kind) (map (put_of client) tiles) (map (put_of client) ((key, body) ∷ [])),
+        counted_keys client symbol other kinds.TableData kind tiles tile_are,
+        counted_keys client symbol other kinds.TableIndex kind ((key, body) ∷ []) (key_is, tt),
+      );
   with_index = λ m. refl;
   without = λ m. absurd (true≢false (is ∙ m));
 }
@@ -138,7 +146,7 @@ pub record PutsKeys (symbol : Name) (makes : Bool) (es : List Event) : Type 0 wh
   pub none : list_any is_no_put es ≡ false
   pub counted : (other : Name) (kind : KeyKind) → count_by (puts_of other kind) es
       ≡ cond (same_kind kinds.TableData kind && same_name symbol other) tiles 0 + cond (same_kind kinds.TableIndex kind && same_name symbol other) indexes 0
-        + cond (same_kind kinds.Version kind && same_name symbol other) 1 0
+      + cond (same_kind kinds.Version kind && same_name symbol other) 1 0
   pub with_index : makes ≡ true → indexes ≡ 1
   pub without : makes ≡ false → (tiles ≡ 0) × (indexes ≡ 0)
 
@@ -157,8 +165,12 @@ try_puts client symbol makes puts entry t =
       none = reversed_none is_no_put (map (put_of client) puts) (ap (list_any is_no_put) is
           ∙ none_append (map (put_of client) t.first) (map (put_of client) last) first.none (no_put_of client symbol kinds.Version last refl (t.entry_is, tt)));
       counted = λ other kind. counted_reversed (puts_of other kind) (map (put_of client) puts) ∙ (ap (count_by (puts_of other kind)) is
-          ∙ omega (arith, counted_append (puts_of other kind) (map (put_of client) t.first) (map (put_of client) last), first.counted other kind,
-          counted_keys client symbol other kinds.Version kind last (t.entry_is, tt)));
+          ∙ omega (
+            arith,
+            counted_append (puts_of other kind) (map (put_of client) t.first) (map (put_of client) last),
+            first.counted other kind,
+            counted_keys client symbol other kinds.Version kind last (t.entry_is, tt),
+          ));
       with_index = first.with_index;
       without = first.without;
     }

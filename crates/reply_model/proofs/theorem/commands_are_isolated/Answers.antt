@@ -1,4 +1,3 @@
-use Rattle.reply_model.proofs.AloneShapes.{shapes_behind}
 use Rattle.reply_model.proofs.Isolated.{legal_is_isolated}
 use Rattle.reply_model.proofs.theorem.commands_are_isolated.Goals as goal
 
