@@ -1,8 +1,10 @@
 -- Each legal reply for a window without events of others is a step of the fold: commits, and commands that only look.
-use Rattle.std.proofs.Common.{◌≡◌, ℕ, suc, ◌+◌, ◌-◌, ◌≤◌, Bool, true, false, List, [], ◌∷◌, ◌++◌, length, Option, Some, None, Ok, refl, sym, ◌∙◌, ap, subst, inl, inr, arith, cond}
+use Rattle.std.proofs.Common.{◌≡◌, ℕ, suc, ◌+◌, ◌-◌, ◌≤◌, Bool, true, false, List, [], ◌∷◌, ◌++◌, length, Option, Some, None, Ok, refl, sym, ◌∙◌, ap, subst, inl, inr, arith, length-append, cond}
 use Rattle.std.specs.Prelude.{⊤, ℤ, not, nat_eq, nat_le, option_map, Result, Err}
 use Rattle.std.proofs.lemmas.Bool.{eq-eqb, le-leb, and_from}
-use Rattle.frame_core.specs.Frames.{Frame}
+use Rattle.frame_core.specs.Frames.{Frame, first_stamp, last_stamp}
+use Rattle.frame_core.specs.Schemas.{schemas_differ}
+use Rattle.frame_core.specs.Limits.{frame_too_large, refuse_large}
 use Rattle.frame_core.specs.RawFrames.{unless}
 use Rattle.frame_core.specs.declared.refusal.Asked.TheVariants as asks
 use Rattle.frame_core.specs.declared.refusal.Refusal.{Refusal}
@@ -13,26 +15,28 @@ use Rattle.bucket_core.specs.declared.event.Change.TheVariants as changes
 use Rattle.bucket_core.specs.declared.event.Event.{Event}
 use Rattle.bucket_core.specs.declared.event.Event.TheVariants as events
 use Rattle.bucket_core.specs.History.{History, event_at, history_at}
-use Rattle.store_model.specs.Library.{State, next_number}
+use Rattle.store_model.specs.Library.{State, Version, base_of, on_base}
 use Rattle.store_model.specs.Snapshots.{Library, library_of}
+use Rattle.store_model.specs.Law.{IsLawful}
 use Rattle.expr_clause.specs.declared.command.Command.{Command}
 use Rattle.expr_clause.specs.declared.command.Command.TheVariants as commands
 use Rattle.reply_model.specs.declared.outcome.Outcome.{Outcome}
 use Rattle.reply_model.specs.declared.outcome.Outcome.TheVariants as outcomes
 use Rattle.reply_model.specs.declared.reply.Reply.{Reply}
-use Rattle.reply_model.specs.CommitAnswers.{delete_answer, prune_answer, first_absent, ascending, older_live}
-use Rattle.reply_model.specs.Answering.{Session, Answer, ◌then◌, answered, refused, refuse_if, frame_of, stamp_of, committed, removed, live_numbers, pruned}
+use Rattle.reply_model.specs.CommitAnswers.{append_answer, delete_answer, prune_answer, first_absent, ascending, older_live}
+use Rattle.reply_model.specs.Answering.{Session, Answer, may_append, append_before, in_order, joined_within, ◌then◌, answered, refused, refuse_if, frame_of, stamp_of, committed, removed, live_numbers, pruned}
 use Rattle.reply_model.specs.Answers.{answer}
 use Rattle.reply_model.specs.Windows.{Client, library_at, refer_places, symbol_of, is_refused, listed_at}
 use Rattle.reply_model.specs.Rows.{IsAnswer}
-use Rattle.reply_model.specs.Blocks.{Cutting}
+use Rattle.reply_model.specs.Blocks.{Cutting, puts_of_version}
 use Rattle.reply_model.specs.Sole.{Alone, events_of, step_alone}
-use Rattle.reply_model.specs.Standing.{StandsAs, StepsTo, tiles_cut}
+use Rattle.reply_model.specs.Standing.{StandsAs, StepsTo}
 use Rattle.reply_model.proofs.Later.{history_at_later}
 use Rattle.reply_model.proofs.Places.{history_at_end}
 use Rattle.reply_model.proofs.Covering.{event_at_end, some_is}
 use Rattle.reply_model.proofs.Isolated.{some_answer}
-use Rattle.reply_model.proofs.GridCounts.{tiles_counted}
+use Rattle.reply_model.proofs.TryCounts.{PutsKeys}
+use Rattle.reply_model.proofs.AloneShapes.{Makes, shapes_behind}
 use Rattle.reply_model.proofs.AloneWindows.{Commits}
 use Rattle.reply_model.proofs.AloneSteps.{TellsSame, is_told, run_tells, told_step, commit_step}
 
@@ -73,10 +77,59 @@ write_is s list l q symbol frame at prune outcome first rest e = by_frame (frame
           done = sym (ap (λ (a : Answer). is_refused a.outcome) same);
         }
 
--- a write makes a tile for each part of its frame's grid, the index, the element and its Refer
-pub written_events : (c : Cutting) (r : Alone) (symbol : Name) (whole : Frame) (at : ℤ) (rest : List Change)
-    → events_of c (r.library.state symbol) (r.shape symbol) (changes.Wrote whole at ∷ rest) ≡ tiles_cut c whole + 3
-written_events c r symbol whole at rest = omega (arith, tiles_counted c whole (next_number (r.library.state symbol)))
+-- an appended frame is the session's, and the append is not refused
+pub append_first : (st : State) (prune : Bool) (at : ℤ) (whole : Frame) (outcome : Outcome) (first : Change) (rest : List Change)
+    → Some (answered (append_answer st prune at whole)) ≡ Some (record { outcome = outcome; marks = first ∷ rest }) → (first ≡ changes.Appended whole at) × (is_refused outcome ≡ false)
+append_first st prune at whole outcome first rest e = by_base (base_of st) e
+  where
+    refuses : (why : Refusal) → Some (refused why) ≡ Some (record { outcome = outcome; marks = first ∷ rest }) → ⊥
+    refuses why f = not_none first rest (ap (λ (a : Answer). a.marks) (some_answer (refused why) (record { outcome = outcome; marks = first ∷ rest }) f))
+
+    passes : {X : Type 0} (o : Option X) (why : X → Refusal) (f : Frame) (next : Frame → Result Answer Refusal)
+        → Some (answered (unless o why (Ok f) then next)) ≡ Some (record { outcome = outcome; marks = first ∷ rest }) → Some (answered (next f)) ≡ Some (record { outcome = outcome; marks = first ∷ rest })
+    passes None why f next g = g
+    passes (Some x) why f next g = absurd (refuses (why x) g)
+
+    passes_on : {X : Type 0} (o : Option X) (why : X → Refusal) (f : Frame) (then_frame : Frame → Result Frame Refusal) (next : Frame → Result Answer Refusal)
+        → Some (answered ((unless o why (Ok f) then then_frame) then next)) ≡ Some (record { outcome = outcome; marks = first ∷ rest })
+        → Some (answered (then_frame f then next)) ≡ Some (record { outcome = outcome; marks = first ∷ rest })
+    passes_on None why f then_frame next g = g
+    passes_on (Some x) why f then_frame next g = absurd (refuses (why x) g)
+
+    commits : Some (committed st prune (changes.Appended whole at)) ≡ Some (record { outcome = outcome; marks = first ∷ rest }) → (first ≡ changes.Appended whole at) × (is_refused outcome ≡ false)
+    commits f =
+        let same = some_answer (committed st prune (changes.Appended whole at)) (record { outcome = outcome; marks = first ∷ rest }) f in
+        (sym (first_is (changes.Appended whole at) first (pruned st prune) rest (ap (λ (a : Answer). a.marks) same)), sym (ap (λ (a : Answer). is_refused a.outcome) same))
+
+    by_base : (base : Option Version)
+        → Some (answered (may_append base whole then λ f. joined_within (λ old new. old ++ new) base f then λ g. Ok (committed st prune (changes.Appended g at)))) ≡ Some (record { outcome = outcome; marks = first ∷ rest })
+        → (first ≡ changes.Appended whole at) × (is_refused outcome ≡ false)
+    by_base None f = commits f
+    by_base (Some base) f =
+        commits (passes_on (frame_too_large (on_base (λ old new. old ++ new) (Some base) whole)) refuse_large (on_base (λ old new. old ++ new) (Some base) whole) (λ w. Ok whole) (λ g. Ok (committed st prune (changes.Appended g at)))
+        (passes (append_before (last_stamp base.frame.rows) (first_stamp whole.rows)) (λ p. refusals.AppendBefore p.0 p.1) whole
+        (λ g. joined_within (λ old new. old ++ new) (Some base) g then λ x. Ok (committed st prune (changes.Appended x at)))
+        (passes_on (schemas_differ base.frame.schema whole.schema) refusals.SchemaDiffers whole (λ g. in_order base.frame g)
+        (λ g. joined_within (λ old new. old ++ new) (Some base) g then λ x. Ok (committed st prune (changes.Appended x at))) f)))
+
+-- an append of the session's frame
+pub record IsAppended (s : Session) (frame : ℕ) (at : Option ℤ) (outcome : Outcome) (first : Change) : Type 0 where
+  pub whole : Frame
+  pub frame_is : frame_of s frame ≡ Some (Ok whole)
+  pub change : first ≡ changes.Appended whole (stamp_of s at)
+  pub done : is_refused outcome ≡ false
+
+pub append_is : (s : Session) (list l : Library) (q : ℕ) (symbol : Name) (frame : ℕ) (at : Option ℤ) (prune : Bool) (outcome : Outcome) (first : Change) (rest : List Change)
+    → answer s list l q (commands.Append symbol frame at prune) ≡ Some (record { outcome = outcome; marks = first ∷ rest }) → IsAppended s frame at outcome first
+append_is s list l q symbol frame at prune outcome first rest e = by_frame (frame_of s frame) refl e
+  where
+    by_frame : (o : Option (Result Frame Refusal)) → frame_of s frame ≡ o
+        → option_map (λ x. answered (x then λ f. append_answer (l.state symbol) prune (stamp_of s at) f)) o ≡ Some (record { outcome = outcome; marks = first ∷ rest }) → IsAppended s frame at outcome first
+    by_frame None is f = absurd cc
+    by_frame (Some (Err why)) is f = absurd (not_none first rest (ap (λ (a : Answer). a.marks) (some_answer (refused why) (record { outcome = outcome; marks = first ∷ rest }) f)))
+    by_frame (Some (Ok whole)) is f =
+        let b = append_first (l.state symbol) prune (stamp_of s at) whole outcome first rest f in
+        record { whole = whole; frame_is = is; change = b.0; done = b.1 }
 
 -- an answer that only buries
 abbrev pub OnlyBuries : Result Answer Refusal → Type 0
@@ -110,12 +163,23 @@ buried_first (Ok a) outcome first rest o e = of_removed o.0 (sym o.1 ∙ ap (λ 
     of_removed [] f = absurd (not_none first rest f)
     of_removed (n ∷ ns) f = (n ∷ ns, sym (first_is (changes.Removed (n ∷ ns)) first [] rest f))
 
--- a burial is an element and its Refer
-pub buried_events : (c : Cutting) (r : Alone) (symbol : Name) (first : Change) (rest : List Change) → ((numbers : List ℕ) × (first ≡ changes.Removed numbers))
-    → events_of c (r.library.state symbol) (r.shape symbol) (first ∷ rest) ≡ 2
-buried_events c r symbol first rest b = ap (λ x. events_of c (r.library.state symbol) (r.shape symbol) (x ∷ rest)) b.1
-
 -- ---- a reply to a command of one symbol
+
+-- a commit has the events that the run gives it, and its puts are the blocks that the run makes
+pub record IsCounted (c : Cutting) (r : Alone) (symbol : Name) (makes : Bool) (old behind : History) (puts : PutsKeys symbol makes behind) (first : Change) (rest : List Change) : Type 0 where
+  pub events : suc (length (behind ++ old)) ≡ r.events + events_of c (r.library.state symbol) (r.shape symbol) (first ∷ rest)
+  pub blocks : Makes c (r.library.state symbol) (r.shape symbol) makes puts.tiles first rest
+
+-- a commit's events are the puts of the blocks that it makes, its index, its element and its Refer
+pub made_events : (c : Cutting) (r : Alone) (symbol : Name) (makes : Bool) (old behind : History) (puts : PutsKeys symbol makes behind) (first : Change) (rest : List Change) → StandsAs old r
+    → Makes c (r.library.state symbol) (r.shape symbol) makes puts.tiles first rest → IsCounted c r symbol makes old behind puts first rest
+made_events c r symbol makes old behind puts first rest stands made = record { events = by_blocks makes puts made; blocks = made }
+  where
+    by_blocks : (m : Bool) (p : PutsKeys symbol m behind) → Makes c (r.library.state symbol) (r.shape symbol) m p.tiles first rest
+        → suc (length (behind ++ old)) ≡ r.events + events_of c (r.library.state symbol) (r.shape symbol) (first ∷ rest)
+    by_blocks true p m =
+        omega (arith, stands.events, length-append behind old, p.size, p.with_index refl, m.2, ap (λ o. puts_of_version o + 2) m.1)
+    by_blocks false p m = omega (arith, stands.events, length-append behind old, p.size, (p.without refl).0, (p.without refl).1, ap (λ o. puts_of_version o + 2) m)
 
 -- what is known of a reply without list and without holds that are left
 pub record Plain (s : Session) (command : Command) (reply : Reply) (old new : History) : Type 0 where
@@ -145,31 +209,35 @@ list_of e = []
 
 -- a commit stands
 pub committing_reply : (c : Cutting) (client : Client) (command : Command) (symbol : Name) (makes : Bool) (r : Alone) (reply : Reply) (old new : History) → StandsAs old r → symbol_of command ≡ Some symbol
-    → Plain client.session command reply old new → (k : Commits client.session.client symbol makes old new) → IsAnswer new client command reply
-    → ((list : Library) (q : ℕ) (first : Change) (rest : List Change) → answer client.session list (library_of k.before) q command ≡ Some (record { outcome = reply.outcome; marks = first ∷ rest })
-    → reply.place ≡ suc (length k.before) → suc (length k.before) ≡ r.events + events_of c (r.library.state symbol) (r.shape symbol) (first ∷ rest))
+    → IsLawful new → Plain client.session command reply old new → (k : Commits client.session.client symbol makes old new) → IsAnswer new client command reply
+    → ((list : Library) (q : ℕ) (first : Change) (rest : List Change) → answer client.session list (library_of (k.behind ++ old)) q command ≡ Some (record { outcome = reply.outcome; marks = first ∷ rest })
+    → reply.place ≡ suc (length (k.behind ++ old)) → IsCounted c r symbol makes old k.behind k.puts first rest)
     → StepsTo (step_alone c client.session command r) reply new
-committing_reply c client command symbol makes r reply old new stands named plain k is counted =
+committing_reply c client command symbol makes r reply old new stands named lawful plain k is counted =
     let own : ℕ = client.session.client in
-    let places : refer_places own (length old) new ≡ suc (length k.before) ∷ [] =
+    let before : History = k.behind ++ old in
+    let places : refer_places own (length old) new ≡ suc (length before) ∷ [] =
     ap (refer_places own (length old)) k.is
-    ∙ (ap (λ b. cond b (refer_places own (length old) k.before ++ suc (length k.before) ∷ []) (refer_places own (length old) k.before))
-    (and_from (nat_eq own own) (nat_le (length old) (length k.before)) (eq-eqb own own refl) (le-leb (length old) (length k.before) k.kept.later))
-    ∙ ap (λ ns. ns ++ suc (length k.before) ∷ []) k.kept.refers) in
+    ∙ (ap (λ b. cond b (refer_places own (length old) before ++ suc (length before) ∷ []) (refer_places own (length old) before))
+    (and_from (nat_eq own own) (nat_le (length old) (length before)) (eq-eqb own own refl) (le-leb (length old) (length before) k.kept.later))
+    ∙ ap (λ ns. ns ++ suc (length before) ∷ []) k.kept.refers) in
     elim is [
-      | inl told ↦ absurd (not_none (suc (length k.before)) [] (sym told.1 ∙ (plain.commits ∙ places)))
+      | inl told ↦ absurd (not_none (suc (length before)) [] (sym told.1 ∙ (plain.commits ∙ places)))
       | inr made ↦
-          let here : reply.place ≡ suc (length k.before) = first_is reply.place (suc (length k.before)) [] [] (sym made.6 ∙ (plain.commits ∙ places)) in
-          let before_is : history_at new (reply.place - 1) ≡ k.before =
+          let here : reply.place ≡ suc (length before) = first_is reply.place (suc (length before)) [] [] (sym made.6 ∙ (plain.commits ∙ places)) in
+          let before_is : history_at new (reply.place - 1) ≡ before =
           ap (λ h. history_at h (reply.place - 1)) k.is
-          ∙ (ap (history_at (events.Refer own symbol k.was k.entry k.list ∷ k.before)) (omega (arith, here))
-          ∙ (history_at_later k.before (events.Refer own symbol k.was k.entry k.list ∷ []) (length k.before) (omega arith) ∙ history_at_end k.before)) in
-          let answered_is : answer client.session (library_at new (listed_at reply)) (library_of k.before) (reply.place - 1) command ≡ Some (record { outcome = reply.outcome; marks = made.0 ∷ made.1 }) =
+          ∙ (ap (history_at (events.Refer own symbol k.was k.entry k.list ∷ before)) (omega (arith, here))
+          ∙ (history_at_later before (events.Refer own symbol k.was k.entry k.list ∷ []) (length before) (omega arith) ∙ history_at_end before)) in
+          let answered_is : answer client.session (library_at new (listed_at reply)) (library_of before) (reply.place - 1) command ≡ Some (record { outcome = reply.outcome; marks = made.0 ∷ made.1 }) =
           ap (λ h. answer client.session (library_at new (listed_at reply)) (library_of h) (reply.place - 1) command) (sym before_is) ∙ made.3 in
           let list_is : k.list ≡ made.0 ∷ made.1 =
           ap list_of (some_is (events.Refer own symbol k.was k.entry k.list) (events.Refer own made.2 made.5.0 made.5.1 (made.0 ∷ made.1))
-          (sym (event_at_end (events.Refer own symbol k.was k.entry k.list) k.before) ∙ (ap (λ h. event_at h (suc (length k.before))) (sym k.is) ∙ (ap (event_at new) (sym here) ∙ made.5.2)))) in
-          subst (λ h. StepsTo (step_alone c client.session command r) reply h) (sym (k.is ∙ ap (λ list. events.Refer own symbol k.was k.entry list ∷ k.before) list_is))
-          (commit_step c client.session command symbol r reply old k.before k.was k.entry made.0 made.1 (library_at new (listed_at reply)) (reply.place - 1) plain.told named stands k.kept
-          here plain.unlisted made.6 plain.unleft answered_is (counted (library_at new (listed_at reply)) (reply.place - 1) made.0 made.1 answered_is here))
+          (sym (event_at_end (events.Refer own symbol k.was k.entry k.list) before) ∙ (ap (λ h. event_at h (suc (length before))) (sym k.is) ∙ (ap (event_at new) (sym here) ∙ made.5.2)))) in
+          let new_is : new ≡ events.Refer own symbol k.was k.entry (made.0 ∷ made.1) ∷ before = k.is ∙ ap (λ list. events.Refer own symbol k.was k.entry list ∷ before) list_is in
+          let count = counted (library_at new (listed_at reply)) (reply.place - 1) made.0 made.1 answered_is here in
+          subst (λ h. StepsTo (step_alone c client.session command r) reply h) (sym new_is)
+          (commit_step c client.session command symbol r reply old before k.was k.entry made.0 made.1 (library_at new (listed_at reply)) (reply.place - 1) plain.told named stands k.kept
+          here plain.unlisted made.6 plain.unleft answered_is count.events
+          (shapes_behind c own symbol makes old k.behind k.was k.entry made.0 made.1 r stands k.kept k.puts (subst (λ h. IsLawful h) new_is lawful) count.blocks))
     ]

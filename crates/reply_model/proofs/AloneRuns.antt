@@ -90,7 +90,13 @@ same_alone c s client (command ∷ list) r is =
 
 -- the empty history
 begins : StandsAs [] beginning
-begins = record { events = refl; symbols = refl; states = λ symbol. refl; snapshots = refl }
+begins = record {
+  events = refl;
+  symbols = refl;
+  states = λ symbol. refl;
+  snapshots = refl;
+  shapes = λ symbol. record { tiles = refl; indexes = refl; elements = refl; references = refl; pieces = refl; made = tt };
+}
 
 pub runs_are_sole : RunsAreSole
 runs_are_sole c s list replies h is runs =

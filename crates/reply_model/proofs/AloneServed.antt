@@ -1,7 +1,7 @@
 -- The theorem for each command that is served.
-use Rattle.std.proofs.Common.{◌≡◌, ℕ, suc, ◌+◌, ◌-◌, ◌≤◌, Bool, true, false, List, [], ◌∷◌, ◌++◌, map, length, take, Option, Some, None, refl, sym, ◌∙◌, ap, subst, inl, inr, arith}
+use Rattle.std.proofs.Common.{◌≡◌, ℕ, suc, ◌-◌, ◌≤◌, Bool, true, false, List, [], ◌∷◌, ◌++◌, map, length, take, Option, Some, None, refl, sym, ◌∙◌, ap, subst, inl, inr, arith, length-append, cond}
 use Rattle.std.specs.Prelude.{◌⊎◌, ℤ, MatchBool}
-use Rattle.std.specs.List.{list_any}
+use Rattle.std.specs.List.{list_any, AllByRecursion}
 use Rattle.std.proofs.lemmas.Bool.{true≢false}
 use Rattle.frame_core.specs.Ranges.{Range}
 use Rattle.frame_core.specs.Texts.{Text}
@@ -10,7 +10,9 @@ use Rattle.frame_core.specs.declared.refusal.Refusal.TheVariants as refusals
 use Rattle.key_kind.specs.Names.{Name}
 use Rattle.bucket_core.specs.declared.event.Change.{Change}
 use Rattle.bucket_core.specs.History.{History, history_at}
-use Rattle.store_model.specs.Library.{state_of, is_buried, base_of}
+use Rattle.store_model.specs.Library.{State, state_of, is_buried, base_of, next_number}
+use Rattle.store_model.specs.Law.{IsLawful}
+use Rattle.key_kind.specs.declared.key.KeyKind.TheVariants as kinds
 use Rattle.store_model.specs.Snapshots.{Library, Snapshot, library_of}
 use Rattle.reply_model.specs.CommitAnswers.{delete_answer, prune_answer}
 use Rattle.bucket_core.specs.declared.event.Change.TheVariants as changes
@@ -26,23 +28,27 @@ use Rattle.reply_model.specs.Answering.{Answer, stamp_of}
 use Rattle.reply_model.specs.Answers.{answer, symbol_row}
 use Rattle.reply_model.specs.Windows.{Window, Client, library_at, refer_places, symbol_of, is_refused, is_cut, unnames, own_events, AreCommits}
 use Rattle.reply_model.specs.OwnEvents.{IsOwn, is_done}
-use Rattle.reply_model.specs.Rows.{IsAnswer, IsSymbolRow, AreSymbolRows, number_of}
+use Rattle.reply_model.specs.Rows.{keys_of, keys_outcome, IsAnswer, IsSymbolRow, AreSymbolRows, number_of}
 use Rattle.reply_model.specs.Legal.{IsLegalRefusal, IsLegalOutcome, IsLegalSeen}
-use Rattle.reply_model.specs.Blocks.{Cutting}
+use Rattle.reply_model.specs.Blocks.{Cutting, Block, tiles_in, blocks_made}
 use Rattle.reply_model.specs.Causes.{IsVersionGone}
-use Rattle.reply_model.specs.Sole.{Alone, events_of, plain_reply, next_turn, step_alone}
-use Rattle.reply_model.specs.Standing.{StandsAs, StepsTo, IsStep, is_served, LaysOut, LegalAloneSteps}
+use Rattle.reply_model.specs.Sole.{Alone, keys_alone, plain_reply, next_turn, step_alone}
+use Rattle.reply_model.specs.Standing.{StandsAs, StepsTo, IsStep, is_served, tiles_cut, PutsTiles, LaysOut, LegalAloneSteps}
 use Rattle.reply_model.proofs.Places.{history_at_end}
 use Rattle.reply_model.proofs.Isolated.{some_answer, Met, Gone, plain_outcome, uncut_is_no_fault, own_events_are, read_is_live}
 use Rattle.reply_model.proofs.Quiet.{is_plain}
 use Rattle.reply_model.proofs.AloneWindows.{AreBy, added, own_at, own_is_all, none_added, none_behind, Commits, turn_commits}
-use Rattle.reply_model.proofs.AloneSteps.{TellsSame, run_tells, reply_is, rows_same}
-use Rattle.reply_model.proofs.AloneLegal.{write_is, written_events, delete_buries, prune_buries, buried_first, buried_events, Plain, looking, committing_reply}
+use Rattle.reply_model.proofs.AloneSteps.{TellsSame, is_told, run_tells, reply_is, rows_same}
+use Rattle.reply_model.proofs.TryCounts.{PutsKeys}
+use Rattle.reply_model.proofs.AloneShapes.{AreMade, Makes}
+use Rattle.reply_model.proofs.BlockCounts.{write_makes, append_makes}
+use Rattle.reply_model.proofs.AloneLegal.{write_is, append_is, delete_buries, prune_buries, buried_first, made_events, Plain, looking, committing_reply}
 
 -- ---- what is known of a legal reply
 
 -- a legal reply for what was added, which no failure cut
 record Heard (client : Client) (command : Command) (reply : Reply) (more old : History) (faulted : Bool) : Type 0 where
+  lawful : IsLawful (more ++ old)
   own : AreBy client.session.client more
   seen : IsLegalSeen (more ++ old) client command reply (added more old faulted)
   cut : is_cut reply.outcome ≡ false
@@ -79,19 +85,40 @@ answered_or_gone client command reply more old faulted plain heard =
 
 -- ---- turns
 
+plain_of : (client : Client) (command : Command) (reply : Reply) (more old : History) (faulted : Bool) → Heard client command reply more old faulted → is_told command ≡ true
+    → reply.listed ≡ None → reply.left ≡ [] → Plain client.session command reply old (more ++ old)
+plain_of client command reply more old faulted heard told unlisted unleft = record {
+  told = told;
+  unlisted = unlisted;
+  unleft = unleft;
+  after = heard.seen.after;
+  before = heard.seen.before;
+  commits = commits_are client command reply more old faulted heard;
+}
+
+-- how a commit with this answer counts
+abbrev Counts : Cutting → Client → Command → Name → Bool → Reply → History → History → Alone → Type 0
+Counts c client command symbol makes reply more old r =
+    (behind : History) (puts : PutsKeys symbol makes behind) (list : Library) (q : ℕ) (first : Change) (rest : List Change)
+    → answer client.session list (library_of (behind ++ old)) q command ≡ Some (record { outcome = reply.outcome; marks = first ∷ rest })
+    → reply.place ≡ suc (length (behind ++ old)) → Makes c (r.library.state symbol) (r.shape symbol) makes puts.tiles first rest
+
 -- a command that commits, or had nothing to do
 turn_step : (c : Cutting) (client : Client) (command : Command) (symbol : Name) (makes : Bool) (reply : Reply) (more old : History) (r : Alone) → StandsAs old r → symbol_of command ≡ Some symbol
-    → Plain client.session command reply old (more ++ old) → IsAnswer (more ++ old) client command reply → (done : Bool)
-    → ((k : Commits client.session.client symbol makes old (more ++ old)) (list : Library) (q : ℕ) (first : Change) (rest : List Change)
-    → answer client.session list (library_of k.before) q command ≡ Some (record { outcome = reply.outcome; marks = first ∷ rest })
-    → reply.place ≡ suc (length k.before) → suc (length k.before) ≡ r.events + events_of c (r.library.state symbol) (r.shape symbol) (first ∷ rest))
+    → IsLawful (more ++ old) → Plain client.session command reply old (more ++ old) → IsAnswer (more ++ old) client command reply → (done : Bool) → Counts c client command symbol makes reply more old r
     → MatchBool done (Commits client.session.client symbol makes old (more ++ old)) (more ≡ []) → StepsTo (step_alone c client.session command r) reply (more ++ old)
-turn_step c client command symbol makes reply more old r stands named plain is true counted k =
-    committing_reply c client command symbol makes r reply old (more ++ old) stands named plain k is (counted k)
-turn_step c client command symbol makes reply more old r stands named plain is false counted none =
+turn_step c client command symbol makes reply more old r stands named lawful plain is true counts k =
+    committing_reply c client command symbol makes r reply old (more ++ old) stands named lawful plain k is
+    (λ list q first rest answered here. made_events c r symbol makes old k.behind k.puts first rest stands (counts k.behind k.puts list q first rest answered here))
+turn_step c client command symbol makes reply more old r stands named lawful plain is false counts none =
     subst (λ es. StepsTo (step_alone c client.session command r) reply (es ++ old)) (sym none)
     (looking c client command r reply old stands (subst (λ es. Plain client.session command reply old (es ++ old)) none plain) (none_behind client.session.client (length old) old (omega arith))
     (subst (λ es. IsAnswer (es ++ old) client command reply) none is))
+
+-- so many tiles are put where the reply's place says so
+tiles_are : (symbol : Name) (reply : Reply) (old behind : History) (puts : PutsKeys symbol true behind) (tiles : ℕ) → is_refused reply.outcome ≡ false → PutsTiles tiles reply old
+    → reply.place ≡ suc (length (behind ++ old)) → puts.tiles ≡ tiles
+tiles_are symbol reply old behind puts tiles done laid here = omega (arith, here, laid done, length-append behind old, puts.size, puts.with_index refl)
 
 write_step : (c : Cutting) (client : Client) (symbol : Name) (frame : ℕ) (at : Option ℤ) (prune : Bool) (reply : Reply) (more old : History) (faulted : Bool)
     → Heard client (commands.Write symbol frame at prune) reply more old faulted → LaysOut c client.session (commands.Write symbol frame at prune) reply old
@@ -100,18 +127,36 @@ write_step c client symbol frame at prune reply more old faulted heard laid r st
     let command = commands.Write symbol frame at prune in
     elim (answered_or_gone client command reply more old faulted refl heard) [
       | inl gone ↦ absurd gone
-      | inr is ↦ turn_step c client command symbol true reply more old r stands refl
-          (record { told = refl; unlisted = heard.seen.listed; unleft = heard.seen.left.left; after = heard.seen.after; before = heard.seen.before; commits = commits_are client command reply more old faulted heard })
-          is (is_done reply) (λ k list q first rest answered here.
-          let w = write_is client.session list (library_of k.before) q symbol frame at prune reply.outcome first rest answered in
-          omega (arith, here, stands.events, laid w.whole w.frame_is w.done, ap (λ x. events_of c (r.library.state symbol) (r.shape symbol) (x ∷ rest)) w.change, written_events c r symbol w.whole (stamp_of client.session at) rest))
+      | inr is ↦ turn_step c client command symbol true reply more old r stands refl heard.lawful (plain_of client command reply more old faulted heard refl heard.seen.listed heard.seen.left.left)
+          is (is_done reply) (λ behind puts list q first rest answered here.
+          let w = write_is client.session list (library_of (behind ++ old)) q symbol frame at prune reply.outcome first rest answered in
+          subst (λ x. Makes c (r.library.state symbol) (r.shape symbol) true puts.tiles x rest) (sym w.change)
+          (write_makes c (r.library.state symbol) (r.shape symbol) puts.tiles w.whole (stamp_of client.session at) rest
+          (tiles_are symbol reply old behind puts (tiles_cut c w.whole) w.done (laid w.whole w.frame_is) here)))
           (turn_commits more old client.session symbol true (is_done reply) faulted heard.own (own_are client command reply more old faulted heard))
     ]
 
--- a burial is an element and its Refer
-two_events : (c : Cutting) (client : ℕ) (symbol : Name) (r : Alone) (old h : History) (k : Commits client symbol false old h) (first : Change) (rest : List Change) → StandsAs old r
-    → ((numbers : List ℕ) × (first ≡ changes.Removed numbers)) → suc (length k.before) ≡ r.events + events_of c (r.library.state symbol) (r.shape symbol) (first ∷ rest)
-two_events c client symbol r old h k first rest stands b = omega (arith, stands.events, k.marks refl, buried_events c r symbol first rest b)
+append_step : (c : Cutting) (client : Client) (symbol : Name) (frame : ℕ) (at : Option ℤ) (prune : Bool) (reply : Reply) (more old : History) (faulted : Bool)
+    → Heard client (commands.Append symbol frame at prune) reply more old faulted → LaysOut c client.session (commands.Append symbol frame at prune) reply old
+    → IsStep c client.session (commands.Append symbol frame at prune) reply old (more ++ old)
+append_step c client symbol frame at prune reply more old faulted heard laid r stands =
+    let command = commands.Append symbol frame at prune in
+    elim (answered_or_gone client command reply more old faulted refl heard) [
+      | inl gone ↦ absurd gone
+      | inr is ↦ turn_step c client command symbol true reply more old r stands refl heard.lawful (plain_of client command reply more old faulted heard refl heard.seen.listed heard.seen.left.left)
+          is (is_done reply) (λ behind puts list q first rest answered here.
+          let w = append_is client.session list (library_of (behind ++ old)) q symbol frame at prune reply.outcome first rest answered in
+          subst (λ x. Makes c (r.library.state symbol) (r.shape symbol) true puts.tiles x rest) (sym w.change)
+          (append_makes c (r.library.state symbol) (r.shape symbol) puts.tiles w.whole (stamp_of client.session at) rest
+          (subst (λ (st : State). AllByRecursion (λ (x : ℕ × List Block). AreMade (next_number st) x.1) (r.shape symbol).versions) (sym (stands.states symbol)) (stands.shapes symbol).made)
+          (tiles_are symbol reply old behind puts (tiles_cut c w.whole) w.done (laid w.whole w.frame_is) here)))
+          (turn_commits more old client.session symbol true (is_done reply) faulted heard.own (own_are client command reply more old faulted heard))
+    ]
+
+-- a burial makes no blocks
+burial_makes : (c : Cutting) (r : Alone) (symbol : Name) (tiles : ℕ) (first : Change) (rest : List Change) → ((numbers : List ℕ) × (first ≡ changes.Removed numbers))
+    → Makes c (r.library.state symbol) (r.shape symbol) false tiles first rest
+burial_makes c r symbol tiles first rest b = ap (λ x. blocks_made c (r.library.state symbol) (r.shape symbol) x) b.1
 
 delete_step : (c : Cutting) (client : Client) (symbol : Name) (versions : Option (List ℕ)) (reply : Reply) (more old : History) (faulted : Bool)
     → Heard client (commands.Delete symbol versions) reply more old faulted → IsStep c client.session (commands.Delete symbol versions) reply old (more ++ old)
@@ -119,10 +164,9 @@ delete_step c client symbol versions reply more old faulted heard r stands =
     let command = commands.Delete symbol versions in
     elim (answered_or_gone client command reply more old faulted refl heard) [
       | inl gone ↦ absurd gone
-      | inr is ↦ turn_step c client command symbol false reply more old r stands refl
-          (record { told = refl; unlisted = heard.seen.listed; unleft = heard.seen.left.left; after = heard.seen.after; before = heard.seen.before; commits = commits_are client command reply more old faulted heard })
-          is (is_done reply) (λ k list q first rest answered here. two_events c client.session.client symbol r old (more ++ old) k first rest stands
-          (buried_first (delete_answer ((library_of k.before).state symbol) versions) reply.outcome first rest (delete_buries ((library_of k.before).state symbol) versions) answered))
+      | inr is ↦ turn_step c client command symbol false reply more old r stands refl heard.lawful (plain_of client command reply more old faulted heard refl heard.seen.listed heard.seen.left.left)
+          is (is_done reply) (λ behind puts list q first rest answered here. burial_makes c r symbol puts.tiles first rest
+          (buried_first (delete_answer ((library_of (behind ++ old)).state symbol) versions) reply.outcome first rest (delete_buries ((library_of (behind ++ old)).state symbol) versions) answered))
           (turn_commits more old client.session symbol false (is_done reply) faulted heard.own (own_are client command reply more old faulted heard))
     ]
 
@@ -132,10 +176,9 @@ prune_step c client symbol reply more old faulted heard r stands =
     let command = commands.Prune symbol in
     elim (answered_or_gone client command reply more old faulted refl heard) [
       | inl gone ↦ absurd gone
-      | inr is ↦ turn_step c client command symbol false reply more old r stands refl
-          (record { told = refl; unlisted = heard.seen.listed; unleft = heard.seen.left.left; after = heard.seen.after; before = heard.seen.before; commits = commits_are client command reply more old faulted heard })
-          is (is_done reply) (λ k list q first rest answered here. two_events c client.session.client symbol r old (more ++ old) k first rest stands
-          (buried_first (prune_answer ((library_of k.before).state symbol)) reply.outcome first rest (prune_buries ((library_of k.before).state symbol)) answered))
+      | inr is ↦ turn_step c client command symbol false reply more old r stands refl heard.lawful (plain_of client command reply more old faulted heard refl heard.seen.listed heard.seen.left.left)
+          is (is_done reply) (λ behind puts list q first rest answered here. burial_makes c r symbol puts.tiles first rest
+          (buried_first (prune_answer ((library_of (behind ++ old)).state symbol)) reply.outcome first rest (prune_buries ((library_of (behind ++ old)).state symbol)) answered))
           (turn_commits more old client.session symbol false (is_done reply) faulted heard.own (own_are client command reply more old faulted heard))
     ]
 
@@ -169,7 +212,7 @@ read_step c client symbol as_of range columns reply old faulted heard r stands =
     elim (answered_or_gone client command reply [] old faulted refl heard) [
       | inl gone ↦ absurd (not_gone symbol as_of gone.0 reply old faulted heard.seen.after heard.seen.before gone.1)
       | inr is ↦ looking c client command r reply old stands
-          (record { told = refl; unlisted = heard.seen.listed; unleft = heard.seen.left.left; after = heard.seen.after; before = heard.seen.before; commits = commits_are client command reply [] old faulted heard })
+          (plain_of client command reply [] old faulted heard refl heard.seen.listed heard.seen.left.left)
           (none_behind client.session.client (length old) old (omega arith)) is
     ]
 
@@ -180,7 +223,7 @@ versions_step c client symbol reply old faulted heard r stands =
     elim (answered_or_gone client command reply [] old faulted refl heard) [
       | inl gone ↦ absurd gone
       | inr is ↦ looking c client command r reply old stands
-          (record { told = refl; unlisted = heard.seen.listed; unleft = heard.seen.left.left; after = heard.seen.after; before = heard.seen.before; commits = commits_are client command reply [] old faulted heard })
+          (plain_of client command reply [] old faulted heard refl heard.seen.listed heard.seen.left.left)
           (none_behind client.session.client (length old) old (omega arith)) is
     ]
 
@@ -194,7 +237,7 @@ listed_step client command reply r old faulted outcome stands heard unlisted unl
       reply_is reply r.events None [] (here ∙ sym stands.events) unlisted
           (commits_are client command reply [] old faulted heard ∙ none_behind client.session.client (length old) old (omega arith)) unleft
           ∙ ap (λ o. plain_reply r.events None o) is,
-      record { events = stands.events; symbols = stands.symbols; states = stands.states; snapshots = stands.snapshots },
+      record { events = stands.events; symbols = stands.symbols; states = stands.states; snapshots = stands.snapshots; shapes = stands.shapes },
     )
 
 no_symbol : (symbol : Name) → None ≡ Some symbol → ⊥
@@ -269,6 +312,42 @@ symbols_step c client reply old faulted heard r stands =
     ∙ (ap (λ p. map (symbol_row (library_of old) p) (library_of old).symbols) (here ∙ sym stands.events)
     ∙ (ap (map (symbol_row (library_of old) r.events)) (sym stands.symbols) ∙ sym (rows_same r.library (library_of old) r.events (run_tells old r stands) r.library.symbols))))))
 
+-- ---- keys
+
+no_answer : (a : Answer) → None ≡ Some a → ⊥
+no_answer a e = cc
+
+keys_refused : (h : History) (client : Client) (symbol : Name) (reply : Reply) (w : Window) (why : Refusal) → is_cut (outcomes.Refused why) ≡ false → IsLegalRefusal h client (commands.Keys symbol) reply w why → ⊥
+keys_refused h client symbol reply w refusals.NoMemory cut l = true≢false cut
+keys_refused h client symbol reply w refusals.StoreFault cut l = true≢false cut
+keys_refused h client symbol reply w (refusals.Spent count) cut l = true≢false cut
+keys_refused h client symbol reply w (refusals.Moved now) cut l = true≢false (sym l.1.0)
+keys_refused h client symbol reply w (refusals.VersionGone number) cut l = l
+keys_refused h client symbol reply w why cut l = elim l [
+  | inl told ↦ no_answer (record { outcome = reply.outcome; marks = [] }) told.0
+  | inr made ↦ no_answer (record { outcome = reply.outcome; marks = made.0 ∷ made.1 }) made.3
+]
+
+keys_counted : (h : History) (client : Client) (symbol : Name) (reply : Reply) (w : Window) (o : Outcome) → is_cut o ≡ false → IsLegalOutcome h client (commands.Keys symbol) reply w o
+    → o ≡ keys_outcome (history_at h reply.place) symbol
+keys_counted h client symbol reply w (outcomes.Refused why) cut l = absurd (keys_refused h client symbol reply w why cut l)
+keys_counted h client symbol reply w o cut l = l
+
+keys_step : (c : Cutting) (client : Client) (symbol : Name) (reply : Reply) (old : History) (faulted : Bool) → Heard client (commands.Keys symbol) reply [] old faulted → IsStep c client.session (commands.Keys symbol) reply old old
+keys_step c client symbol reply old faulted heard r stands =
+    let here : reply.place ≡ length old = omega (arith, heard.seen.after, heard.seen.before) in
+    let shape = stands.shapes symbol in
+    let st : State = r.library.state symbol in
+    listed_step client (commands.Keys symbol) reply r old faulted (keys_alone st (r.shape symbol)) stands heard heard.seen.listed heard.seen.left.left
+    (keys_counted old client symbol reply (added [] old faulted) reply.outcome heard.cut heard.seen.outcome
+    ∙ (ap (λ (g : History). keys_outcome g symbol) (ap (history_at old) here ∙ history_at_end old)
+    ∙ (ap (λ n. outcomes.Keys n (keys_of old symbol kinds.TableIndex) (keys_of old symbol kinds.Version) (keys_of old symbol kinds.VersionRef) (keys_of old symbol kinds.Staged)) shape.tiles
+    ∙ (ap (λ n. outcomes.Keys (tiles_in (r.shape symbol).blocks) n (keys_of old symbol kinds.Version) (keys_of old symbol kinds.VersionRef) (keys_of old symbol kinds.Staged)) shape.indexes
+    ∙ (ap (λ n. outcomes.Keys (tiles_in (r.shape symbol).blocks) (length (r.shape symbol).indexes) n (keys_of old symbol kinds.VersionRef) (keys_of old symbol kinds.Staged)) shape.elements
+    ∙ (ap (λ n. outcomes.Keys (tiles_in (r.shape symbol).blocks) (length (r.shape symbol).indexes) (r.shape symbol).elements n (keys_of old symbol kinds.Staged))
+    (shape.references ∙ ap (λ (x : State). cond x.has_reference 1 0) (sym (stands.states symbol)))
+    ∙ ap (λ n. outcomes.Keys (tiles_in (r.shape symbol).blocks) (length (r.shape symbol).indexes) (r.shape symbol).elements (cond st.has_reference 1 0) n) shape.pieces))))))
+
 -- ---- each command
 
 served_step : (c : Cutting) (client : Client) (command : Command) (reply : Reply) (more old : History) (faulted : Bool) → Heard client command reply more old faulted → is_served command ≡ true
@@ -291,14 +370,16 @@ served_step c client commands.Symbols reply more old faulted heard served laid =
 served_step c client commands.Snapshots reply more old faulted heard served laid =
     let none : more ≡ [] = adds_none client commands.Snapshots reply more old faulted heard (own_are client commands.Snapshots reply more old faulted heard) in
     subst (λ es. IsStep c client.session commands.Snapshots reply old (es ++ old)) (sym none) (snapshots_step c client reply old faulted (subst (λ es. Heard client commands.Snapshots reply es old faulted) none heard))
-served_step c client (commands.Append a frame at prune) reply more old faulted heard served laid = absurd (true≢false (sym served))
+served_step c client (commands.Append a frame at prune) reply more old faulted heard served laid = append_step c client a frame at prune reply more old faulted heard laid
 served_step c client (commands.Update a frame range upsert at prune) reply more old faulted heard served laid = absurd (true≢false (sym served))
 served_step c client (commands.DeleteRange a range at prune) reply more old faulted heard served laid = absurd (true≢false (sym served))
 served_step c client (commands.Finalize a append sorted at prune) reply more old faulted heard served laid = absurd (true≢false (sym served))
 served_step c client (commands.Discard a) reply more old faulted heard served laid = absurd (true≢false (sym served))
 served_step c client (commands.Stage a frame) reply more old faulted heard served laid = absurd (true≢false (sym served))
 served_step c client (commands.Reclaim a) reply more old faulted heard served laid = absurd (true≢false (sym served))
-served_step c client (commands.Keys a) reply more old faulted heard served laid = absurd (true≢false (sym served))
+served_step c client (commands.Keys a) reply more old faulted heard served laid =
+    let none : more ≡ [] = adds_none client (commands.Keys a) reply more old faulted heard (own_are client (commands.Keys a) reply more old faulted heard) in
+    subst (λ es. IsStep c client.session (commands.Keys a) reply old (es ++ old)) (sym none) (keys_step c client a reply old faulted (subst (λ es. Heard client (commands.Keys a) reply es old faulted) none heard))
 served_step c client (commands.Snapshot name picks) reply more old faulted heard served laid = absurd (true≢false (sym served))
 served_step c client (commands.DeleteSnapshot name) reply more old faulted heard served laid = absurd (true≢false (sym served))
 
@@ -307,4 +388,4 @@ legal_alone_steps old new c client command reply faulted lawful grows legal serv
     let seen : IsLegalSeen new client command reply (record { start = length old; stop = length new; faulted = faulted }) =
     subst (λ h. IsLegalSeen h client command reply (record { start = length old; stop = length new; faulted = faulted })) (history_at_end new) legal.1 in
     subst (λ h. IsStep c client.session command reply old h) (sym grows.is) (served_step c client command reply grows.more old faulted
-    (record { own = grows.own; seen = subst (λ h. IsLegalSeen h client command reply (record { start = length old; stop = length h; faulted = faulted })) grows.is seen; cut = cut }) served laid)
+    (record { lawful = subst (λ h. IsLawful h) grows.is lawful; own = grows.own; seen = subst (λ h. IsLegalSeen h client command reply (record { start = length old; stop = length h; faulted = faulted })) grows.is seen; cut = cut }) served laid)

@@ -18,14 +18,14 @@ use Rattle.expr_clause.specs.declared.command.AsOf.TheVariants as moments
 use Rattle.expr_clause.specs.declared.command.Command.{Command}
 use Rattle.expr_clause.specs.declared.command.Command.TheVariants as commands
 use Rattle.reply_model.specs.declared.reply.Reply.{Reply}
-use Rattle.reply_model.specs.CommitAnswers.{delete_answer, prune_answer}
+use Rattle.reply_model.specs.CommitAnswers.{append_answer, delete_answer, prune_answer}
 use Rattle.reply_model.specs.Answering.{Session, Answer, ◌then◌, answered, with_frame, stamp_of, committed, version_or, or_refuse}
 use Rattle.reply_model.specs.Answers.{answer, symbol_row}
 use Rattle.reply_model.specs.ReadAnswers.{versions_answer, read_version, back, numbered, picked}
 use Rattle.reply_model.specs.Windows.{symbol_of}
 use Rattle.reply_model.specs.Blocks.{Cutting}
 use Rattle.reply_model.specs.Sole.{Alone, events_of, committing, answering, list_place, plain_reply, next_turn, step_alone}
-use Rattle.reply_model.specs.Standing.{StandsAs, StepsTo, is_served}
+use Rattle.reply_model.specs.Standing.{HasShape, StandsAs, StepsTo, is_served}
 use Rattle.reply_model.proofs.Isolated.{whole}
 use Rattle.reply_model.proofs.Quiet.{is_plain}
 use Rattle.reply_model.proofs.AloneWindows.{IsKept}
@@ -59,7 +59,7 @@ answer_told s list other l m p q (commands.Delete a versions) told same = ap (λ
 answer_told s list other l m p q (commands.Prune a) told same = ap (λ (st : State). Some (answered (prune_answer st))) (same.states a)
 answer_told s list other l m p q (commands.Versions a) told same = ap (λ (st : State). Some (answered (versions_answer st))) (same.states a)
 answer_told s list other l m p q (commands.Read a as_of range columns) told same = ap (λ v. Some (answered (v then λ x. whole x range columns))) (read_same l m a as_of same)
-answer_told s list other l m p q (commands.Append a frame at prune) told same = absurd (true≢false (sym told))
+answer_told s list other l m p q (commands.Append a frame at prune) told same = ap (λ (st : State). with_frame s frame (λ f. append_answer st prune (stamp_of s at) f)) (same.states a)
 answer_told s list other l m p q (commands.Update a frame range upsert at prune) told same = absurd (true≢false (sym told))
 answer_told s list other l m p q (commands.DeleteRange a range at prune) told same = absurd (true≢false (sym told))
 answer_told s list other l m p q (commands.Finalize a append sorted at prune) told same = absurd (true≢false (sym told))
@@ -93,8 +93,9 @@ run_tells_kept client old before r stands kept = record {
 
 pub stands_behind : (c : Cutting) (client : ℕ) (symbol : Name) (list : List Change) (old before : History) (was : Option Key) (entry : Key) (r : Alone) → StandsAs old r → IsKept client old before
     → suc (length before) ≡ r.events + events_of c (r.library.state symbol) (r.shape symbol) list
+    → ((other : Name) → HasShape (events.Refer client symbol was entry list ∷ before) other ((committing c symbol list r).shape other))
     → StandsAs (events.Refer client symbol was entry list ∷ before) (record (committing c symbol list r) { turn = suc r.turn })
-stands_behind c client symbol list old before was entry r stands kept counted = record {
+stands_behind c client symbol list old before was entry r stands kept counted shapes = record {
   events = sym counted;
   symbols = ap (insert_name symbol) (stands.symbols ∙ sym kept.symbols);
   states = λ other.
@@ -104,6 +105,7 @@ stands_behind c client symbol list old before was entry r stands kept counted = 
         | false ↦ λ e. stands.states other ∙ sym (kept.states other)
       ] refl;
   snapshots = stands.snapshots ∙ sym kept.snapshots;
+  shapes = shapes;
 }
 
 -- ---- the fold's step
@@ -115,7 +117,7 @@ step_is c s (commands.Delete a versions) r told = refl
 step_is c s (commands.Prune a) r told = refl
 step_is c s (commands.Versions a) r told = refl
 step_is c s (commands.Read a as_of range columns) r told = refl
-step_is c s (commands.Append a frame at prune) r told = absurd (true≢false (sym told))
+step_is c s (commands.Append a frame at prune) r told = refl
 step_is c s (commands.Update a frame range upsert at prune) r told = absurd (true≢false (sym told))
 step_is c s (commands.DeleteRange a range at prune) r told = absurd (true≢false (sym told))
 step_is c s (commands.Finalize a append sorted at prune) r told = absurd (true≢false (sym told))
@@ -159,7 +161,7 @@ told_step c s command r reply old list l q told stands same here unlisted uncomm
     steps_by c s command r reply old [] told (answer_told s r.library list r.library l r.events q command told same ∙ answered)
     (subst (λ (x : Reply × Alone). StepsTo (Some (next_turn x)) reply old) (sym (without (symbol_of command))) (
       reply_is reply r.events (list_place command r.events) [] (here ∙ sym stands.events) (unlisted ∙ sym (no_list command r.events told)) uncommitted unleft,
-      record { events = stands.events; symbols = stands.symbols; states = stands.states; snapshots = stands.snapshots },
+      record { events = stands.events; symbols = stands.symbols; states = stands.states; snapshots = stands.snapshots; shapes = stands.shapes },
     ))
   where
     without : (symbol : Option Name) → answering c command symbol reply.outcome [] r ≡ (plain_reply r.events (list_place command r.events) reply.outcome, r)
@@ -172,12 +174,13 @@ pub commit_step : (c : Cutting) (s : Session) (command : Command) (symbol : Name
     → reply.place ≡ suc (length before) → reply.listed ≡ None → reply.commits ≡ reply.place ∷ [] → reply.left ≡ []
     → answer s list (library_of before) q command ≡ Some (record { outcome = reply.outcome; marks = first ∷ rest })
     → suc (length before) ≡ r.events + events_of c (r.library.state symbol) (r.shape symbol) (first ∷ rest)
+    → ((other : Name) → HasShape (events.Refer s.client symbol was entry (first ∷ rest) ∷ before) other ((committing c symbol (first ∷ rest) r).shape other))
     → StepsTo (step_alone c s command r) reply (events.Refer s.client symbol was entry (first ∷ rest) ∷ before)
-commit_step c s command symbol r reply old before was entry first rest list q told named stands kept here unlisted committed unleft answered counted =
+commit_step c s command symbol r reply old before was entry first rest list q told named stands kept here unlisted committed unleft answered counted shapes =
     let new = events.Refer s.client symbol was entry (first ∷ rest) ∷ before in
     let place : ℕ = r.events + events_of c (r.library.state symbol) (r.shape symbol) (first ∷ rest) in
     steps_by c s command r reply new (first ∷ rest) told (sym (answer_told s list r.library (library_of before) r.library q r.events command told (run_tells_kept s.client old before r stands kept)) ∙ answered)
     (subst (λ (o : Option Name). StepsTo (Some (next_turn (answering c command o reply.outcome (first ∷ rest) r))) reply new) (sym named) (
       reply_is reply place (list_place command r.events) (place ∷ []) (here ∙ counted) (unlisted ∙ sym (no_list command r.events told)) (committed ∙ ap (λ n. n ∷ []) (here ∙ counted)) unleft,
-      stands_behind c s.client symbol (first ∷ rest) old before was entry r stands kept counted,
+      stands_behind c s.client symbol (first ∷ rest) old before was entry r stands kept counted shapes,
     ))

@@ -1,11 +1,11 @@
 -- A window without events of others: its own events are all events, no Refer is met, and puts change nothing that the library tells.
-use Rattle.std.proofs.Common.{◌≡◌, ℕ, suc, ◌-◌, ◌≤◌, ◌<◌, Bool, true, false, List, [], ◌∷◌, ◌++◌, map, length, take, Option, Some, None, refl, sym, ◌∙◌, ap, subst, arith, length-append, cond}
-use Rattle.std.specs.Prelude.{◌&&◌, not, filter, reverse, count_by, MatchBool, nat_eq, nat_le, is_some}
+use Rattle.std.proofs.Common.{◌≡◌, ℕ, suc, ◌-◌, ◌≤◌, ◌<◌, Bool, true, false, List, [], ◌∷◌, ◌++◌, map, length, take, Option, Some, refl, sym, ◌∙◌, ap, subst, arith, length-append, cond}
+use Rattle.std.specs.Prelude.{◌&&◌, not, filter, reverse, count_by, MatchBool, nat_eq, nat_le}
 use Rattle.std.specs.List.{list_any, flat_map, AllByRecursion}
 use Rattle.std.proofs.Math.Seq.{take-append_seam}
 use Rattle.std.proofs.lemmas.Bool.{true≢false, eqb-true, eq-eqb, lt-leb, and_right, or_parts, or_from}
 use Rattle.segment_cut.proofs.Lists.{count_by-cons}
-use Rattle.std.proofs.lemmas.List.{reverse-reverse, reverse-append, length-reverse, length-map}
+use Rattle.std.proofs.lemmas.List.{reverse-reverse, reverse-append}
 use Rattle.key_kind.specs.Names.{Name, same_name}
 use Rattle.key_kind.specs.declared.key.Key.{Key}
 use Rattle.key_kind.specs.declared.key.KeyKind.TheVariants as kinds
@@ -19,12 +19,13 @@ use Rattle.store_model.specs.Library.{state_of}
 use Rattle.store_model.specs.Snapshots.{symbols_of, snapshots_of}
 use Rattle.reply_model.specs.Answering.{Session}
 use Rattle.reply_model.specs.Windows.{Window, own_events, refer_places, refers_by_others}
-use Rattle.reply_model.specs.Tries.{put_of, Before, of_mark, of_version, index_linked, IsAccepted, IsTurn}
+use Rattle.reply_model.specs.Tries.{put_of, IsAccepted, IsTurn}
 use Rattle.reply_model.specs.OwnEvents.{AnyMarks}
 use Rattle.reply_model.specs.Runs.{harms}
 use Rattle.reply_model.proofs.Later.{history_at_later}
-use Rattle.reply_model.proofs.Places.{history_at_end, behind, within_is_behind, none_at, none_of_reversed}
+use Rattle.reply_model.proofs.Places.{history_at_end, behind, within_is_behind, none_at}
 use Rattle.reply_model.proofs.Harmless.{try_harms_nothing}
+use Rattle.reply_model.proofs.TryCounts.{PutsKeys, reversed_none, try_puts}
 use Rattle.reply_model.proofs.Quiet.{touches, untouched, not_first}
 
 -- ---- the events of the window
@@ -149,24 +150,17 @@ puts_tell_nothing client (p ∷ puts) none =
     let parts = or_parts (harms (put_of client p)) (list_any harms (map (put_of client) puts)) none in
     or_from (tells (put_of client p)) (list_any tells (map (put_of client) puts)) parts.0 (puts_tell_nothing client puts parts.1)
 
-reversed_tell_nothing : (es : List Event) → list_any tells es ≡ false → list_any tells (reverse es) ≡ false
-reversed_tell_nothing es none = none_of_reversed tells (reverse es) (ap (list_any tells) (reverse-reverse es) ∙ none)
-
 -- ---- a turn without events of others
 
--- the window's last event is the Refer, and the events before it tell nothing; a commit without a version is an element and its Refer
+-- the window's last event is the Refer, and the events before it are a try's puts, which tell nothing
 pub record Commits (client : ℕ) (symbol : Name) (makes : Bool) (old h : History) : Type 0 where
-  pub before : History
+  pub behind : History
   pub was : Option Key
   pub entry : Key
   pub list : List Change
-  pub is : h ≡ events.Refer client symbol was entry list ∷ before
-  pub kept : IsKept client old before
-  pub marks : makes ≡ false → length before ≡ suc (length old)
-
-no_puts : (symbol : Name) (o : Option Key) (first : List (Key × Bytes)) → Before symbol o first → is_some o ≡ false → length first ≡ 0
-no_puts symbol None first of_mark none = refl
-no_puts symbol (Some key) first (of_version tiles own body index is tile_are spelled order) none = absurd (true≢false none)
+  pub is : h ≡ events.Refer client symbol was entry list ∷ (behind ++ old)
+  pub kept : IsKept client old (behind ++ old)
+  pub puts : PutsKeys symbol makes behind
 
 accepted_commits : (more old : History) (client : ℕ) (symbol : Name) (makes : Bool) → IsAccepted client symbol makes AnyMarks (reverse more) → Commits client symbol makes old (more ++ old)
 accepted_commits more old client symbol makes a =
@@ -174,23 +168,13 @@ accepted_commits more old client symbol makes a =
     let is_refer : more ≡ events.Refer client symbol a.1 a.2 a.3 ∷ behind =
     sym (reverse-reverse more) ∙ (ap (λ es. reverse es) a.6 ∙ reverse-append (map (put_of client) a.0) (events.Refer client symbol a.1 a.2 a.3 ∷ [])) in
     record {
-      before = behind ++ old;
+      behind = behind;
       was = a.1;
       entry = a.2;
       list = a.3;
       is = ap (λ es. es ++ old) is_refer;
-      kept = kept_behind client old behind (reversed_tell_nothing (map (put_of client) a.0) (puts_tell_nothing client a.0 (try_harms_nothing client symbol makes a.0 a.2 a.4)));
-      marks = λ no_version.
-          let none : length a.4.first ≡ 0 = no_puts symbol (index_linked a.4.element.changes) a.4.first a.4.before (a.4.of_kind ∙ no_version) in
-          omega (
-            arith,
-            none,
-            length-append behind old,
-            length-reverse (map (put_of client) a.0),
-            length-map a.0 (put_of client),
-            ap (λ (ps : List (Key × Bytes)). length ps) a.4.is,
-            length-append a.4.first ((a.2, a.4.body) ∷ []),
-          );
+      kept = kept_behind client old behind (reversed_none tells (map (put_of client) a.0) (puts_tell_nothing client a.0 (try_harms_nothing client symbol makes a.0 a.2 a.4)));
+      puts = try_puts client symbol makes a.0 a.2 a.4;
     }
 
 no_tries : (tries : List (List Event)) (n : ℕ) → length tries ≤ n → n ≡ 0 → tries ≡ []

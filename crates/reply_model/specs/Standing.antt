@@ -1,21 +1,23 @@
 -- What is legal in a window without events of others is what a run alone gives.
+--     HasShape             a symbol's shape counts its stored keys
 --     StandsAs             what a run alone tells is what a history tells
 --     StepsTo, IsStep      a run alone gives this reply, and then stands as the history behind it
 --     GrowsAlone           a history goes on by events of one client alone
 --     is_served            the commands of which this is shown
---     tiles_cut, LaysOut   how many tiles a commit puts, which a legal reply leaves open
+--     tiles_cut, PutsTiles, LaysOut      how many tiles a commit puts, which a legal reply leaves open
 --     LegalAloneSteps      each legal reply is such a step
 --     RunsTo, RunsAlone    a run alone gives these replies to a list of commands
 --     RunsGrow, RunsAreSole      runs grow by steps, and from the empty history they are the replies of one client alone
-use Rattle.std.specs.Prelude.{◌≡◌, ℕ, ◌+◌, Bool, true, false, List, [], ◌∷◌, ◌++◌, length, Option, Some, None, Ok, ⊤}
+use Rattle.std.specs.Prelude.{◌≡◌, ℕ, ◌+◌, ◌<◌, if◌then◌else◌, Bool, true, false, List, [], ◌∷◌, ◌++◌, length, Option, Some, None, Ok, ⊤}
 use Rattle.std.specs.List.{AllByRecursion}
 use Rattle.frame_core.specs.Frames.{Frame}
 use Rattle.segment_cut.specs.Cuttings as cuttings
 use Rattle.segment_cut.specs.Grids.{parts, grid_of}
 use Rattle.key_kind.specs.Names.{Name}
+use Rattle.key_kind.specs.declared.key.KeyKind.TheVariants as kinds
 use Rattle.bucket_core.specs.History.{History, author}
 use Rattle.store_model.specs.Law.{IsLawful}
-use Rattle.store_model.specs.Library.{state_of}
+use Rattle.store_model.specs.Library.{state_of, next_number}
 use Rattle.store_model.specs.Snapshots.{library_of}
 use Rattle.expr_clause.specs.declared.command.Command.{Command}
 use Rattle.expr_clause.specs.declared.command.Command.TheVariants as commands
@@ -23,17 +25,30 @@ use Rattle.reply_model.specs.declared.reply.Reply.{Reply}
 use Rattle.reply_model.specs.Answering.{Session, frame_of}
 use Rattle.reply_model.specs.Windows.{Client, is_refused, is_cut}
 use Rattle.reply_model.specs.Legal.{IsLegalReply}
-use Rattle.reply_model.specs.Blocks.{Cutting}
+use Rattle.reply_model.specs.Rows.{keys_of}
+use Rattle.reply_model.specs.Blocks.{Cutting, Block, Shape, tiles_in}
 use Rattle.reply_model.specs.Sole.{Alone, step_alone, alone, sole}
 
 -- ---- where a run stands
 
--- what a run alone tells is what the history tells: how many events there are, the symbols, the state of each, and the snapshots
+-- the shape has as many tiles, indexes, elements and pieces as are stored of the symbol, and its blocks were made for versions that there are;
+-- one reference is stored where the symbol has one
+pub record HasShape (h : History) (symbol : Name) (s : Shape) : Type 0 where
+  pub tiles : keys_of h symbol kinds.TableData ≡ tiles_in s.blocks
+  pub indexes : keys_of h symbol kinds.TableIndex ≡ length s.indexes
+  pub elements : keys_of h symbol kinds.Version ≡ s.elements
+  pub references : keys_of h symbol kinds.VersionRef ≡ (if (state_of h symbol).has_reference then 1 else 0)
+  pub pieces : keys_of h symbol kinds.Staged ≡ length s.pieces
+  pub made : AllByRecursion (λ x. AllByRecursion (λ (b : Block). b.version < next_number (state_of h symbol)) x.1) s.versions
+
+-- what a run alone tells is what the history tells: how many events there are, the symbols, the state of each, the snapshots, and the
+-- shape of each symbol
 pub record StandsAs (h : History) (r : Alone) : Type 0 where
   pub events : r.events ≡ length h
   pub symbols : r.library.symbols ≡ (library_of h).symbols
   pub states : (symbol : Name) → r.library.state symbol ≡ state_of h symbol
   pub snapshots : r.library.snapshots ≡ (library_of h).snapshots
+  pub shapes : (symbol : Name) → HasShape h symbol (r.shape symbol)
 
 -- there is a next reply, it is this one, and behind it the run stands as this history
 abbrev pub StepsTo : Option (Reply × Alone) → Reply → History → Type 0
@@ -55,10 +70,12 @@ pub record GrowsAlone (client : ℕ) (old new : History) : Type 0 where
 -- the commands whose legal replies are shown to be those of a run alone
 abbrev pub is_served : Command → Bool
 is_served (commands.Write symbol frame at prune) = true
+is_served (commands.Append symbol frame at prune) = true
 is_served (commands.Delete symbol versions) = true
 is_served (commands.Prune symbol) = true
 is_served (commands.Read symbol as_of range columns) = true
 is_served (commands.Versions symbol) = true
+is_served (commands.Keys symbol) = true
 is_served commands.Symbols = true
 is_served commands.Snapshots = true
 is_served c = false
@@ -71,11 +88,14 @@ grid_cutting c = record { rows = c.rows; cols = c.columns }
 abbrev pub tiles_cut : Cutting → Frame → ℕ
 tiles_cut c frame = length (parts (grid_of frame (grid_cutting c)))
 
--- a write that is done put the tiles of its whole frame, the index and the element, and its Refer stands at the reply's place; other
--- commands leave nothing open
+-- so many tiles, the index and the element were put where the command is done, and its Refer stands at the reply's place
+abbrev pub PutsTiles : ℕ → Reply → History → Type 0
+PutsTiles tiles reply old = is_refused reply.outcome ≡ false → reply.place ≡ length old + (tiles + 3)
+
+-- a write and an append put the tiles of their whole frame; other commands leave nothing open
 abbrev pub LaysOut : Cutting → Session → Command → Reply → History → Type 0
-LaysOut c s (commands.Write symbol frame at prune) reply old =
-    (whole : Frame) → frame_of s frame ≡ Some (Ok whole) → is_refused reply.outcome ≡ false → reply.place ≡ length old + (tiles_cut c whole + 3)
+LaysOut c s (commands.Write symbol frame at prune) reply old = (whole : Frame) → frame_of s frame ≡ Some (Ok whole) → PutsTiles (tiles_cut c whole) reply old
+LaysOut c s (commands.Append symbol frame at prune) reply old = (whole : Frame) → frame_of s frame ≡ Some (Ok whole) → PutsTiles (tiles_cut c whole) reply old
 LaysOut c s command reply old = ⊤
 
 -- each legal reply for a window without events of others is a step of the run alone, want of memory, failures and a full store aside
