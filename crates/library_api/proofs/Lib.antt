@@ -5,3 +5,4 @@ pub mod GoneLemmas
 pub mod ReadLemmas
 pub mod WriteLemmas
 pub mod KeyLemmas
+pub mod StepLemmas

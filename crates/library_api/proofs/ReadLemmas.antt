@@ -1,6 +1,7 @@
 -- The replies of a read are legal.
 use Rattle.std.proofs.Common.{◌≡◌, ℕ, suc, ◌+◌, ◌-◌, ◌≤◌, Bool, true, false, List, [], ◌∷◌, ◌++◌, length, take, drop, ◌&&◌, nat_eq, refl, ap, sym, ◌∙◌, subst, inl, inr, Option, Some, None, Result, Ok, Err, arith, length-append}
-use Rattle.std.specs.Prelude.{⊤, Contains}
+use Rattle.std.specs.Prelude.{⊤, Contains, IfErr}
+use Rattle.std.specs.Result.{IsErr, IsErrAnd}
 use Rattle.std.proofs.lemmas.List.{take-append-drop, length-drop}
 use mathlib.Core.Logic.{∥∥₁_elim, ∥∥₁_map}
 use Rattle.base_types.specs.Faults.{Rose}
@@ -51,6 +52,11 @@ use Rattle.library_api.proofs.VersionLemmas.{version_later, read_is_version}
 use Rattle.library_api.proofs.AskedLemmas.{refused_by_schema, index_schema, fetched_version}
 use Rattle.library_api.proofs.GoneLemmas.{unnamed_up_to}
 
+-- what holds of the error that comes back holds of the result
+pub err_holds : {A E : Type 0} (P : E → Type 0) (r : Result A E) (x : E) → IsErr r → IsErrAnd r (λ y. y ≡ x) → P x → IfErr r P
+err_holds P (Ok a) x is same p = absurd cc
+err_holds P (Err y) x is same p = subst P (sym same) p
+
 module _ (symbol : Name) (as_of : AsOf) (range : Range) (columns : Option (List Text)) where
   abbrev asks : Command
   asks = commands.Read symbol as_of range columns
@@ -75,6 +81,10 @@ module _ (symbol : Name) (as_of : AsOf) (range : Range) (columns : Option (List 
     -- memory is wanting
     pub no_memory_legal : (place : ℕ) → IsWithin old new place → IsLegalForAll number before now old new asks (plain_reply place (outcomes.Refused refusals.NoMemory))
     no_memory_legal place within = read_legal place (outcomes.Refused refusals.NoMemory) within (λ client faulted own rose. tt)
+
+    -- at the end of the call
+    pub no_memory_at_end : (place : ℕ) → place ≡ length new → IsLegalForAll number before now old new asks (plain_reply place (outcomes.Refused refusals.NoMemory))
+    no_memory_at_end place here = no_memory_legal place (record { from = omega (arith, here, looks_length number sole old new looks); to = omega (arith, here) })
 
     fault_legal : (place : ℕ) → IsWithin old new place → Rose before now → IsLegalForAll number before now old new asks (plain_reply place (outcomes.Refused refusals.StoreFault))
     fault_legal place within rose = read_legal place (outcomes.Refused refusals.StoreFault) within (λ client faulted own f. f rose)

@@ -6,6 +6,7 @@ use Rattle.frame_core.specs.declared.refusal.Extent.{Extent}
 use Rattle.frame_core.specs.declared.refusal.Refusal.{Refusal}
 use Rattle.frame_core.specs.declared.refusal.Refusal.TheVariants as refusals
 use Rattle.frame_core.specs.declared.refusal.Refused.{Refused}
+use Rattle.frame_core.specs.Refusals.{Answers}
 use Rattle.frame_core.specs.Frames.{Frame}
 use Rattle.frame_core.specs.Limits.{refuse_large}
 use Rattle.frame_core.specs.RawFrames.{Table, frame_of_table, table_frame, table_too_large, bad_column, bad_row, unless}
@@ -78,6 +79,31 @@ module _ (limit number tries : ℕ) (symbol : Name) (table : Table) (at : ℤ) (
         (λ column e. untried (refusals.SchemaDiffers column) (λ s n asked faulted brings. inl (refused_answer (refusals.SchemaDiffers column) e s n asked brings (next s asked), refl)))
         (λ row e. untried (refusals.Unsorted row) (λ s n asked faulted brings. inl (refused_answer (refusals.Unsorted row) e s n asked brings (next s asked), refl)))
         refuses
+
+    -- what the making of the frame answers
+    pub write_unmade_legal : (why : Refusal) → Answers (Err why) (frame_of_table table) → IsLegalWriteOf limit number tries symbol table at prune before now old old (plain_reply place (outcomes.Refused why))
+    write_unmade_legal refusals.NoMemory e = write_wants_memory
+    write_unmade_legal refusals.StoreFault e = write_refused_legal refusals.StoreFault e
+    write_unmade_legal refusals.NoSuchSymbol e = write_refused_legal refusals.NoSuchSymbol e
+    write_unmade_legal (refusals.NoSuchVersion asked) e = write_refused_legal (refusals.NoSuchVersion asked) e
+    write_unmade_legal (refusals.VersionGone version) e = write_refused_legal (refusals.VersionGone version) e
+    write_unmade_legal (refusals.Moved at) e = write_refused_legal (refusals.Moved at) e
+    write_unmade_legal (refusals.Unsorted row) e = write_refused_legal (refusals.Unsorted row) e
+    write_unmade_legal (refusals.SchemaDiffers column) e = write_refused_legal (refusals.SchemaDiffers column) e
+    write_unmade_legal (refusals.AppendBefore last first) e = write_refused_legal (refusals.AppendBefore last first) e
+    write_unmade_legal (refusals.OutsideRange row) e = write_refused_legal (refusals.OutsideRange row) e
+    write_unmade_legal refusals.EmptyUpdate e = write_refused_legal refusals.EmptyUpdate e
+    write_unmade_legal (refusals.NoSuchColumn clause position) e = write_refused_legal (refusals.NoSuchColumn clause position) e
+    write_unmade_legal (refusals.TypeMismatch clause) e = write_refused_legal (refusals.TypeMismatch clause) e
+    write_unmade_legal (refusals.Overflow clause row) e = write_refused_legal (refusals.Overflow clause row) e
+    write_unmade_legal (refusals.GroupOverflow clause group) e = write_refused_legal (refusals.GroupOverflow clause group) e
+    write_unmade_legal (refusals.NotTimeIndexed clause) e = write_refused_legal (refusals.NotTimeIndexed clause) e
+    write_unmade_legal refusals.SnapshotExists e = write_refused_legal refusals.SnapshotExists e
+    write_unmade_legal refusals.NoSuchSnapshot e = write_refused_legal refusals.NoSuchSnapshot e
+    write_unmade_legal refusals.NoStaged e = write_refused_legal refusals.NoStaged e
+    write_unmade_legal (refusals.StagedOverlap piece) e = write_refused_legal (refusals.StagedOverlap piece) e
+    write_unmade_legal (refusals.Spent count) e = write_refused_legal (refusals.Spent count) e
+    write_unmade_legal (refusals.TooLarge what most) e = write_refused_legal (refusals.TooLarge what most) e
 
   -- ---- tried
 

@@ -4,9 +4,11 @@
 mod commit_place;
 mod keys;
 mod library;
+mod reading;
 mod reply;
 mod settings;
 mod step;
+mod writing;
 
 pub use base_types::{Items, NoMemory};
 pub use library::Library;
