@@ -1,7 +1,6 @@
 -- The replies of a write of raw columns are legal.
-use Rattle.std.proofs.Common.{◌≡◌, ℕ, ◌≤◌, ℤ, Bool, true, false, List, [], refl, ap, sym, ◌∙◌, subst, inl, Option, Some, None, Result, Ok, Err, length, arith}
+use Rattle.std.proofs.Common.{◌≡◌, ℕ, ℤ, Bool, true, [], refl, ap, ◌∙◌, subst, inl, Option, Some, None, Result, Ok, Err, length, arith}
 use Rattle.std.specs.Prelude.{option_map, slice_get}
-use Rattle.base_types.specs.Faults.{Rose}
 use Rattle.frame_core.specs.declared.refusal.Extent.{Extent}
 use Rattle.frame_core.specs.declared.refusal.Refusal.{Refusal}
 use Rattle.frame_core.specs.declared.refusal.Refusal.TheVariants as refusals
@@ -18,13 +17,12 @@ use Rattle.version_chain.proofs.Walked.{looks_none}
 use Rattle.expr_clause.specs.declared.command.Command.TheVariants as commands
 use Rattle.reply_model.specs.declared.outcome.Outcome.TheVariants as outcomes
 use Rattle.reply_model.specs.Answering.{Session, Answer, ◌then◌, answered, committed, stamp_of}
-use Rattle.reply_model.specs.Windows.{Client, Window}
 use Rattle.reply_model.specs.Legal.{IsLegalOutcome}
 use Rattle.frame_write.specs.declared.options.Committed.{Committed}
 use Rattle.frame_write.specs.Writes.{reply_to, IsLegalWrite}
 use Rattle.library_api.specs.Steps.{plain_reply}
 use Rattle.library_api.specs.Frames.{BringsTable, IsLegalWriteOf}
-use Rattle.library_api.proofs.NoEvents.{HasNone, served_has_none, legal_without_events}
+use Rattle.library_api.proofs.NoEvents.{served_has_none, legal_without_events}
 
 -- ---- what a frame is refused for
 

@@ -1,8 +1,7 @@
 -- What the steps that bring a frame answer.
 --     BringsTable         a session that brings raw columns as one of its frames, with its client, tries and stamp
 --     IsLegalWriteOf      the reply of a write of raw columns is legal for each such session
-use Rattle.std.specs.Prelude.{◌≡◌, ℕ, ℤ, Bool, true, length, slice_get, Option, Some}
-use Rattle.base_types.specs.Faults.{Rose}
+use Rattle.std.specs.Prelude.{◌≡◌, ℕ, ℤ, Bool, slice_get, Option, Some}
 use Rattle.frame_core.specs.RawFrames.{Table}
 use Rattle.key_kind.specs.Names.{Name}
 use Rattle.bucket_core.specs.History.{History}

@@ -8,6 +8,8 @@ mod reading;
 mod reply;
 mod settings;
 mod step;
+#[cfg(test)]
+mod tests;
 mod writing;
 
 pub use base_types::{Items, NoMemory};

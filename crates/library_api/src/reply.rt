@@ -25,9 +25,5 @@ pub(crate) fn plain(alloc: Global, place: u64, outcome: Outcome) -> Reply
 pub(crate) fn refusal(alloc: Global, refused: Refused) -> Reply
     ensures { result ≡ refusal_reply refused }
 {
-    plain(
-        alloc,
-        refused.place,
-        Outcome::Refused { why: refused.why },
-    )
+    plain(alloc, refused.place, Outcome::Refused { why: refused.why })
 }

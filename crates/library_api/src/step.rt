@@ -44,7 +44,14 @@ pub(crate) fn perform<R: Wait, B: Bucket<StoreLaw>>(
             prune,
         } => {
             let options = settings.options(*at, *prune);
-            write(rt, alloc, bucket, symbol, &frames[*frame as usize], &options)
+            write(
+                rt,
+                alloc,
+                bucket,
+                symbol,
+                &frames[*frame as usize],
+                &options,
+            )
         }
         Command::Read {
             symbol,

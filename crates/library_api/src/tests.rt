@@ -21,7 +21,8 @@ fn five_rows(alloc: Global) -> Result<RawFrame, Fail> {
     raw.names.push(ColName::make(alloc, "price")?)?;
     raw.columns.push(Column::Ints(Items::from_slice(alloc, &[100, 101, 102, 99, 105])?))?;
     raw.names.push(ColName::make(alloc, "size")?)?;
-    raw.columns.push(Column::Ints(Items::from_slice(alloc, &[5, 7, 1, 3, 2])?))?;
+    raw.columns
+        .push(Column::Ints(Items::from_slice(alloc, &[5, 7, 1, 3, 2])?))?;
     Ok(raw)
 }
 
@@ -114,9 +115,25 @@ fn a_read_takes_the_version_that_is_asked(rt: HostRuntime) -> Result<(), Fail> {
     assert!(rt; version(&read(&rt, alloc, &mut library, AsOf::Back(2))?) == Some((8, 0, 5)));
     assert!(rt; version(&read(&rt, alloc, &mut library, AsOf::Moment(55))?) == Some((8, 0, 5)));
     let none = read(&rt, alloc, &mut library, AsOf::Number(7))?;
-    assert!(rt; refused(&none) == Some((8, Refusal::NoSuchVersion { asked: Asked::Number(7) })));
+    assert!(rt;
+        refused(&none)
+            == Some((
+                8,
+                Refusal::NoSuchVersion {
+                    asked: Asked::Number(7)
+                }
+            ))
+    );
     let early = read(&rt, alloc, &mut library, AsOf::Moment(49))?;
-    assert!(rt; refused(&early) == Some((8, Refusal::NoSuchVersion { asked: Asked::Moment(49) })));
+    assert!(rt;
+        refused(&early)
+            == Some((
+                8,
+                Refusal::NoSuchVersion {
+                    asked: Asked::Moment(49)
+                }
+            ))
+    );
     Ok(())
 }
 
@@ -127,7 +144,15 @@ fn the_moment_of_the_session_is_the_stamp_where_none_is_given(rt: HostRuntime) -
     write(&rt, alloc, &mut library, None)?;
     assert!(rt; version(&read(&rt, alloc, &mut library, AsOf::Moment(70))?) == Some((4, 0, 5)));
     let early = read(&rt, alloc, &mut library, AsOf::Moment(69))?;
-    assert!(rt; refused(&early) == Some((4, Refusal::NoSuchVersion { asked: Asked::Moment(69) })));
+    assert!(rt;
+        refused(&early)
+            == Some((
+                4,
+                Refusal::NoSuchVersion {
+                    asked: Asked::Moment(69)
+                }
+            ))
+    );
     Ok(())
 }
 
