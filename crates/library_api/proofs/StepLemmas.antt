@@ -1,0 +1,37 @@
+-- The reply of an arm is the reply of the step.
+use Rattle.std.proofs.Common.{◌≡◌, ℕ, ◌<◌, ℤ, Bool, List, refl, ap, sym, ◌∙◌, subst, Option, Some, map, length, slice_index_or}
+use Rattle.std.specs.Prelude.{slice_get, unwrap_or, option_map}
+use Rattle.std.proofs.lemmas.Option.{slice_get-get_or, slice_get-map}
+use Rattle.frame_core.specs.declared.raw.RawFrame.{RawFrame}
+use Rattle.frame_core.specs.RawFrames.{table_of}
+use Rattle.key_kind.specs.Names.{Name}
+use Rattle.bucket_core.specs.History.{History}
+use Rattle.expr_clause.specs.declared.command.Command.{Command}
+use Rattle.expr_clause.specs.declared.command.Command.TheVariants as commands
+use Rattle.reply_model.specs.declared.reply.Reply.{Reply}
+use Rattle.frame_write.specs.declared.options.Options.{Options}
+use Rattle.library_api.specs.declared.settings.Settings.{Settings}
+use Rattle.library_api.specs.Steps.{IsNamed, client_of, IsLegalIn, IsLegalForAll}
+use Rattle.library_api.specs.Frames.{IsLegalWriteOf}
+
+-- how a frame is written by a command of these settings
+abbrev pub options_of : Settings → Option ℤ → Bool → Options
+options_of settings at prune = record { cutting = settings.cutting; tries = settings.tries; at = unwrap_or at settings.moment; prune = prune }
+
+module _ (frames : List RawFrame) (settings : Settings) (number limit before now : ℕ) (old new : History) (command : Command) (reply : Reply) where
+  -- a reply that is legal for all clients of the number is legal for the library's
+  pub any_command : (c : Command) → command ≡ c → IsLegalForAll number before now old new c reply → IsLegalIn (client_of frames settings number limit) before now old new command reply
+  any_command c is legal = subst (λ c. IsLegalIn (client_of frames settings number limit) before now old new c reply) (sym is) (legal (client_of frames settings number limit) refl)
+
+  -- the frame of the number that the command names
+  frame_there : (n : ℕ) (raw : RawFrame) → n < length frames → raw ≡ slice_index_or frames n raw → slice_get (map table_of frames) n ≡ Some (table_of raw)
+  frame_there n raw below is = slice_get-map table_of frames n ∙ ap (option_map table_of) (slice_get-get_or frames n raw below ∙ ap Some (sym is))
+
+  pub write_command : (symbol : Name) (n : ℕ) (at : Option ℤ) (prune : Bool) (options : Options) (raw : RawFrame) → command ≡ commands.Write symbol n at prune → options ≡ options_of settings at prune
+      → IsNamed (length frames) command → raw ≡ slice_index_or frames n raw
+      → IsLegalWriteOf limit number options.tries symbol (table_of raw) options.at options.prune before now old new reply → IsLegalIn (client_of frames settings number limit) before now old new command reply
+  write_command symbol n at prune options raw is chosen named got legal =
+      let here : IsLegalWriteOf limit number settings.tries symbol (table_of raw) (unwrap_or at settings.moment) prune before now old new reply =
+      subst (λ o. IsLegalWriteOf limit number o.tries symbol (table_of raw) o.at o.prune before now old new reply) chosen legal in
+      subst (λ c. IsLegalIn (client_of frames settings number limit) before now old new c reply) (sym is)
+      (here (client_of frames settings number limit).session n at (record { client_is = refl; tries_are = refl; table_is = frame_there n raw (subst (IsNamed (length frames)) is named) got; stamp_is = refl }))

@@ -1,0 +1,39 @@
+use Rattle.std.proofs.Common.{ℕ, option_copied, sym, ap, ◌∙◌, subst}
+use Rattle.bucket_core.specs.History.{History}
+use Rattle.version_chain.proofs.Walked.{looks_none}
+use Rattle.expr_clause.specs.declared.command.Command.TheVariants as commands
+use Rattle.library_api.specs.Steps.{client_of, IsLegalIn}
+use Rattle.library_api.proofs.NoEvents.{looks_go_on, wants_memory}
+use Rattle.frame_read.proofs.LoopLemmas.{steady_none}
+use Rattle.library_api.proofs.StepLemmas.{any_command, write_command}
+use Rattle.library_api.proofs.step.perform.Goals as goal
+
+pub returns-in-Write-clause-legal : goal.returns-in-Write-clause-legal
+returns-in-Write-clause-legal g c =
+    write_command c.args.frames.now c.args.settings (g.B.Bucket.number c.args.bucket.now) (g.B.Bucket.limit c.args.bucket.now) (g.B.Bucket.faults c.args.bucket.now) (g.B.Bucket.faults c.write.new.bucket)
+    (g.B.Bucket.seen c.args.bucket.now) (g.B.Bucket.seen c.write.new.bucket) c.args.command.now c.write.result
+    c.in-Write.symbol c.in-Write.frame c.in-Write.at c.in-Write.prune c.options-options.result c.index-frames-frame.result c.in-Write.is c.options-options.ensures c.requires.named c.index-frames-frame.is c.write.ensures.legal
+
+pub returns-in-Read-clause-legal : goal.returns-in-Read-clause-legal
+returns-in-Read-clause-legal g c =
+    any_command c.args.frames.now c.args.settings (g.B.Bucket.number c.args.bucket.now) (g.B.Bucket.limit c.args.bucket.now) (g.B.Bucket.faults c.args.bucket.now) (g.B.Bucket.faults c.read.new.bucket)
+    (g.B.Bucket.seen c.args.bucket.now) (g.B.Bucket.seen c.read.new.bucket) c.args.command.now c.read.result
+    (commands.Read c.in-Read.symbol c.in-Read.as_of c.in-Read.range (option_copied c.lent.result)) (c.in-Read.is ∙ ap (commands.Read c.in-Read.symbol c.in-Read.as_of c.in-Read.range) (sym c.lent.ensures)) c.read.ensures.legal
+
+pub returns-in-Keys-clause-legal : goal.returns-in-Keys-clause-legal
+returns-in-Keys-clause-legal g c =
+    any_command c.args.frames.now c.args.settings (g.B.Bucket.number c.args.bucket.now) (g.B.Bucket.limit c.args.bucket.now) (g.B.Bucket.faults c.args.bucket.now) (g.B.Bucket.faults c.keys.new.bucket)
+    (g.B.Bucket.seen c.args.bucket.now) (g.B.Bucket.seen c.keys.new.bucket) c.args.command.now c.keys.result
+    (commands.Keys c.in-Keys.symbol) c.in-Keys.is c.keys.ensures.legal
+
+pub returns-in_default : goal.returns-in_default
+returns-in_default g c =
+    let old : History = g.B.Bucket.seen c.args.bucket.now in
+    let faults : ℕ = g.B.Bucket.faults c.args.bucket.now in
+    let client = client_of c.args.frames.now c.args.settings (g.B.Bucket.number c.args.bucket.now) (g.B.Bucket.limit c.args.bucket.now) in
+    record {
+      steady = steady_none g.B.Bucket.number g.B.Bucket.limit g.B.Bucket.faults g.B.Bucket.sole c.args.bucket.now;
+      grown = looks_go_on _ _ _ _ (looks_none (g.B.Bucket.number c.args.bucket.now) (g.B.Bucket.sole c.args.bucket.now) old);
+      legal = subst (IsLegalIn client faults faults old old c.args.command.now) (sym c.plain.ensures)
+          (wants_memory client c.args.command.now c.requires.served faults faults old c.place.result c.place.ensures);
+    }

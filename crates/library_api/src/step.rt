@@ -1,0 +1,81 @@
+//! One command, by its kind.
+
+ghost use Rattle.std.specs.Prelude.{◌≡◌, true, length, option_copied};
+ghost use Rattle.bucket_core.specs.Calls.{IsSteady};
+ghost use Rattle.frame_write.specs.Writes.{GoesOn};
+ghost use Rattle.library_api.specs.Libraries.{AreSettings};
+ghost use Rattle.library_api.specs.Steps.{is_carried_out, IsNamed, client_of, IsLegalIn};
+
+use crate::keys::keys;
+use crate::reading::read;
+use crate::reply::plain;
+use crate::settings::Settings;
+use crate::writing::write;
+use base_types::Items;
+use bucket_core::Bucket;
+use expr_clause::Command;
+use frame_core::{ColName, RawFrame, Refusal};
+use reply_model::{Outcome, Reply};
+use std::alloc::Global;
+use std::sync::Wait;
+use version_chain::StoreLaw;
+
+/// Carries out one command over a bucket. It may wait for the store.
+pub(crate) fn perform<R: Wait, B: Bucket<StoreLaw>>(
+    rt: &R,
+    alloc: Global,
+    bucket: &mut B,
+    settings: Settings,
+    command: &Command,
+    frames: &[RawFrame],
+) -> Reply
+    requires settings { AreSettings settings }
+    requires served { is_carried_out command.now ≡ true }
+    requires named { IsNamed (length frames.now) command.now }
+    ensures steady { IsSteady B.number B.limit B.faults B.sole bucket.old bucket.new }
+    ensures grown { GoesOn (B.number bucket.old) (B.sole bucket.old) (B.seen bucket.old) (B.seen bucket.new) }
+    ensures legal { IsLegalIn (client_of frames.now settings (B.number bucket.old) (B.limit bucket.old)) (B.faults bucket.old) (B.faults bucket.new) (B.seen bucket.old) (B.seen bucket.new) command.now result }
+{
+    match command {
+        Command::Write {
+            symbol,
+            frame,
+            at,
+            prune,
+        } => {
+            let options = settings.options(*at, *prune);
+            write(
+                rt,
+                alloc,
+                bucket,
+                symbol,
+                &frames[*frame as usize],
+                &options,
+            )
+        }
+        Command::Read {
+            symbol,
+            as_of,
+            range,
+            columns,
+        } => read(rt, alloc, bucket, symbol, as_of, *range, lent(columns)),
+        Command::Keys { symbol } => keys(rt, alloc, bucket, symbol),
+        _ => plain(
+            alloc,
+            bucket.place(),
+            Outcome::Refused {
+                why: Refusal::NoMemory,
+            },
+        ),
+    }
+}
+
+/// The names, lent.
+fn lent(names: &Option<Items<ColName>>) -> Option<&[ColName]>
+    ensures { option_copied result ≡ names.now }
+{
+    match names {
+        Some(names) => Some(names.items()),
+        None => None,
+    }
+}
