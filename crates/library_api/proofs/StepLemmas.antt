@@ -35,3 +35,17 @@ module _ (frames : List RawFrame) (settings : Settings) (number limit before now
       subst (λ o. IsLegalWriteOf limit number o.tries symbol (table_of raw) o.at o.prune before now old new reply) chosen legal in
       subst (λ c. IsLegalIn (client_of frames settings number limit) before now old new c reply) (sym is)
       (here (client_of frames settings number limit).session n at (record { client_is = refl; tries_are = refl; table_is = frame_there n raw (subst (IsNamed (length frames)) is named) got; stamp_is = refl }))
+
+-- ---- one client alone
+
+-- a legal step without events of others is one of a run alone
+pub step_alone : LegalAloneSteps → (client : Client) (settings : Settings) (before now : ℕ) (sole : Bool) (old new : History) (command : Command) (reply : Reply)
+    → GoesOn client.session.client sole old new → IsLegalIn client before now old new command reply
+    → (sole ≡ true → LaysOut (run_cutting settings.cutting) client.session command reply old) → IsStepAlone settings client sole old new command reply
+step_alone theorem client settings before now sole old new command reply grown legal lays lawful one served whole =
+    theorem old new (run_cutting settings.cutting) client command reply true (grown.lawful lawful)
+    (record { more = grown.more; is = grown.is; own = grown.alone one }) (legal true (λ rose. refl)) served whole (lays one)
+
+-- what is said of the one command is said of the other
+pub lays_as : (settings : Settings) (s : Session) (old : History) (command c : Command) (reply : Reply) → command ≡ c → LaysOut (run_cutting settings.cutting) s c reply old → LaysOut (run_cutting settings.cutting) s command reply old
+lays_as settings s old command c reply is lays = subst (λ c. LaysOut (run_cutting settings.cutting) s c reply old) (sym is) lays

@@ -7,7 +7,7 @@ ghost use Rattle.frame_write.specs.Writes.{GoesOn};
 ghost use Rattle.library_api.specs.Frames.{IsLegalWriteOf};
 
 use crate::commit_place::CommitPlace;
-use crate::reply::refusal;
+use crate::reply::{refusal, with_commits};
 use base_types::NoMemory;
 use bucket_core::Bucket;
 use frame_core::{Frame, RawFrame, Refusal, Refused};
@@ -49,9 +49,10 @@ pub(crate) fn write<R: Wait, B: Bucket<StoreLaw>>(
         );
     };
     match write_link(rt, alloc, bucket, symbol, &frame, options) {
-        Ok(done) => commit.reply(
+        Ok(done) => with_commits(
             alloc,
             done.place,
+            commit.named(done.place),
             Outcome::Committed {
                 version: done.version,
             },

@@ -1,7 +1,9 @@
-use Rattle.std.proofs.Common.{ℕ, Ok, Err, subst, sym}
+use Rattle.std.proofs.Common.{ℕ, Ok, Err, subst, sym, ap, ◌∙◌}
 use Rattle.frame_core.specs.RawFrames.{table_of}
 use Rattle.bucket_core.specs.History.{History}
 use Rattle.version_chain.proofs.Walked.{looks_none}
+use Rattle.reply_model.specs.declared.outcome.Outcome.TheVariants as outcomes
+use Rattle.library_api.specs.Steps.{reply_with}
 use Rattle.library_api.specs.Frames.{IsLegalWriteOf}
 use Rattle.library_api.proofs.NoEvents.{looks_go_on}
 use Rattle.library_api.proofs.WriteLemmas.{write_unmade_legal, write_wants_memory, write_tried_legal}
@@ -42,7 +44,7 @@ returns-in-Ok-write_link-clause-legal g c =
     let old : History = g.B.Bucket.seen c.args.bucket.now in
     let new : History = g.B.Bucket.seen c.write_link.new.bucket in
     let options = c.args.options.now in
-    subst (IsLegalWriteOf limit number options.tries c.args.symbol.now (table_of c.args.raw.now) options.at options.prune before now old new) (sym c.reply.ensures)
+    subst (IsLegalWriteOf limit number options.tries c.args.symbol.now (table_of c.args.raw.now) options.at options.prune before now old new) (sym (c.with_commits.ensures ∙ ap (λ commits. reply_with c.in-Ok-write_link.done.place commits (outcomes.Committed c.in-Ok-write_link.done.version)) c.named.ensures))
     (write_tried_legal limit number options.tries c.args.symbol.now (table_of c.args.raw.now) options.at options.prune before now old new c.in-Ok.frame (Ok c.in-Ok-write_link.done) c.in-Ok.ensures.frame c.in-Ok-write_link.ensures.legal)
 
 pub returns-clause-legal : goal.returns-clause-legal
