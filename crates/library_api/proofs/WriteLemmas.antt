@@ -1,5 +1,5 @@
 -- The replies of a write of raw columns are legal.
-use Rattle.std.proofs.Common.{◌≡◌, ℕ, ℤ, Bool, true, [], refl, ap, ◌∙◌, subst, inl, Option, Some, None, Result, Ok, Err, length, arith}
+use Rattle.std.proofs.Common.{◌≡◌, ℕ, ◌+◌, ℤ, Bool, true, false, List, [], refl, sym, ap, ◌∙◌, subst, inl, Option, Some, None, Result, Ok, Err, length, arith}
 use Rattle.std.specs.Prelude.{option_map, slice_get}
 use Rattle.frame_core.specs.declared.refusal.Extent.{Extent}
 use Rattle.frame_core.specs.declared.refusal.Refusal.{Refusal}
@@ -19,9 +19,12 @@ use Rattle.reply_model.specs.declared.outcome.Outcome.TheVariants as outcomes
 use Rattle.reply_model.specs.Answering.{Session, Answer, ◌then◌, answered, committed, stamp_of}
 use Rattle.reply_model.specs.Legal.{IsLegalOutcome}
 use Rattle.frame_write.specs.declared.options.Committed.{Committed}
-use Rattle.frame_write.specs.Writes.{reply_to, IsLegalWrite}
-use Rattle.library_api.specs.Steps.{plain_reply}
-use Rattle.library_api.specs.Frames.{BringsTable, IsLegalWriteOf}
+use Rattle.frame_write.specs.Writes.{StandsAlone, reply_to, IsLegalWrite}
+use Rattle.library_api.specs.Steps.{plain_reply, reply_with}
+use Rattle.segment_cut.specs.Cuttings.{Cutting}
+use Rattle.segment_cut.specs.Grids.{parts, grid_of}
+use Rattle.std.proofs.lemmas.Bool.{true≢false}
+use Rattle.library_api.specs.Frames.{BringsTable, IsLegalWriteOf, StandsBehindPuts}
 use Rattle.library_api.proofs.NoEvents.{served_has_none, legal_without_events}
 
 -- ---- what a frame is refused for
@@ -108,9 +111,23 @@ module _ (limit number tries : ℕ) (symbol : Name) (table : Table) (at : ℤ) (
   pub write_tried_legal : (old new : History) (frame : Frame) (result : Result Committed Refused) → frame_of_table table ≡ Ok frame
       → IsLegalWrite limit number tries symbol frame at prune before now old new result → IsLegalWriteOf limit number tries symbol table at prune before now old new (reply_to result)
   write_tried_legal old new frame result is legal s n asked brings faulted rose =
-      legal s n asked faulted (record {
+      legal s n asked (record {
         client_is = brings.client_is;
         tries_are = brings.tries_are;
         frame_is = ap (option_map frame_of_table) brings.table_is ∙ ap Some is;
         stamp_is = brings.stamp_is;
-      }) rose
+      }) faulted rose
+
+-- ---- the place, where nobody else makes events
+
+same_frame : (a b : Frame) → ◌≡◌ {A = Result Frame Refusal} (Ok a) (Ok b) → a ≡ b
+same_frame a b e = cc
+
+pub refused_stands : (table : Table) (cutting : Cutting) (old : History) (place : ℕ) (why : Refusal) → StandsBehindPuts table cutting old (plain_reply place (outcomes.Refused why))
+refused_stands table cutting old place why whole is done = absurd (true≢false done)
+
+pub done_stands : (table : Table) (cutting : Cutting) (old : History) (frame : Frame) (done : Committed) (commits : List ℕ) → frame_of_table table ≡ Ok frame
+    → StandsAlone (length (parts (grid_of frame cutting))) old done → StandsBehindPuts table cutting old (reply_with done.place commits (outcomes.Committed done.version))
+done_stands table cutting old frame done commits made stands whole is went =
+    let tiles : length (parts (grid_of frame cutting)) ≡ length (parts (grid_of whole cutting)) = ap (λ f. length (parts (grid_of f cutting))) (same_frame frame whole (sym made ∙ is)) in
+    omega (arith, stands, tiles)

@@ -1,13 +1,13 @@
 //! A write: a frame of the session as a new version.
 
-ghost use Rattle.std.specs.Prelude.{◌≡◌, ◌≤◌};
+ghost use Rattle.std.specs.Prelude.{◌≡◌, ◌≤◌, true};
 ghost use Rattle.frame_core.specs.RawFrames.{table_of};
 ghost use Rattle.bucket_core.specs.Calls.{IsSteady};
 ghost use Rattle.frame_write.specs.Writes.{GoesOn};
-ghost use Rattle.library_api.specs.Frames.{IsLegalWriteOf};
+ghost use Rattle.library_api.specs.Frames.{IsLegalWriteOf, StandsBehindPuts};
 
 use crate::commit_place::CommitPlace;
-use crate::reply::refusal;
+use crate::reply::{refusal, with_commits};
 use base_types::NoMemory;
 use bucket_core::Bucket;
 use frame_core::{Frame, RawFrame, Refusal, Refused};
@@ -33,6 +33,8 @@ pub(crate) fn write<R: Wait, B: Bucket<StoreLaw>>(
     ensures steady { IsSteady B.number B.limit B.faults B.sole bucket.old bucket.new }
     ensures grown { GoesOn (B.number bucket.old) (B.sole bucket.old) (B.seen bucket.old) (B.seen bucket.new) }
     ensures legal { IsLegalWriteOf (B.limit bucket.old) (B.number bucket.old) options.now.tries symbol.now (table_of raw.now) options.now.at options.now.prune (B.faults bucket.old) (B.faults bucket.new) (B.seen bucket.old) (B.seen bucket.new) result }
+    // A client that is alone knows the place.
+    ensures lays { B.sole bucket.old ≡ true → StandsBehindPuts (table_of raw.now) options.now.cutting (B.seen bucket.old) result }
 {
     let place = bucket.place();
     let frame = match Frame::make(alloc, raw) {
@@ -49,9 +51,10 @@ pub(crate) fn write<R: Wait, B: Bucket<StoreLaw>>(
         );
     };
     match write_link(rt, alloc, bucket, symbol, &frame, options) {
-        Ok(done) => commit.reply(
+        Ok(done) => with_commits(
             alloc,
             done.place,
+            commit.named(done.place),
             Outcome::Committed {
                 version: done.version,
             },

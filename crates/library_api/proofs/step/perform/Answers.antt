@@ -1,11 +1,14 @@
-use Rattle.std.proofs.Common.{ℕ, option_copied, sym, ap, ◌∙◌, subst}
+use Rattle.std.proofs.Common.{ℕ, option_copied, refl, sym, ap, ◌∙◌, subst}
 use Rattle.bucket_core.specs.History.{History}
 use Rattle.version_chain.proofs.Walked.{looks_none}
 use Rattle.expr_clause.specs.declared.command.Command.TheVariants as commands
-use Rattle.library_api.specs.Steps.{client_of, IsLegalIn}
+use Rattle.reply_model.specs.declared.reply.Reply.{Reply}
+use Rattle.reply_model.specs.Windows.{is_refused}
+use Rattle.reply_model.specs.Standing.{LaysOut}
+use Rattle.library_api.specs.Steps.{client_of, IsLegalIn, run_cutting}
 use Rattle.library_api.proofs.NoEvents.{looks_go_on, wants_memory}
 use Rattle.frame_read.proofs.LoopLemmas.{steady_none}
-use Rattle.library_api.proofs.StepLemmas.{any_command, write_command}
+use Rattle.library_api.proofs.StepLemmas.{any_command, write_command, lays_as, refused_lays, write_lays}
 use Rattle.library_api.proofs.step.perform.Goals as goal
 
 pub returns-in-Write-clause-legal : goal.returns-in-Write-clause-legal
@@ -36,4 +39,20 @@ returns-in_default g c =
       grown = looks_go_on _ _ _ _ (looks_none (g.B.Bucket.number c.args.bucket.now) (g.B.Bucket.sole c.args.bucket.now) old);
       legal = subst (IsLegalIn client faults faults old old c.args.command.now) (sym c.plain.ensures)
           (wants_memory client c.args.command.now c.requires.served faults faults old c.place.result c.place.ensures);
+      lays = λ one. refused_lays c.args.settings client.session old c.args.command.now c.plain.result (ap (λ (r : Reply). is_refused r.outcome) c.plain.ensures);
     }
+
+pub returns-in-Write-clause-lays : goal.returns-in-Write-clause-lays
+returns-in-Write-clause-lays g c one =
+    write_lays c.args.frames.now c.args.settings (g.B.Bucket.number c.args.bucket.now) (g.B.Bucket.limit c.args.bucket.now) (g.B.Bucket.seen c.args.bucket.now) c.args.command.now c.write.result
+    c.in-Write.symbol c.in-Write.frame c.in-Write.at c.in-Write.prune c.options-options.result c.index-frames-frame.result c.in-Write.is c.options-options.ensures c.requires.named c.index-frames-frame.is (c.write.ensures.lays one)
+
+pub returns-in-Read-clause-lays : goal.returns-in-Read-clause-lays
+returns-in-Read-clause-lays g c one =
+    lays_as c.args.settings (client_of c.args.frames.now c.args.settings (g.B.Bucket.number c.args.bucket.now) (g.B.Bucket.limit c.args.bucket.now)).session (g.B.Bucket.seen c.args.bucket.now) c.args.command.now
+    (commands.Read c.in-Read.symbol c.in-Read.as_of c.in-Read.range c.in-Read.columns) c.read.result c.in-Read.is tt
+
+pub returns-in-Keys-clause-lays : goal.returns-in-Keys-clause-lays
+returns-in-Keys-clause-lays g c one =
+    lays_as c.args.settings (client_of c.args.frames.now c.args.settings (g.B.Bucket.number c.args.bucket.now) (g.B.Bucket.limit c.args.bucket.now)).session (g.B.Bucket.seen c.args.bucket.now) c.args.command.now
+    (commands.Keys c.in-Keys.symbol) c.keys.result c.in-Keys.is tt
