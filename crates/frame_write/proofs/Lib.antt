@@ -20,3 +20,5 @@ pub mod LegalLemmas
 pub mod ReplyLemmas
 pub mod LegalReplies
 pub mod LegalWrites
+pub mod CoverTiles
+pub mod BaseLinks
