@@ -22,3 +22,4 @@ pub mod LegalReplies
 pub mod LegalWrites
 pub mod CoverTiles
 pub mod BaseLinks
+pub mod Runs
