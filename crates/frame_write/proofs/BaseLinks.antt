@@ -67,7 +67,7 @@ zipped_version (k ∷ ls) (v ∷ vs) l z c = elim (contains_cases l k ls c) [
 ]
 
 -- the newest live version is among those that are not buried
-first_in : (xs : List Version) (v : Version) → first_of xs ≡ Some v → Contains xs v
+pub first_in : (xs : List Version) (v : Version) → first_of xs ≡ Some v → Contains xs v
 first_in [] v e = absurd cc
 first_in (x ∷ xs) v e = let same : x ≡ v = cc in subst (λ y. Contains (x ∷ xs) y) same (contains_first x xs)
 

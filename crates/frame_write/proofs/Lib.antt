@@ -23,3 +23,4 @@ pub mod LegalWrites
 pub mod CoverTiles
 pub mod BaseLinks
 pub mod Runs
+pub mod SharedSlots
