@@ -15,7 +15,7 @@ use Rattle.frame_core.specs.Limits.{IsStorable}
 use Rattle.segment_cut.specs.Cuttings.{Cutting}
 use Rattle.segment_cut.specs.Grids.{parts, grid_of}
 use Rattle.index_tree.specs.declared.index.Slot.{Slot}
-use Rattle.index_tree.specs.IndexRules.{LeadOn}
+use Rattle.index_tree.specs.IndexRules.{IsSlot, LeadOn}
 use Rattle.key_kind.specs.declared.key.KeyKind.TheVariants as kinds
 use Rattle.key_kind.specs.Names.{Name}
 use Rattle.bucket_core.specs.History.{History}
@@ -59,9 +59,9 @@ pub record HasBase (h : History) (symbol : Name) (schema : Schema) (rows : List 
   pub number : link.row.version ≡ version.number
   pub slots_are : link.index.slots ≡ slots
 
--- a run of the base's slots; or rows of the schema that may be written
+-- a run of the base's slots, each of which keeps the rules of an index; or rows of the schema that may be written
 abbrev pub IsPiece : Schema → List Slot → Piece → Type 0
-IsPiece schema slots (pieces.Shared run) = AllByRecursion (λ s. Contains slots s) run × IsRun (length schema.columns) run
+IsPiece schema slots (pieces.Shared run) = AllByRecursion (λ s. Contains slots s × IsSlot (length schema.columns) s) run × IsRun (length schema.columns) run
 IsPiece schema slots (pieces.Fresh frame) = IsStorable frame × (frame.schema ≡ schema)
 
 -- the rows of a piece, of which the shared ones are among the base's
