@@ -27,13 +27,14 @@ use Rattle.version_chain.specs.States.{IsLookRefusal, RefusesWalk}
 use Rattle.reply_model.specs.Tries.{put_of, drop_of, one_if, IsTry}
 use Rattle.frame_write.specs.declared.options.Committed.{Committed}
 use Rattle.frame_write.specs.declared.plan.Plan.{Plan}
-use Rattle.frame_write.specs.Traces.{Went, own_refers}
-use Rattle.frame_write.specs.Stops.{is_fault, StopsAt, HasCause, refused_by}
+use Rattle.version_chain.specs.Traces.{Went}
+use Rattle.version_chain.specs.Marking.{own_refers}
+use Rattle.version_chain.specs.Stops.{is_fault, StopsAt, HasCause, refused_by}
 use Rattle.frame_write.specs.PutCalls.{StoppedCalls, PutAll}
-use Rattle.frame_write.specs.Links.{IsUnmoved}
+use Rattle.frame_write.specs.Plans.{IsUnmoved}
 use Rattle.frame_write.specs.Plans.{IsPlanned, IsMadeBy, puts_seen}
 use Rattle.frame_write.specs.Tries.{IsMet, no_event, some_puts, some_drops, DidCommit, DidMeet, DidStop, DidFail}
-use Rattle.frame_write.proofs.TraceLemmas.{append_assoc, own_of-others, own_of-adds, went_looks, went_before, went_then, went_as, went_longer, split_at}
+use Rattle.version_chain.proofs.TraceLemmas.{append_assoc, own_of-others, own_of-adds, went_looks, went_before, went_then, went_as, went_longer, split_at}
 use Rattle.frame_write.proofs.MeetLemmas.{others_refer_not, own_refer_not, none_in_both, met_later, met_here}
 
 append_none : {X : Type 0} (xs : List X) → xs ++ [] ≡ xs

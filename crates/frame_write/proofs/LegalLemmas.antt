@@ -11,7 +11,7 @@ use Rattle.bucket_core.specs.declared.event.Event.TheVariants as events
 use Rattle.bucket_core.specs.History.{History, author, events_within}
 use Rattle.reply_model.specs.Windows.{own_events, refer_places, refers_by_others}
 use Rattle.reply_model.proofs.Places.{within_is_behind, none_of_reversed, none_of_filtered}
-use Rattle.frame_write.specs.Traces.{own_of, met_in}
+use Rattle.version_chain.specs.Traces.{own_of, met_in}
 
 -- a Refer
 abbrev pub is_refer : Event → Bool

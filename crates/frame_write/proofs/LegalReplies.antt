@@ -27,8 +27,8 @@ use Rattle.reply_model.specs.Legal.{IsLegalRefusal, IsLegalSeen}
 use Rattle.reply_model.proofs.Places.{history_at_end}
 use Rattle.reply_model.proofs.Later.{history_at_later}
 use Rattle.reply_model.proofs.Covering.{event_at_end}
-use Rattle.frame_write.specs.Traces.{own_of, met_in}
-use Rattle.frame_write.specs.Stops.{is_fault, StopsAt}
+use Rattle.version_chain.specs.Traces.{own_of, met_in}
+use Rattle.version_chain.specs.Stops.{is_fault, StopsAt}
 use Rattle.frame_write.specs.Tries.{Made, IsMet}
 use Rattle.frame_write.specs.Writes.{reply_to}
 use Rattle.frame_write.proofs.LegalLemmas.{own_in_window, met_in_window, one_place}

@@ -37,12 +37,12 @@ use Rattle.reply_model.proofs.Harmless.{try_harms_nothing}
 use Rattle.reply_model.proofs.Places.{history_at_end}
 use Rattle.frame_write.specs.declared.options.Committed.{Committed}
 use Rattle.frame_write.specs.declared.options.Options.{Options}
-use Rattle.frame_write.specs.Traces.{met_in, Went}
-use Rattle.frame_write.specs.Stops.{StopsAt}
+use Rattle.version_chain.specs.Traces.{met_in, Went}
+use Rattle.version_chain.specs.Stops.{StopsAt}
 use Rattle.frame_write.specs.Tries.{Made, DidCommit, DidTries, DidRefuse, DidRefused, DidStop, IsBusy, IsMet, IsPart, no_event, some_puts, some_drops}
 use Rattle.frame_write.specs.Writes.{reply_to, IsLegalCall, IsLegalWrite, IsWritten, Never, Always}
 use Rattle.frame_write.proofs.ListLemmas.{map_append}
-use Rattle.frame_write.proofs.TraceLemmas.{went_then, went_as, went_longer, same_front, append_assoc, met_in-append}
+use Rattle.version_chain.proofs.TraceLemmas.{went_then, went_as, went_longer, same_front, append_assoc, met_in-append}
 use Rattle.frame_write.proofs.MeetLemmas.{met_once}
 use Rattle.frame_write.proofs.LegalLemmas.{is_refer, no_places, no_own_refer, met_in_window, one_place}
 use Rattle.frame_write.proofs.TurnLemmas.{cut_turn, done_turn, append_none}

@@ -1,5 +1,3 @@
-pub mod TraceLemmas
-pub mod CallLemmas
 pub mod ListLemmas
 pub mod RowStamps
 pub mod CutLimits
@@ -20,7 +18,3 @@ pub mod LegalLemmas
 pub mod ReplyLemmas
 pub mod LegalReplies
 pub mod LegalWrites
-pub mod CoverTiles
-pub mod BaseLinks
-pub mod Runs
-pub mod SharedSlots

@@ -18,13 +18,14 @@ use Rattle.store_model.proofs.Stability.{is_false, puts_other}
 use Rattle.store_model.proofs.Told.{own_puts_stay, own_puts_grow}
 use Rattle.store_model.proofs.OwnPuts.{own_at_drop}
 use Rattle.reply_model.specs.Tries.{put_of, drop_of}
-use Rattle.frame_write.specs.Traces.{Went}
-use Rattle.frame_write.specs.Stops.{StopsAt}
-use Rattle.frame_write.specs.PutCalls.{StoppedCall, StoppedCalls}
+use Rattle.version_chain.specs.Traces.{Went}
+use Rattle.version_chain.specs.Stops.{StopsAt}
+use Rattle.version_chain.specs.StoreCalls.{StoppedCall}
+use Rattle.frame_write.specs.PutCalls.{StoppedCalls}
 use Rattle.frame_write.specs.Plans.{IsPutAt, ArePutsFrom}
 use Rattle.frame_write.specs.Loops.{PutSoFar, DroppedSoFar}
 use Rattle.frame_write.proofs.ListLemmas.{drop_at, take_at, all_last, map_append}
-use Rattle.frame_write.proofs.TraceLemmas.{went_none, went_then, went_adds, went_as, went_longer}
+use Rattle.version_chain.proofs.TraceLemmas.{went_none, went_then, went_adds, went_as, went_longer}
 
 -- others' events leave the number of the client's puts
 puts_beside : (client : ℕ) (h more : History) → AllByOthers client more → puts_by client (more ++ h) ≡ puts_by client h

@@ -14,9 +14,10 @@ use Rattle.bucket_core.specs.Laws.{refers}
 use Rattle.reply_model.specs.Tries.{put_of}
 use Rattle.reply_model.proofs.Covering.{event_at_later, event_at_end}
 use Rattle.reply_model.proofs.Places.{none_of_reversed, none_of_filtered}
-use Rattle.frame_write.specs.Traces.{own_of, met_in, own_refers}
+use Rattle.version_chain.specs.Traces.{own_of, met_in}
+use Rattle.version_chain.specs.Marking.{own_refers}
 use Rattle.frame_write.specs.Tries.{IsMet}
-use Rattle.frame_write.proofs.TraceLemmas.{split_more, others_first}
+use Rattle.version_chain.proofs.TraceLemmas.{split_more, others_first}
 
 pub others_refer_not : (client : ℕ) (symbol : Name) (more : History) → AllByOthers client more → list_any (own_refers client symbol) more ≡ false
 others_refer_not client symbol [] others = refl

@@ -14,10 +14,11 @@ use Rattle.bucket_core.specs.Laws.{refers}
 use Rattle.segment_cut.proofs.Lists.{count_by-cons}
 use Rattle.reply_model.specs.Tries.{put_of}
 use Rattle.frame_write.specs.declared.options.Committed.{Committed}
-use Rattle.frame_write.specs.Traces.{own_of, met_in, Went}
+use Rattle.version_chain.specs.Traces.{own_of, met_in, Went}
 use Rattle.frame_write.specs.Tries.{Made, DidCommit, DidTry, DidTries, DidRefused}
-use Rattle.frame_write.specs.Writes.{GoesOn, StandsAlone}
-use Rattle.frame_write.proofs.TraceLemmas.{own_of-append, own_of-one, went_then}
+use Rattle.version_chain.specs.Traces.{GoesOn}
+use Rattle.frame_write.specs.Writes.{StandsAlone}
+use Rattle.version_chain.proofs.TraceLemmas.{own_of-append, own_of-one, went_then}
 
 -- ---- how the history went on
 

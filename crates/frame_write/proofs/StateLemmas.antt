@@ -23,7 +23,7 @@ use Rattle.store_model.proofs.Numbering.{versions_numbered, live_may_be_buried}
 use Rattle.version_chain.specs.declared.state.SymbolState.{SymbolState}
 use Rattle.version_chain.specs.States.{IsStateOf, is_tomb}
 use Rattle.reply_model.specs.Answering.{live_numbers, pruned}
-use Rattle.frame_write.specs.Links.{IsUnmoved}
+use Rattle.frame_write.specs.Plans.{IsUnmoved}
 use Rattle.frame_write.specs.Placing.{IsElementKey, live_of, next_of, number_behind}
 
 -- ---- the reference

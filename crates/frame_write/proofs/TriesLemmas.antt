@@ -10,15 +10,15 @@ use Rattle.bucket_core.specs.History.{History}
 use Rattle.bucket_core.specs.Calls.{IsSteady}
 use Rattle.reply_model.specs.Tries.{IsRefused}
 use Rattle.frame_write.specs.declared.options.Committed.{Committed}
-use Rattle.frame_write.specs.Traces.{met_in, Went}
-use Rattle.frame_write.specs.Stops.{HasCause, StopsAt}
+use Rattle.version_chain.specs.Traces.{met_in, Went}
+use Rattle.version_chain.specs.Stops.{HasCause, StopsAt}
 use Rattle.frame_write.specs.Writes.{Always}
 use Rattle.frame_write.specs.Tries.{Made, DidCommit, DidMeet, DidFail, DidTry, DidRefused, IsBusy, IsMet, IsPart, no_event, some_puts, some_drops}
 use Rattle.frame_write.proofs.ListLemmas.{all_last}
-use Rattle.frame_write.proofs.TraceLemmas.{append_assoc, went_none, went_then, went_as, went_longer, same_front, met_in-append}
+use Rattle.version_chain.proofs.TraceLemmas.{append_assoc, went_none, went_then, went_as, went_longer, same_front, met_in-append}
 use Rattle.frame_write.proofs.MeetLemmas.{met_sooner, met_once}
 use Rattle.frame_write.proofs.CommitLemmas.{later_stop}
-use Rattle.frame_write.proofs.SteadyLemmas.{cause_sooner, rose_sooner}
+use Rattle.version_chain.proofs.SteadyLemmas.{cause_sooner, rose_sooner}
 
 pub flat_last : (ts : List (List Event)) (t : List Event) → flat_map (λ t. t) (ts ++ t ∷ []) ≡ flat_map (λ t. t) ts ++ t
 flat_last [] t = append_nil t

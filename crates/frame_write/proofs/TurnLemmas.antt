@@ -15,7 +15,7 @@ use Rattle.reply_model.specs.Tries.{put_of, drop_of, IsTry, IsRefused, IsTurn}
 use Rattle.reply_model.specs.OwnEvents.{AnyMarks, IsBeginning}
 use Rattle.frame_write.specs.Tries.{IsMet, IsPart, no_event, some_puts, some_drops}
 use Rattle.frame_write.proofs.ListLemmas.{all_last, map_append}
-use Rattle.frame_write.proofs.TraceLemmas.{append_assoc}
+use Rattle.version_chain.proofs.TraceLemmas.{append_assoc}
 use Rattle.frame_write.proofs.TriesLemmas.{flat_last}
 
 pub append_none : {X : Type 0} (xs : List X) → xs ++ [] ≡ xs

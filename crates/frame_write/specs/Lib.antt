@@ -1,11 +1,7 @@
-pub mod Traces
-pub mod Stops
 pub mod PutCalls
 pub mod Placing
 pub mod Plans
 pub mod Loops
 pub mod Tries
 pub mod Writes
-pub mod Pieces
-pub mod Links
 pub mod WritePlans

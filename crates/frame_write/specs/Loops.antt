@@ -5,7 +5,7 @@ use Rattle.key_kind.specs.declared.key.Key.{Key}
 use Rattle.bucket_core.specs.History.{History, Bytes, puts_by}
 use Rattle.store_model.specs.OwnPuts.{AreOwnPuts}
 use Rattle.reply_model.specs.Tries.{put_of, drop_of}
-use Rattle.frame_write.specs.Traces.{Went}
+use Rattle.version_chain.specs.Traces.{Went}
 use Rattle.frame_write.specs.Plans.{ArePutsFrom}
 
 -- so many are put, and the others may be put next

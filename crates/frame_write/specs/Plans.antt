@@ -1,6 +1,7 @@
 -- What a try is to put, before it puts anything.
 --     IsPutAt, ArePutsFrom      puts that a client may make from a serial on
 --     puts_seen           the keys and bodies of prepared puts
+--     IsUnmoved           a state that was left as it was, but for more staged pieces
 --     IsPlan              the puts of a try over a symbol's state, whose Refer may follow once they stand
 --     IsPlanned           such a plan, over the state at an earlier place of the history
 --     IsMadeBy            what the commit of a plan made
@@ -14,16 +15,15 @@ use Rattle.key_kind.specs.Keys.{IsKey, FitsFields}
 use Rattle.key_kind.specs.KeyText.{key_text}
 use Rattle.bucket_core.specs.History.{History, Bytes, reference, puts_by}
 use Rattle.bucket_core.specs.Laws.{refers}
-use Rattle.store_model.specs.Library.{State, state_of, next_number}
+use Rattle.store_model.specs.Library.{State, Piece, state_of, next_number}
 use Rattle.store_model.specs.Law.{IsLawful, SpellsKind}
 use Rattle.store_model.specs.Commits.{MayRefer}
 use Rattle.store_model.specs.OwnPuts.{AreOwnPuts, IsTableKind}
 use Rattle.reply_model.specs.Tries.{IsTry}
 use Rattle.frame_write.specs.declared.puts.Prepared.{Prepared}
 use Rattle.frame_write.specs.declared.plan.Plan.{Plan}
-use Rattle.frame_write.specs.Traces.{own_refers}
+use Rattle.version_chain.specs.Marking.{own_refers}
 use Rattle.frame_write.specs.Tries.{Made, PutsIndex}
-use Rattle.frame_write.specs.Links.{IsUnmoved}
 
 -- a key with this client and serial, within its rules, and a body of its kind
 pub record IsPutAt (client serial : ℕ) (p : Key × Bytes) : Type 0 where
@@ -46,6 +46,11 @@ put_seen p = (p.key, arc_value p.body)
 -- prepared puts, as keys and bodies
 abbrev pub puts_seen : List Prepared → List (Key × Bytes)
 puts_seen = map put_seen
+
+-- the state as it was, but for more staged pieces
+pub record IsUnmoved (st now : State) : Type 0 where
+  pub more : List Piece
+  pub is : now ≡ record st { staged = more ++ st.staged }
 
 -- a plan over the symbol's state in a history: once its puts stand, its Refer may follow, whatever came between, unless it was a Refer of the symbol
 pub record IsPlan (client serial : ℕ) (before : History) (symbol : Name) (index : Index) (plan : Plan) : Type 0 where

@@ -1,26 +1,15 @@
--- What the calls of a try did.
---     StoppedCall, StoppedCalls      a refused call, and several calls of which one was refused
---     DidCall             what one put or drop did
+-- What several calls of a try did.
+--     StoppedCalls        several calls of which one was refused
 --     DidPuts, DidDrops   what several puts and several drops did
-use Rattle.std.specs.Prelude.{◌≡◌, ◌⊎◌, ℕ, Bool, List, [], ◌∷◌, map, take, Result, Ok, Err}
+use Rattle.std.specs.Prelude.{ℕ, Bool, List, map, take, Result, Ok, Err}
 use Rattle.frame_core.specs.declared.refusal.Refused.{Refused}
 use Rattle.key_kind.specs.declared.key.Key.{Key}
 use Rattle.bucket_core.specs.declared.event.Event.{Event}
 use Rattle.bucket_core.specs.History.{History, Bytes}
-use Rattle.bucket_core.specs.Laws.{Adds}
-use Rattle.store_model.specs.Law.{IsClaimed}
 use Rattle.store_model.specs.OwnPuts.{AreOwnPuts}
 use Rattle.reply_model.specs.Tries.{put_of, drop_of}
-use Rattle.frame_write.specs.Traces.{Went}
-use Rattle.frame_write.specs.Stops.{StopsAt, HasCause}
-
--- a refused call, and its own events: none, or this one
-pub record StoppedCall (client : ℕ) (sole : Bool) (limit before now : ℕ) (old new : History) (e : Event) (refused : Refused) : Type 0 where
-  pub own : List Event
-  pub is : (own ≡ []) ⊎ (own ≡ e ∷ [])
-  pub went : Went client sole old new own
-  pub stops : StopsAt client old new refused
-  pub cause : HasCause limit before now new refused refused.why
+use Rattle.version_chain.specs.Traces.{Went}
+use Rattle.version_chain.specs.Stops.{StopsAt, HasCause}
 
 -- several calls, with these events, of which one was refused: the first ones stand
 pub record StoppedCalls (client : ℕ) (sole : Bool) (limit before now : ℕ) (old new : History) (es : List Event) (refused : Refused) : Type 0 where
@@ -28,11 +17,6 @@ pub record StoppedCalls (client : ℕ) (sole : Bool) (limit before now : ℕ) (o
   pub went : Went client sole old new (take count es)
   pub stops : StopsAt client old new refused
   pub cause : HasCause limit before now new refused refused.why
-
--- one call
-abbrev pub DidCall : ℕ → Bool → ℕ → ℕ → ℕ → History → History → Event → Result Unit Refused → Type 0
-DidCall client sole limit before now old new e (Ok done) = Adds IsClaimed client sole old new e
-DidCall client sole limit before now old new e (Err refused) = StoppedCall client sole limit before now old new e refused
 
 -- several puts, all of which stand afterwards
 pub record PutAll (client : ℕ) (sole : Bool) (old new : History) (puts : List (Key × Bytes)) : Type 0 where

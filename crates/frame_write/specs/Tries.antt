@@ -29,8 +29,8 @@ use Rattle.store_model.specs.Law.{IsLawful}
 use Rattle.version_chain.specs.States.{IsWithin}
 use Rattle.reply_model.specs.Tries.{put_of, drop_of, IsTry, IsRefused}
 use Rattle.frame_write.specs.declared.options.Committed.{Committed}
-use Rattle.frame_write.specs.Traces.{Went, met_in}
-use Rattle.frame_write.specs.Stops.{StopsAt, HasCause}
+use Rattle.version_chain.specs.Traces.{Went, met_in}
+use Rattle.version_chain.specs.Stops.{StopsAt, HasCause}
 
 -- what a commit made: the history just before its Refer, the changes of the Refer, what was put, and the index among it
 pub record Made : Type 0 where

@@ -1,12 +1,10 @@
 -- What a command that makes a new version answers, as a reply of its client.
---     GoesOn              how a call leaves the bucket's seen history
 --     Brings              a session that brings the frame of a write, with its client, tries and stamp
 --     reply_to            the result as a reply
 --     IsLegalWrite        the reply to a write is legal for each such session
 --     IsWritten, Never, Always      what a write asks of its commit; no library refuses it, and it has a change to make always
 --     StandsAlone         the place of a commit where nobody else makes events
-use Rattle.std.specs.Prelude.{◌≡◌, ℕ, ◌+◌, ℤ, Bool, true, [], ◌∷◌, ◌++◌, length, Option, Some, None, Result, Ok, Err, ⊤}
-use Rattle.std.specs.List.{AllByRecursion}
+use Rattle.std.specs.Prelude.{◌≡◌, ℕ, ◌+◌, ℤ, Bool, true, [], ◌∷◌, length, Option, Some, None, Result, Ok, Err, ⊤}
 use Rattle.base_types.specs.Faults.{Rose}
 use Rattle.frame_core.specs.Frames.{Frame}
 use Rattle.frame_core.specs.declared.refusal.Refusal.{Refusal}
@@ -14,9 +12,8 @@ use Rattle.frame_core.specs.declared.refusal.Refused.{Refused}
 use Rattle.segment_cut.specs.Grids.{parts, grid_of}
 use Rattle.key_kind.specs.Names.{Name}
 use Rattle.bucket_core.specs.declared.event.Change.TheVariants as changes
-use Rattle.bucket_core.specs.History.{History, author}
+use Rattle.bucket_core.specs.History.{History}
 use Rattle.store_model.specs.Library.{state_of}
-use Rattle.store_model.specs.Law.{IsLawful}
 use Rattle.expr_clause.specs.declared.command.Command.{Command}
 use Rattle.expr_clause.specs.declared.command.Command.TheVariants as commands
 use Rattle.reply_model.specs.declared.outcome.Outcome.TheVariants as outcomes
@@ -26,13 +23,6 @@ use Rattle.reply_model.specs.Legal.{IsLegalReply}
 use Rattle.frame_write.specs.declared.options.Committed.{Committed}
 use Rattle.frame_write.specs.declared.options.Options.{Options}
 use Rattle.frame_write.specs.Tries.{Made}
-
--- the history goes on lawfully, and without events of others where there are none
-pub record GoesOn (client : ℕ) (sole : Bool) (old new : History) : Type 0 where
-  pub more : History
-  pub is : new ≡ more ++ old
-  pub alone : sole ≡ true → AllByRecursion (λ e. author e ≡ client) more
-  pub lawful : IsLawful old → IsLawful new
 
 -- a session of this client, with so many tries, whose frame n is this one; a command of it that asks for this stamp has that one
 pub record Brings (s : Session) (client tries n : ℕ) (frame : Frame) (asked : Option ℤ) (at : ℤ) : Type 0 where

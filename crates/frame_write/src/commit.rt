@@ -9,7 +9,7 @@ use crate::drops::drop_all;
 use crate::options::Committed;
 use crate::plan::Plan;
 use crate::puts::put_all;
-use crate::refusal::refused_by;
+use version_chain::refused_by;
 use bucket_core::{Bucket, StoreErr};
 use frame_core::{Refusal, Refused};
 use key_kind::Symbol;

@@ -2,11 +2,12 @@ ghost use Rattle.std.specs.Prelude.{ℕ};
 ghost use Rattle.bucket_core.specs.Calls.{IsSteady};
 ghost use Rattle.reply_model.specs.Tries.{drop_of};
 ghost use Rattle.store_model.specs.OwnPuts.{IsOwnPut, AreOwnPuts};
-ghost use Rattle.frame_write.specs.PutCalls.{DidCall, DidDrops};
+ghost use Rattle.version_chain.specs.StoreCalls.{DidCall};
+ghost use Rattle.frame_write.specs.PutCalls.{DidDrops};
 ghost use Rattle.frame_write.specs.Plans.{ArePutsFrom, put_seen, puts_seen};
 
 use crate::puts::Prepared;
-use crate::refusal::refused_by;
+use version_chain::refused_by;
 use bucket_core::Bucket;
 use frame_core::Refused;
 use std::sync::Wait;

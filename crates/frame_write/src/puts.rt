@@ -4,9 +4,10 @@ ghost use Rattle.bucket_core.specs.History.{puts_by};
 ghost use Rattle.bucket_core.specs.Calls.{IsSteady};
 ghost use Rattle.reply_model.specs.Tries.{put_of};
 ghost use Rattle.frame_write.specs.Plans.{IsPutAt, ArePutsFrom, put_seen, puts_seen};
-ghost use Rattle.frame_write.specs.PutCalls.{DidCall, DidPuts};
+ghost use Rattle.version_chain.specs.StoreCalls.{DidCall};
+ghost use Rattle.frame_write.specs.PutCalls.{DidPuts};
 
-use crate::refusal::refused_by;
+use version_chain::refused_by;
 use base_types::{Keep, NoMemory};
 use bucket_core::{Body, Bucket};
 use frame_core::{Refusal, Refused};

@@ -4,7 +4,8 @@ ghost use Rattle.segment_cut.specs.Grids.{parts, grid_of};
 ghost use Rattle.bucket_core.specs.Calls.{IsSteady};
 ghost use Rattle.frame_write.specs.Placing.{AreTilesOf};
 ghost use Rattle.frame_write.specs.Tries.{DidTries};
-ghost use Rattle.frame_write.specs.Writes.{GoesOn, IsLegalWrite, IsWritten, Never, Always, StandsAlone};
+ghost use Rattle.version_chain.specs.Traces.{GoesOn};
+ghost use Rattle.frame_write.specs.Writes.{IsLegalWrite, IsWritten, Never, Always, StandsAlone};
 
 use crate::attempt::attempt;
 use crate::options::{Committed, Options};

@@ -22,7 +22,7 @@ use Rattle.reply_model.specs.OwnEvents.{IsOwn, IsBeginning, IsMeantAt, AreMeant,
 use Rattle.reply_model.specs.Left.{left_of, known_events, stood_before, MayBeLeft}
 use Rattle.reply_model.specs.Legal.{IsListed, IsListedWithin, IsLegalOutcome, IsLegalSeen, IsLegalReply}
 use Rattle.reply_model.proofs.Places.{history_at_end, within_is_behind}
-use Rattle.frame_write.specs.Writes.{GoesOn}
+use Rattle.version_chain.specs.Traces.{GoesOn}
 use Rattle.frame_write.proofs.LegalLemmas.{no_places, is_refer}
 use Rattle.library_api.specs.Steps.{is_carried_out, plain_reply, IsLegalIn}
 

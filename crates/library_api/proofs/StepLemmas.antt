@@ -15,7 +15,7 @@ use Rattle.reply_model.specs.declared.reply.Reply.{Reply}
 use Rattle.reply_model.specs.Answering.{Session}
 use Rattle.reply_model.specs.Windows.{Client, is_refused}
 use Rattle.reply_model.specs.Standing.{LaysOut, LegalAloneSteps}
-use Rattle.frame_write.specs.Writes.{GoesOn}
+use Rattle.version_chain.specs.Traces.{GoesOn}
 use Rattle.frame_write.specs.declared.options.Options.{Options}
 use Rattle.library_api.specs.declared.settings.Settings.{Settings}
 use Rattle.library_api.specs.Steps.{IsNamed, client_of, IsLegalIn, IsLegalForAll, run_cutting, IsStepAlone}

@@ -1,6 +1,6 @@
 ghost use Rattle.std.specs.Prelude.{◌≡◌, ◌≤◌, ℕ, Bool, true, length};
 ghost use Rattle.bucket_core.specs.Calls.{IsSteady};
-ghost use Rattle.frame_write.specs.Writes.{GoesOn};
+ghost use Rattle.version_chain.specs.Traces.{GoesOn};
 ghost use Rattle.library_api.specs.Libraries.{AreSettings};
 ghost use Rattle.library_api.specs.Steps.{is_carried_out, IsNamed, client_of, IsLegalIn, IsStepAlone};
 

@@ -3,7 +3,7 @@
 ghost use Rattle.std.specs.Prelude.{◌≡◌, ◌≤◌, true};
 ghost use Rattle.frame_core.specs.RawFrames.{table_of};
 ghost use Rattle.bucket_core.specs.Calls.{IsSteady};
-ghost use Rattle.frame_write.specs.Writes.{GoesOn};
+ghost use Rattle.version_chain.specs.Traces.{GoesOn};
 ghost use Rattle.library_api.specs.Frames.{IsLegalWriteOf, StandsBehindPuts};
 
 use crate::commit_place::CommitPlace;

@@ -23,7 +23,7 @@ pub use elements::{entry_bytes, entry_read};
 pub use fault::EntryFault;
 pub use law::StoreLaw;
 pub use laws::{elements_have_one_spelling, snapshots_have_one_spelling};
-pub use marking::mark_on;
+pub use marking::{mark_on, refused_by};
 pub use snapshots::{snap_bytes, snap_read};
 pub use state::SymbolState;
 pub use walking::walk;

@@ -242,8 +242,8 @@ fn changes_of(alloc: Global, change: &Change) -> Result<Arc<Changes>, NoMemory>
 }
 
 /// The refusal of a try whose call of the store was refused; `place` is the bucket's place before the call. Spent has a place of its
-/// own.
-fn refused_by(place: u64, err: StoreErr) -> Refused
+/// own. A put and a drop have no refusals but these.
+pub fn refused_by(place: u64, err: StoreErr) -> Refused
     ensures { result ≡ refused_by place err }
 {
     match err {

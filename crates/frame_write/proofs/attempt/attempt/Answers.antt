@@ -5,8 +5,8 @@ use Rattle.store_model.specs.Library.{state_of}
 use Rattle.frame_write.specs.Plans.{IsPlan, IsPlanned, IsMadeBy}
 use Rattle.frame_write.specs.Tries.{Made, DidTry}
 use Rattle.frame_write.specs.Writes.{IsWritten}
-use Rattle.frame_write.proofs.SteadyLemmas.{on_err}
-use Rattle.frame_write.proofs.TraceLemmas.{went_looks}
+use Rattle.version_chain.proofs.SteadyLemmas.{on_err}
+use Rattle.version_chain.proofs.TraceLemmas.{went_looks}
 use Rattle.frame_write.proofs.MeetLemmas.{later_not_own}
 use Rattle.frame_write.proofs.CommitLemmas.{walk_stops, plan_stops}
 use Rattle.frame_write.proofs.TriesLemmas.{try_steady, try_weaker, try_from}

@@ -8,12 +8,13 @@ use Rattle.store_model.specs.Law.{IsClaimed}
 use Rattle.store_model.specs.Library.{state_of}
 use Rattle.store_model.specs.OwnPuts.{AreOwnPuts}
 use Rattle.reply_model.specs.Tries.{put_of, drop_of}
-use Rattle.frame_write.specs.Traces.{Went}
-use Rattle.frame_write.specs.Stops.{refused_by}
+use Rattle.version_chain.specs.Traces.{Went}
+use Rattle.version_chain.specs.Stops.{refused_by}
 use Rattle.frame_write.specs.PutCalls.{PutAll, StoppedCalls}
 use Rattle.frame_write.specs.Plans.{IsMadeBy, ArePutsFrom, puts_seen}
 use Rattle.frame_write.specs.Tries.{DidTry, DidFail}
-use Rattle.frame_write.proofs.SteadyLemmas.{on_err, steady_then, change_steady, stops_steady, went_steady}
+use Rattle.version_chain.proofs.SteadyLemmas.{on_err, steady_then, change_steady, went_steady}
+use Rattle.frame_write.proofs.SteadyLemmas.{stops_steady}
 use Rattle.frame_write.proofs.CommitLemmas.{puts_stop, refer_may, commit_stands, refer_fails, still_own, try_met, drops_stop}
 use Rattle.frame_write.proofs.commit.commit.Goals as goal
 

@@ -4,12 +4,12 @@ use Rattle.std.specs.List.{take-map}
 use Rattle.std.specs.Arc.{arc_value}
 use Rattle.store_model.specs.OwnPuts.{IsOwnPut}
 use Rattle.reply_model.specs.Tries.{drop_of}
-use Rattle.frame_write.specs.Traces.{Went}
+use Rattle.version_chain.specs.Traces.{Went}
 use Rattle.frame_write.specs.PutCalls.{DidDrops}
 use Rattle.frame_write.specs.Plans.{put_seen, puts_seen}
 use Rattle.frame_write.proofs.ListLemmas.{map_at, read_at}
 use Rattle.frame_write.proofs.LoopLemmas.{drop_next, drop_more, stop_after}
-use Rattle.frame_write.proofs.SteadyLemmas.{on_err, grown_steady, stop_steady, steady_then}
+use Rattle.version_chain.proofs.SteadyLemmas.{on_err, grown_steady, stop_steady, steady_then}
 use Rattle.frame_write.proofs.drops.drop_all.Goals as goal
 
 pub drop_one-requires : goal.drop_one-requires

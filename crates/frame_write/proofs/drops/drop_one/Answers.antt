@@ -1,4 +1,4 @@
-use Rattle.frame_write.proofs.CallLemmas.{drop_found, drop_refused}
+use Rattle.version_chain.proofs.CallLemmas.{drop_found, drop_refused}
 use Rattle.frame_write.proofs.drops.drop_one.Goals as goal
 
 pub returns-in-Ok-clause-did : goal.returns-in-Ok-clause-did

@@ -3,12 +3,12 @@ use Rattle.std.specs.Prelude.{map}
 use Rattle.std.specs.List.{take-map}
 use Rattle.bucket_core.specs.History.{puts_by}
 use Rattle.reply_model.specs.Tries.{put_of}
-use Rattle.frame_write.specs.Traces.{Went}
+use Rattle.version_chain.specs.Traces.{Went}
 use Rattle.frame_write.specs.PutCalls.{DidPuts}
 use Rattle.frame_write.specs.Plans.{IsPutAt, put_seen, puts_seen}
 use Rattle.frame_write.proofs.ListLemmas.{map_at, read_at}
 use Rattle.frame_write.proofs.LoopLemmas.{put_next, put_more, stop_after}
-use Rattle.frame_write.proofs.SteadyLemmas.{on_err, grown_steady, stop_steady, steady_then}
+use Rattle.version_chain.proofs.SteadyLemmas.{on_err, grown_steady, stop_steady, steady_then}
 use Rattle.frame_write.proofs.puts.put_all.Goals as goal
 
 pub put_one-requires : goal.put_one-requires

@@ -1,4 +1,4 @@
-use Rattle.frame_write.proofs.CallLemmas.{put_refused}
+use Rattle.version_chain.proofs.CallLemmas.{put_refused}
 use Rattle.frame_write.proofs.puts.put_one.Goals as goal
 
 pub returns-in-Err-clause-did : goal.returns-in-Err-clause-did

@@ -1,7 +1,7 @@
 use Rattle.std.proofs.Common.{◌<◌, inl, inr, length, subst, Ok, Err, rules}
 use Rattle.frame_write.specs.Tries.{IsMet}
 use Rattle.frame_write.specs.Writes.{IsWritten}
-use Rattle.frame_write.proofs.SteadyLemmas.{steady_then}
+use Rattle.version_chain.proofs.SteadyLemmas.{steady_then}
 use Rattle.frame_write.proofs.TriesLemmas.{tries_more, last_met, try_steady, met_where_moved, failed_else, moved_place, busy_always}
 use Rattle.frame_write.proofs.write.try_all.Goals as goal
 

@@ -11,7 +11,7 @@ use Rattle.frame_write.specs.declared.options.Options.{Options}
 use Rattle.frame_write.specs.declared.options.Committed.{Committed}
 use Rattle.frame_write.specs.Tries.{DidTries}
 use Rattle.frame_write.specs.Writes.{IsWritten, Never, Always, StandsAlone}
-use Rattle.frame_write.proofs.TraceLemmas.{went_looks}
+use Rattle.version_chain.proofs.TraceLemmas.{went_looks}
 use Rattle.frame_write.proofs.CommitLemmas.{plan_stops}
 use Rattle.frame_write.proofs.ReplyLemmas.{goes_on, stands_alone}
 use Rattle.frame_write.proofs.LegalWrites.{write_is_legal}
