@@ -1,6 +1,7 @@
 //! The library of one client: each command of a client is carried out by one step.
 #![tactic(auto)]
 
+mod burying;
 mod commit_place;
 mod keys;
 mod library;
