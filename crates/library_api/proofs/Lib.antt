@@ -7,3 +7,4 @@ pub mod WriteLemmas
 pub mod KeyLemmas
 pub mod StepLemmas
 pub mod BuryLemmas
+pub mod VersionsLemmas

@@ -11,6 +11,7 @@ mod settings;
 mod step;
 #[cfg(test)]
 mod tests;
+mod versions;
 mod writing;
 
 pub use base_types::{Items, NoMemory};

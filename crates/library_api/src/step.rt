@@ -12,6 +12,7 @@ use crate::keys::keys;
 use crate::reading::read;
 use crate::reply::plain;
 use crate::settings::Settings;
+use crate::versions::versions;
 use crate::writing::write;
 use base_types::Items;
 use bucket_core::Bucket;
@@ -64,6 +65,7 @@ pub(crate) fn perform<R: Wait, B: Bucket<StoreLaw>>(
             columns,
         } => read(rt, alloc, bucket, symbol, as_of, *range, lent(columns)),
         Command::Keys { symbol } => keys(rt, alloc, bucket, symbol),
+        Command::Versions { symbol } => versions(rt, alloc, bucket, symbol),
         Command::Delete { symbol, versions } => {
             delete(rt, alloc, bucket, symbol, lent(versions), settings.tries)
         }

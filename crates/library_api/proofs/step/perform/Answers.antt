@@ -77,3 +77,14 @@ pub returns-in-Prune-clause-lays : goal.returns-in-Prune-clause-lays
 returns-in-Prune-clause-lays g c one =
     lays_as c.args.settings (client_of c.args.frames.now c.args.settings (g.B.Bucket.number c.args.bucket.now) (g.B.Bucket.limit c.args.bucket.now)).session (g.B.Bucket.seen c.args.bucket.now) c.args.command.now
     (commands.Prune c.in-Prune.symbol) c.prune.result c.in-Prune.is tt
+
+pub returns-in-Versions-clause-legal : goal.returns-in-Versions-clause-legal
+returns-in-Versions-clause-legal g c =
+    any_command c.args.frames.now c.args.settings (g.B.Bucket.number c.args.bucket.now) (g.B.Bucket.limit c.args.bucket.now) (g.B.Bucket.faults c.args.bucket.now) (g.B.Bucket.faults c.versions.new.bucket)
+    (g.B.Bucket.seen c.args.bucket.now) (g.B.Bucket.seen c.versions.new.bucket) c.args.command.now c.versions.result
+    (commands.Versions c.in-Versions.symbol) c.in-Versions.is c.versions.ensures.legal
+
+pub returns-in-Versions-clause-lays : goal.returns-in-Versions-clause-lays
+returns-in-Versions-clause-lays g c one =
+    lays_as c.args.settings (client_of c.args.frames.now c.args.settings (g.B.Bucket.number c.args.bucket.now) (g.B.Bucket.limit c.args.bucket.now)).session (g.B.Bucket.seen c.args.bucket.now) c.args.command.now
+    (commands.Versions c.in-Versions.symbol) c.versions.result c.in-Versions.is tt
