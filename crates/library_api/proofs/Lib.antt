@@ -6,3 +6,5 @@ pub mod ReadLemmas
 pub mod WriteLemmas
 pub mod KeyLemmas
 pub mod StepLemmas
+pub mod BuryLemmas
+pub mod VersionsLemmas

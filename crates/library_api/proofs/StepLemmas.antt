@@ -18,7 +18,7 @@ use Rattle.reply_model.specs.Standing.{LaysOut, LegalAloneSteps}
 use Rattle.version_chain.specs.Traces.{GoesOn}
 use Rattle.frame_write.specs.declared.options.Options.{Options}
 use Rattle.library_api.specs.declared.settings.Settings.{Settings}
-use Rattle.library_api.specs.Steps.{IsNamed, client_of, IsLegalIn, IsLegalForAll, run_cutting, IsStepAlone}
+use Rattle.library_api.specs.Steps.{IsNamed, client_of, IsLegalIn, IsLegalForAll, IsLegalWithTries, run_cutting, IsStepAlone}
 use Rattle.library_api.specs.Frames.{IsLegalWriteOf, StandsBehindPuts}
 
 -- how a frame is written by a command of these settings
@@ -33,6 +33,10 @@ module _ (frames : List RawFrame) (settings : Settings) (number limit before now
   -- a reply that is legal for all clients of the number is legal for the library's
   pub any_command : (c : Command) → command ≡ c → IsLegalForAll number before now old new c reply → IsLegalIn (client_of frames settings number limit) before now old new command reply
   any_command c is legal = subst (λ c. IsLegalIn (client_of frames settings number limit) before now old new c reply) (sym is) (legal (client_of frames settings number limit) refl)
+
+  -- so is one that is legal whatever the session brings beside its tries
+  pub tried_command : (c : Command) → command ≡ c → IsLegalWithTries limit number settings.tries before now old new c reply → IsLegalIn (client_of frames settings number limit) before now old new command reply
+  tried_command c is legal = subst (λ c. IsLegalIn (client_of frames settings number limit) before now old new c reply) (sym is) (legal (client_of frames settings number limit).session refl refl)
 
   pub write_command : (symbol : Name) (n : ℕ) (at : Option ℤ) (prune : Bool) (options : Options) (raw : RawFrame) → command ≡ commands.Write symbol n at prune → options ≡ options_of settings at prune
       → IsNamed (length frames) command → raw ≡ slice_index_or frames n raw

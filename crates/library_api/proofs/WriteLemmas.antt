@@ -1,5 +1,5 @@
 -- The replies of a write of raw columns are legal.
-use Rattle.std.proofs.Common.{◌≡◌, ℕ, ◌+◌, ℤ, Bool, true, false, List, [], refl, sym, ap, ◌∙◌, subst, inl, Option, Some, None, Result, Ok, Err, length, arith}
+use Rattle.std.proofs.Common.{◌≡◌, ℕ, ℤ, Bool, true, List, [], refl, sym, ap, ◌∙◌, subst, inl, Option, Some, None, Result, Ok, Err, length, arith}
 use Rattle.std.specs.Prelude.{option_map, slice_get}
 use Rattle.frame_core.specs.declared.refusal.Extent.{Extent}
 use Rattle.frame_core.specs.declared.refusal.Refusal.{Refusal}

@@ -5,6 +5,7 @@
 --     client_of           what the replies of a library are judged by
 --     IsLegalIn           a reply is legal for the window that a step added
 --     IsLegalForAll       it is legal whatever else the client's session brings
+--     IsLegalWithTries    it is legal whatever the session brings beside its tries
 --     run_cutting, IsStepAlone      where nobody else makes events a step is that of one client alone
 use Rattle.std.specs.Prelude.{◌≡◌, ℕ, ◌<◌, Bool, true, false, List, [], map, length, Option, Some, None, IfSome}
 use Rattle.base_types.specs.Faults.{Rose}
@@ -19,6 +20,7 @@ use Rattle.expr_clause.specs.declared.command.Command.TheVariants as commands
 use Rattle.reply_model.specs.declared.outcome.Outcome.{Outcome}
 use Rattle.reply_model.specs.declared.outcome.Outcome.TheVariants as outcomes
 use Rattle.reply_model.specs.declared.reply.Reply.{Reply}
+use Rattle.reply_model.specs.Answering.{Session}
 use Rattle.reply_model.specs.Windows.{Client, is_cut}
 use Rattle.reply_model.specs.Blocks.{Cutting}
 use Rattle.reply_model.specs.Standing.{is_served, IsStep}
@@ -81,6 +83,11 @@ IsLegalIn client before now old new command reply =
 -- the same for each client of this number, whatever its session brings
 abbrev pub IsLegalForAll : ℕ → ℕ → ℕ → History → History → Command → Reply → Type 0
 IsLegalForAll number before now old new command reply = (client : Client) → client.session.client ≡ number → IsLegalIn client before now old new command reply
+
+-- the same for each session of this client with so many tries
+abbrev pub IsLegalWithTries : ℕ → ℕ → ℕ → ℕ → ℕ → History → History → Command → Reply → Type 0
+IsLegalWithTries limit number tries before now old new command reply =
+    (s : Session) → s.client ≡ number → s.tries ≡ tries → IsLegalIn (record { session = s; limit = limit }) before now old new command reply
 
 -- ---- one client alone
 

@@ -1,6 +1,7 @@
 //! The library of one client: each command of a client is carried out by one step.
 #![tactic(auto)]
 
+mod burying;
 mod commit_place;
 mod keys;
 mod library;
@@ -10,6 +11,7 @@ mod settings;
 mod step;
 #[cfg(test)]
 mod tests;
+mod versions;
 mod writing;
 
 pub use base_types::{Items, NoMemory};

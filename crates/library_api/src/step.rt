@@ -7,15 +7,17 @@ ghost use Rattle.reply_model.specs.Standing.{LaysOut};
 ghost use Rattle.library_api.specs.Libraries.{AreSettings};
 ghost use Rattle.library_api.specs.Steps.{is_carried_out, IsNamed, client_of, IsLegalIn, run_cutting};
 
+use crate::burying::{delete, prune};
 use crate::keys::keys;
 use crate::reading::read;
 use crate::reply::plain;
 use crate::settings::Settings;
+use crate::versions::versions;
 use crate::writing::write;
 use base_types::Items;
 use bucket_core::Bucket;
 use expr_clause::Command;
-use frame_core::{ColName, RawFrame, Refusal};
+use frame_core::{RawFrame, Refusal};
 use reply_model::{Outcome, Reply};
 use std::alloc::Global;
 use std::sync::Wait;
@@ -63,6 +65,11 @@ pub(crate) fn perform<R: Wait, B: Bucket<StoreLaw>>(
             columns,
         } => read(rt, alloc, bucket, symbol, as_of, *range, lent(columns)),
         Command::Keys { symbol } => keys(rt, alloc, bucket, symbol),
+        Command::Versions { symbol } => versions(rt, alloc, bucket, symbol),
+        Command::Delete { symbol, versions } => {
+            delete(rt, alloc, bucket, symbol, lent(versions), settings.tries)
+        }
+        Command::Prune { symbol } => prune(rt, alloc, bucket, symbol, settings.tries),
         _ => plain(
             alloc,
             bucket.place(),
@@ -73,12 +80,12 @@ pub(crate) fn perform<R: Wait, B: Bucket<StoreLaw>>(
     }
 }
 
-/// The names, lent.
-fn lent(names: &Option<Items<ColName>>) -> Option<&[ColName]>
-    ensures { option_copied result ≡ names.now }
+/// The items, lent.
+fn lent<T>(items: &Option<Items<T>>) -> Option<&[T]>
+    ensures { option_copied result ≡ items.now }
 {
-    match names {
-        Some(names) => Some(names.items()),
+    match items {
+        Some(items) => Some(items.items()),
         None => None,
     }
 }

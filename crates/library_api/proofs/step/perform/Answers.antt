@@ -1,14 +1,13 @@
-use Rattle.std.proofs.Common.{ℕ, option_copied, refl, sym, ap, ◌∙◌, subst}
+use Rattle.std.proofs.Common.{ℕ, option_copied, sym, ap, ◌∙◌, subst}
 use Rattle.bucket_core.specs.History.{History}
 use Rattle.version_chain.proofs.Walked.{looks_none}
 use Rattle.expr_clause.specs.declared.command.Command.TheVariants as commands
 use Rattle.reply_model.specs.declared.reply.Reply.{Reply}
 use Rattle.reply_model.specs.Windows.{is_refused}
-use Rattle.reply_model.specs.Standing.{LaysOut}
-use Rattle.library_api.specs.Steps.{client_of, IsLegalIn, run_cutting}
+use Rattle.library_api.specs.Steps.{client_of, IsLegalIn}
 use Rattle.library_api.proofs.NoEvents.{looks_go_on, wants_memory}
 use Rattle.frame_read.proofs.LoopLemmas.{steady_none}
-use Rattle.library_api.proofs.StepLemmas.{any_command, write_command, lays_as, refused_lays, write_lays}
+use Rattle.library_api.proofs.StepLemmas.{any_command, tried_command, write_command, lays_as, refused_lays, write_lays}
 use Rattle.library_api.proofs.step.perform.Goals as goal
 
 pub returns-in-Write-clause-legal : goal.returns-in-Write-clause-legal
@@ -56,3 +55,36 @@ pub returns-in-Keys-clause-lays : goal.returns-in-Keys-clause-lays
 returns-in-Keys-clause-lays g c one =
     lays_as c.args.settings (client_of c.args.frames.now c.args.settings (g.B.Bucket.number c.args.bucket.now) (g.B.Bucket.limit c.args.bucket.now)).session (g.B.Bucket.seen c.args.bucket.now) c.args.command.now
     (commands.Keys c.in-Keys.symbol) c.keys.result c.in-Keys.is tt
+
+pub returns-in-Delete-clause-legal : goal.returns-in-Delete-clause-legal
+returns-in-Delete-clause-legal g c =
+    tried_command c.args.frames.now c.args.settings (g.B.Bucket.number c.args.bucket.now) (g.B.Bucket.limit c.args.bucket.now) (g.B.Bucket.faults c.args.bucket.now) (g.B.Bucket.faults c.delete.new.bucket)
+    (g.B.Bucket.seen c.args.bucket.now) (g.B.Bucket.seen c.delete.new.bucket) c.args.command.now c.delete.result
+    (commands.Delete c.in-Delete.symbol (option_copied c.lent-in-Delete.result)) (c.in-Delete.is ∙ ap (commands.Delete c.in-Delete.symbol) (sym c.lent-in-Delete.ensures)) c.delete.ensures.legal
+
+pub returns-in-Delete-clause-lays : goal.returns-in-Delete-clause-lays
+returns-in-Delete-clause-lays g c one =
+    lays_as c.args.settings (client_of c.args.frames.now c.args.settings (g.B.Bucket.number c.args.bucket.now) (g.B.Bucket.limit c.args.bucket.now)).session (g.B.Bucket.seen c.args.bucket.now) c.args.command.now
+    (commands.Delete c.in-Delete.symbol c.in-Delete.versions) c.delete.result c.in-Delete.is tt
+
+pub returns-in-Prune-clause-legal : goal.returns-in-Prune-clause-legal
+returns-in-Prune-clause-legal g c =
+    tried_command c.args.frames.now c.args.settings (g.B.Bucket.number c.args.bucket.now) (g.B.Bucket.limit c.args.bucket.now) (g.B.Bucket.faults c.args.bucket.now) (g.B.Bucket.faults c.prune.new.bucket)
+    (g.B.Bucket.seen c.args.bucket.now) (g.B.Bucket.seen c.prune.new.bucket) c.args.command.now c.prune.result
+    (commands.Prune c.in-Prune.symbol) c.in-Prune.is c.prune.ensures.legal
+
+pub returns-in-Prune-clause-lays : goal.returns-in-Prune-clause-lays
+returns-in-Prune-clause-lays g c one =
+    lays_as c.args.settings (client_of c.args.frames.now c.args.settings (g.B.Bucket.number c.args.bucket.now) (g.B.Bucket.limit c.args.bucket.now)).session (g.B.Bucket.seen c.args.bucket.now) c.args.command.now
+    (commands.Prune c.in-Prune.symbol) c.prune.result c.in-Prune.is tt
+
+pub returns-in-Versions-clause-legal : goal.returns-in-Versions-clause-legal
+returns-in-Versions-clause-legal g c =
+    any_command c.args.frames.now c.args.settings (g.B.Bucket.number c.args.bucket.now) (g.B.Bucket.limit c.args.bucket.now) (g.B.Bucket.faults c.args.bucket.now) (g.B.Bucket.faults c.versions.new.bucket)
+    (g.B.Bucket.seen c.args.bucket.now) (g.B.Bucket.seen c.versions.new.bucket) c.args.command.now c.versions.result
+    (commands.Versions c.in-Versions.symbol) c.in-Versions.is c.versions.ensures.legal
+
+pub returns-in-Versions-clause-lays : goal.returns-in-Versions-clause-lays
+returns-in-Versions-clause-lays g c one =
+    lays_as c.args.settings (client_of c.args.frames.now c.args.settings (g.B.Bucket.number c.args.bucket.now) (g.B.Bucket.limit c.args.bucket.now)).session (g.B.Bucket.seen c.args.bucket.now) c.args.command.now
+    (commands.Versions c.in-Versions.symbol) c.versions.result c.in-Versions.is tt
