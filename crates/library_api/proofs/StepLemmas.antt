@@ -1,7 +1,6 @@
 -- The reply of an arm is the reply of the step.
 use Rattle.std.proofs.Common.{◌≡◌, ℕ, ◌<◌, ℤ, Bool, true, Result, Ok, List, refl, ap, sym, ◌∙◌, subst, Option, Some, map, length, slice_index_or}
 use Rattle.std.specs.Prelude.{slice_get, unwrap_or, option_map}
-use Rattle.std.proofs.lemmas.Bool.{true≢false}
 use Rattle.std.proofs.lemmas.Option.{slice_get-get_or, slice_get-map}
 use Rattle.frame_core.specs.declared.raw.RawFrame.{RawFrame}
 use Rattle.frame_core.specs.declared.refusal.Refusal.{Refusal}
@@ -13,7 +12,7 @@ use Rattle.expr_clause.specs.declared.command.Command.{Command}
 use Rattle.expr_clause.specs.declared.command.Command.TheVariants as commands
 use Rattle.reply_model.specs.declared.reply.Reply.{Reply}
 use Rattle.reply_model.specs.Answering.{Session}
-use Rattle.reply_model.specs.Windows.{Client, is_refused}
+use Rattle.reply_model.specs.Windows.{Client}
 use Rattle.reply_model.specs.Standing.{LaysOut, LegalAloneSteps}
 use Rattle.version_chain.specs.Traces.{GoesOn}
 use Rattle.frame_write.specs.declared.options.Options.{Options}
@@ -60,26 +59,6 @@ step_alone theorem client settings before now sole old new command reply grown l
 -- what is said of the one command is said of the other
 pub lays_as : (settings : Settings) (s : Session) (old : History) (command c : Command) (reply : Reply) → command ≡ c → LaysOut (run_cutting settings.cutting) s c reply old → LaysOut (run_cutting settings.cutting) s command reply old
 lays_as settings s old command c reply is lays = subst (λ c. LaysOut (run_cutting settings.cutting) s c reply old) (sym is) lays
-
--- a refusal leaves nothing open
-pub refused_lays : (settings : Settings) (s : Session) (old : History) (command : Command) (reply : Reply) → is_refused reply.outcome ≡ true → LaysOut (run_cutting settings.cutting) s command reply old
-refused_lays settings s old (commands.Write symbol frame at prune) reply refused = λ whole is went. absurd (true≢false (sym refused ∙ went))
-refused_lays settings s old (commands.Append symbol frame at prune) reply refused = tt
-refused_lays settings s old (commands.Update symbol frame range upsert at prune) reply refused = tt
-refused_lays settings s old (commands.DeleteRange symbol range at prune) reply refused = tt
-refused_lays settings s old (commands.Stage symbol frame) reply refused = tt
-refused_lays settings s old (commands.Finalize symbol append sorted at prune) reply refused = tt
-refused_lays settings s old (commands.Discard symbol) reply refused = tt
-refused_lays settings s old (commands.Delete symbol versions) reply refused = tt
-refused_lays settings s old (commands.Prune symbol) reply refused = tt
-refused_lays settings s old (commands.Reclaim symbol) reply refused = tt
-refused_lays settings s old (commands.Versions symbol) reply refused = tt
-refused_lays settings s old (commands.Keys symbol) reply refused = tt
-refused_lays settings s old (commands.Snapshot snap picks) reply refused = tt
-refused_lays settings s old (commands.DeleteSnapshot snap) reply refused = tt
-refused_lays settings s old commands.Symbols reply refused = tt
-refused_lays settings s old commands.Snapshots reply refused = tt
-refused_lays settings s old (commands.Read symbol as_of range columns) reply refused = tt
 
 -- where the write stands
 pub write_lays : (frames : List RawFrame) (settings : Settings) (number limit : ℕ) (old : History) (command : Command) (reply : Reply) (symbol : Name) (n : ℕ) (at : Option ℤ) (prune : Bool) (options : Options) (raw : RawFrame)

@@ -32,12 +32,8 @@ use Rattle.library_api.specs.declared.settings.Settings.{Settings}
 -- a command that a step carries out
 abbrev pub is_carried_out : Command → Bool
 is_carried_out (commands.Write symbol frame at prune) = true
-is_carried_out (commands.Append symbol frame at prune) = true
-is_carried_out (commands.Update symbol frame range upsert at prune) = true
-is_carried_out (commands.DeleteRange symbol range at prune) = true
 is_carried_out (commands.Delete symbol versions) = true
 is_carried_out (commands.Prune symbol) = true
-is_carried_out (commands.Reclaim symbol) = true
 is_carried_out (commands.Versions symbol) = true
 is_carried_out (commands.Keys symbol) = true
 is_carried_out (commands.Read symbol as_of range columns) = true

@@ -3,7 +3,7 @@
 ghost use Rattle.std.specs.Prelude.{◌≡◌, ◌≤◌, option_copied};
 ghost use Rattle.bucket_core.specs.Calls.{IsSteady};
 ghost use Rattle.prune_rule.specs.Replies.{commits_of};
-ghost use Rattle.frame_write.specs.Writes.{GoesOn};
+ghost use Rattle.version_chain.specs.Traces.{GoesOn};
 ghost use Rattle.library_api.specs.Steps.{reply_with, IsLegalWithTries};
 
 use crate::commit_place::CommitPlace;

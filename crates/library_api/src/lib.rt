@@ -17,3 +17,4 @@ mod writing;
 pub use base_types::{Items, NoMemory};
 pub use library::Library;
 pub use settings::Settings;
+pub use step::is_carried_out;

@@ -10,15 +10,14 @@ ghost use Rattle.library_api.specs.Steps.{is_carried_out, IsNamed, client_of, Is
 use crate::burying::{delete, prune};
 use crate::keys::keys;
 use crate::reading::read;
-use crate::reply::plain;
 use crate::settings::Settings;
 use crate::versions::versions;
 use crate::writing::write;
 use base_types::Items;
 use bucket_core::Bucket;
 use expr_clause::Command;
-use frame_core::{RawFrame, Refusal};
-use reply_model::{Outcome, Reply};
+use frame_core::RawFrame;
+use reply_model::Reply;
 use std::alloc::Global;
 use std::sync::Wait;
 use version_chain::StoreLaw;
@@ -70,14 +69,23 @@ pub(crate) fn perform<R: Wait, B: Bucket<StoreLaw>>(
             delete(rt, alloc, bucket, symbol, lent(versions), settings.tries)
         }
         Command::Prune { symbol } => prune(rt, alloc, bucket, symbol, settings.tries),
-        _ => plain(
-            alloc,
-            bucket.place(),
-            Outcome::Refused {
-                why: Refusal::NoMemory,
-            },
-        ),
+        _ => unreachable!(),
     }
+}
+
+/// Whether a step carries out the command.
+pub fn is_carried_out(command: &Command) -> bool
+    ensures { result ≡ is_carried_out command.now }
+{
+    matches!(
+        command,
+        Command::Write { .. }
+            | Command::Delete { .. }
+            | Command::Prune { .. }
+            | Command::Versions { .. }
+            | Command::Keys { .. }
+            | Command::Read { .. }
+    )
 }
 
 /// The items, lent.

@@ -6,4 +6,3 @@ pub mod TurnLemmas
 pub mod WindowLemmas
 pub mod SeenLemmas
 pub mod LegalBurials
-pub mod ReclaimLemmas

@@ -1,4 +1,3 @@
 pub mod Burials
 pub mod Tries
 pub mod Replies
-pub mod Reclaims

@@ -1,13 +1,7 @@
-use Rattle.std.proofs.Common.{ℕ, option_copied, sym, ap, ◌∙◌, subst}
-use Rattle.bucket_core.specs.History.{History}
-use Rattle.version_chain.proofs.Walked.{looks_none}
+use Rattle.std.proofs.Common.{option_copied, sym, ap, ◌∙◌}
 use Rattle.expr_clause.specs.declared.command.Command.TheVariants as commands
-use Rattle.reply_model.specs.declared.reply.Reply.{Reply}
-use Rattle.reply_model.specs.Windows.{is_refused}
-use Rattle.library_api.specs.Steps.{client_of, IsLegalIn}
-use Rattle.library_api.proofs.NoEvents.{looks_go_on, wants_memory}
-use Rattle.frame_read.proofs.LoopLemmas.{steady_none}
-use Rattle.library_api.proofs.StepLemmas.{any_command, tried_command, write_command, lays_as, refused_lays, write_lays}
+use Rattle.library_api.specs.Steps.{client_of}
+use Rattle.library_api.proofs.StepLemmas.{any_command, tried_command, write_command, lays_as, write_lays}
 use Rattle.library_api.proofs.step.perform.Goals as goal
 
 pub returns-in-Write-clause-legal : goal.returns-in-Write-clause-legal
@@ -27,19 +21,6 @@ returns-in-Keys-clause-legal g c =
     any_command c.args.frames.now c.args.settings (g.B.Bucket.number c.args.bucket.now) (g.B.Bucket.limit c.args.bucket.now) (g.B.Bucket.faults c.args.bucket.now) (g.B.Bucket.faults c.keys.new.bucket)
     (g.B.Bucket.seen c.args.bucket.now) (g.B.Bucket.seen c.keys.new.bucket) c.args.command.now c.keys.result
     (commands.Keys c.in-Keys.symbol) c.in-Keys.is c.keys.ensures.legal
-
-pub returns-in_default : goal.returns-in_default
-returns-in_default g c =
-    let old : History = g.B.Bucket.seen c.args.bucket.now in
-    let faults : ℕ = g.B.Bucket.faults c.args.bucket.now in
-    let client = client_of c.args.frames.now c.args.settings (g.B.Bucket.number c.args.bucket.now) (g.B.Bucket.limit c.args.bucket.now) in
-    record {
-      steady = steady_none g.B.Bucket.number g.B.Bucket.limit g.B.Bucket.faults g.B.Bucket.sole c.args.bucket.now;
-      grown = looks_go_on _ _ _ _ (looks_none (g.B.Bucket.number c.args.bucket.now) (g.B.Bucket.sole c.args.bucket.now) old);
-      legal = subst (IsLegalIn client faults faults old old c.args.command.now) (sym c.plain.ensures)
-          (wants_memory client c.args.command.now c.requires.served faults faults old c.place.result c.place.ensures);
-      lays = λ one. refused_lays c.args.settings client.session old c.args.command.now c.plain.result (ap (λ (r : Reply). is_refused r.outcome) c.plain.ensures);
-    }
 
 pub returns-in-Write-clause-lays : goal.returns-in-Write-clause-lays
 returns-in-Write-clause-lays g c one =
