@@ -1,10 +1,4 @@
 pub mod Lines
 pub mod Commas
-pub mod Loading
 pub mod Prints
-pub mod Answering
 pub mod Shown
-pub mod Told
-pub mod Ended
-pub mod Finishing
-pub mod Running

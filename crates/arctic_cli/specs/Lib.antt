@@ -1,10 +1,4 @@
-pub mod CommandLine
 pub mod FrameText
-pub mod Replies
 pub mod Transcript
-pub mod Program
-pub mod Causes
 pub mod Endings
-pub mod Performing
-pub mod Views
-pub mod Preparing
+pub mod Program
