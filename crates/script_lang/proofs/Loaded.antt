@@ -1,18 +1,26 @@
--- In each script a frame that is written is loaded.
-use Rattle.std.proofs.Common.{◌≡◌, ℕ, ◌+◌, ◌<◌, Bool, true, false, cond, List, [], ◌∷◌, ◌++◌, length, Option, Some, None, refl, sym, ap, subst, ◌∙◌, arith}
-use Rattle.std.specs.Prelude.{option_map, is_none, find, Result, Ok, Err, IfOk}
+-- In each script the frame of a command is loaded.
+use Rattle.std.proofs.Common.{◌≡◌, ℕ, ℤ, ◌+◌, ◌<◌, Bool, true, false, cond, List, [], ◌∷◌, ◌++◌, length, Option, Some, None, refl, sym, ap, subst, ◌∙◌, arith}
+use Rattle.std.specs.Prelude.{option_map, unwrap_or, is_none, find, Result, Ok, Err, IfOk}
 use Rattle.std.specs.List.{AllByRecursion, position_from}
 use Rattle.std.proofs.lemmas.List.{length-map}
 use Rattle.frame_core.specs.Texts.{Text, same_text}
-use Rattle.script_lang.specs.declared.command.Command.{Command}
-use Rattle.script_lang.specs.declared.command.Command.TheVariants as commands
+use Rattle.frame_core.specs.Ranges.{Range}
+use Rattle.expr_clause.specs.declared.command.AsOf.TheVariants as moments
+use Rattle.expr_clause.specs.declared.command.Command.{Command}
+use Rattle.expr_clause.specs.declared.command.Command.TheVariants as commands
+use Rattle.script_lang.specs.declared.command.Commit.{Commit}
+use Rattle.script_lang.specs.declared.options.CommitOptions.{CommitOptions}
+use Rattle.script_lang.specs.declared.options.UpdateOptions.{UpdateOptions}
+use Rattle.script_lang.specs.declared.options.ReadOptions.{ReadOptions}
 use Rattle.script_lang.specs.declared.load.Load.{Load}
 use Rattle.script_lang.specs.declared.script.Script.{Script}
 use Rattle.script_lang.specs.declared.fault.ScriptFault.{ScriptFault}
 use Rattle.script_lang.specs.Answers.{GivesScript}
 use Rattle.script_lang.specs.Fronts.{◌>>=◌, where_true}
 use Rattle.script_lang.specs.Lines.{words_of}
-use Rattle.script_lang.specs.Commands.{Form, under, symbol_of, frame_of, write_form, read_form, forms, command_of}
+use Rattle.script_lang.specs.Words.{under, symbol_of, frame_of}
+use Rattle.script_lang.specs.Options.{commit_options, update_options, versions_given, read_options}
+use Rattle.script_lang.specs.Commands.{Form, commit_of, commit_form, update_form, required_range, delete_range_form, delete_form, only_symbol, symbol_form, whole_range, read_form, forms, command_of}
 use Rattle.script_lang.specs.Scripts.{Draft, LineForm, no_lines, frame_names, load_of, after_load, after_first, with_command, after_form, after_words, after_line, line_forms, after_lines, finished, IsLoaded, AreLoaded}
 use Rattle.script_lang.proofs.Gathered.{bind-some}
 
@@ -22,6 +30,10 @@ some_in d (Some a) = a
 
 some-same : {A : Type 0} (x y : A) → Some x ≡ Some y → x ≡ y
 some-same x y h = ap (some_in x) h
+
+map-some : {A B : Type 0} (o : Option A) (f : A → B) (b : B) → option_map f o ≡ Some b → (a : A) × (o ≡ Some a) × (f a ≡ b)
+map-some None f b h = absurd cc
+map-some (Some a) f b h = (a, refl, some-same (f a) b h)
 
 -- ---- tables
 
@@ -51,27 +63,110 @@ position_from-below test i k (t ∷ texts) h =
 abbrev IsForm : Form → Type 0
 IsForm form = (frames words : List Text) (c : Command) → form frames words ≡ Some c → IsLoaded (length frames) c
 
-write_form-loaded : (frames words : List Text) (c : Command) → write_form frames words ≡ Some c → IsLoaded (length frames) c
-write_form-loaded frames [] c h = absurd cc
-write_form-loaded frames (symbol ∷ []) c h = absurd cc
-write_form-loaded frames (symbol ∷ frame ∷ []) c h =
-    let named = bind-some (symbol_of symbol) (λ s. frame_of frames frame >>= λ f. Some (commands.Write s f)) c h in
-    let placed = bind-some (frame_of frames frame) (λ f. Some (commands.Write named.0 f)) c named.2 in
-    let below : placed.0 < length frames = let b = position_from-below (same_text frame) 0 placed.0 frames placed.1 in omega arith in
-    subst (IsLoaded (length frames)) (some-same (commands.Write named.0 placed.0) c placed.2) below
-write_form-loaded frames (symbol ∷ frame ∷ other ∷ words) c h = absurd cc
+target-below : (frames : List Text) (frame : Text) (k : ℕ) → frame_of frames frame ≡ Some k → k < length frames
+target-below frames frame k h = let below = position_from-below (same_text frame) 0 k frames h in omega arith
 
-read_form-loaded : (frames words : List Text) (c : Command) → read_form frames words ≡ Some c → IsLoaded (length frames) c
+abbrev commit_made : Text → ℕ → CommitOptions → Commit
+commit_made s f o = record { symbol = s; frame = f; options = o }
+
+-- a commit's frame is loaded
+commit_of-loaded : (frames words : List Text) (commit : Commit) → commit_of frames words ≡ Some commit → commit.frame < length frames
+commit_of-loaded frames [] commit h = absurd cc
+commit_of-loaded frames (symbol ∷ []) commit h = absurd cc
+commit_of-loaded frames (symbol ∷ frame ∷ more) commit h =
+    let named = bind-some (symbol_of symbol) (λ s. frame_of frames frame >>= λ f. commit_options more >>= λ o. Some (commit_made s f o)) commit h in
+    let placed = bind-some (frame_of frames frame) (λ f. commit_options more >>= λ o. Some (commit_made named.0 f o)) commit named.2 in
+    let set = bind-some (commit_options more) (λ o. Some (commit_made named.0 placed.0 o)) commit placed.2 in
+    subst (λ (c : Commit). c.frame < length frames) (some-same (commit_made named.0 placed.0 set.0) commit set.2) (target-below frames frame placed.0 placed.1)
+
+-- a form of a commit gives commands of loaded frames, if the command's frame is the commit's
+commit_form-loaded : (command : Text → ℕ → Option ℤ → Bool → Command) → ((loads : ℕ) (symbol : Text) (frame : ℕ) (at : Option ℤ) (prune : Bool) → frame < loads → IsLoaded loads (command symbol frame at prune)) → IsForm (commit_form command)
+commit_form-loaded command loaded frames words c h =
+    let commit = map-some (commit_of frames words) (λ (c : Commit). command c.symbol c.frame c.options.at c.options.prune) c h in
+    subst (IsLoaded (length frames)) commit.2 (loaded (length frames) commit.0.symbol commit.0.frame commit.0.options.at commit.0.options.prune (commit_of-loaded frames words commit.0 commit.1))
+
+abbrev update_made : Text → ℕ → UpdateOptions → Command
+update_made s f o = commands.Update s f o.range o.upsert o.commit.at o.commit.prune
+
+update_form-loaded : IsForm update_form
+update_form-loaded frames [] c h = absurd cc
+update_form-loaded frames (symbol ∷ []) c h = absurd cc
+update_form-loaded frames (symbol ∷ frame ∷ more) c h =
+    let named = bind-some (symbol_of symbol) (λ s. frame_of frames frame >>= λ f. update_options more >>= λ o. Some (update_made s f o)) c h in
+    let placed = bind-some (frame_of frames frame) (λ f. update_options more >>= λ o. Some (update_made named.0 f o)) c named.2 in
+    let set = bind-some (update_options more) (λ o. Some (update_made named.0 placed.0 o)) c placed.2 in
+    subst (IsLoaded (length frames)) (some-same (update_made named.0 placed.0 set.0) c set.2) (target-below frames frame placed.0 placed.1)
+
+-- ---- forms without a frame
+
+abbrev range_made : Text → Range → CommitOptions → Command
+range_made s r o = commands.DeleteRange s r o.at o.prune
+
+delete_range_form-loaded : IsForm (λ frames. delete_range_form)
+delete_range_form-loaded frames [] c h = absurd cc
+delete_range_form-loaded frames (symbol ∷ []) c h = absurd cc
+delete_range_form-loaded frames (symbol ∷ range ∷ more) c h =
+    let named = bind-some (symbol_of symbol) (λ s. required_range range >>= λ r. commit_options more >>= λ o. Some (range_made s r o)) c h in
+    let ranged = bind-some (required_range range) (λ r. commit_options more >>= λ o. Some (range_made named.0 r o)) c named.2 in
+    let set = bind-some (commit_options more) (λ o. Some (range_made named.0 ranged.0 o)) c ranged.2 in
+    subst (IsLoaded (length frames)) (some-same (range_made named.0 ranged.0 set.0) c set.2) tt
+
+delete_form-loaded : IsForm (λ frames. delete_form)
+delete_form-loaded frames [] c h = absurd cc
+delete_form-loaded frames (symbol ∷ more) c h =
+    let named = bind-some (symbol_of symbol) (λ s. versions_given more >>= λ v. Some (commands.Delete s v)) c h in
+    let given = bind-some (versions_given more) (λ v. Some (commands.Delete named.0 v)) c named.2 in
+    subst (IsLoaded (length frames)) (some-same (commands.Delete named.0 given.0) c given.2) tt
+
+symbol_form-loaded : (command : Text → Command) → ((loads : ℕ) (symbol : Text) → IsLoaded loads (command symbol)) → IsForm (λ frames. symbol_form command)
+symbol_form-loaded command loaded frames words c h =
+    let named = map-some (only_symbol words) command c h in
+    subst (IsLoaded (length frames)) named.2 (loaded (length frames) named.0)
+
+abbrev read_made : Text → ReadOptions → Command
+read_made s o = commands.Read s (unwrap_or o.as_of (moments.Back 1)) (unwrap_or o.range whole_range) o.columns
+
+read_form-loaded : IsForm (λ frames. read_form)
 read_form-loaded frames [] c h = absurd cc
-read_form-loaded frames (symbol ∷ []) c h =
-    let named = bind-some (symbol_of symbol) (λ s. Some (commands.Read s)) c h in
-    subst (IsLoaded (length frames)) (some-same (commands.Read named.0) c named.2) tt
-read_form-loaded frames (symbol ∷ other ∷ words) c h = absurd cc
+read_form-loaded frames (symbol ∷ more) c h =
+    let named = bind-some (symbol_of symbol) (λ s. read_options more >>= λ o. Some (read_made s o)) c h in
+    let set = bind-some (read_options more) (λ o. Some (read_made named.0 o)) c named.2 in
+    subst (IsLoaded (length frames)) (some-same (read_made named.0 set.0) c set.2) tt
+
+forms-loaded : AllByRecursion (λ (x : Text × Form). IsForm x.1) forms
+forms-loaded = (
+  commit_form-loaded commands.Write (λ loads symbol frame at prune below. below),
+  (
+    commit_form-loaded commands.Append (λ loads symbol frame at prune below. below),
+    (
+      update_form-loaded,
+      (
+        delete_range_form-loaded,
+        (
+          delete_form-loaded,
+          (
+            symbol_form-loaded commands.Prune (λ loads symbol. tt),
+            (
+              symbol_form-loaded commands.Reclaim (λ loads symbol. tt),
+              (
+                symbol_form-loaded commands.Versions (λ loads symbol. tt),
+                (
+                  symbol_form-loaded commands.Keys (λ loads symbol. tt),
+                  (read_form-loaded, tt),
+                ),
+              ),
+            ),
+          ),
+        ),
+      ),
+    ),
+  ),
+)
 
 command_of-loaded : (frames : List Text) (verb : Text) (words : List Text) (c : Command) → command_of frames verb words ≡ Some c → IsLoaded (length frames) c
 command_of-loaded frames verb words c h =
     let form = bind-some (under verb forms) (λ form. form frames words) c h in
-    under-keeps IsForm verb forms form.0 (write_form-loaded, (read_form-loaded, tt)) form.1 frames words c form.2
+    under-keeps IsForm verb forms form.0 forms-loaded form.1 frames words c form.2
 
 -- ---- lines
 

@@ -1,14 +1,15 @@
 -- Identifiers are names of columns.
-use Rattle.std.proofs.Common.{◌≡◌, ℕ, zero, suc, ◌<◌, ◌≤◌, Bool, true, false, cond, [], ◌∷◌, length, get_or, drop, Some, refl, ap, subst, lit<, arith}
-use Rattle.std.specs.Prelude.{IsUtf8, ◌&&◌, nat_le}
+use Rattle.std.proofs.Common.{◌≡◌, ℕ, zero, suc, ◌<◌, ◌≤◌, Bool, true, false, cond, [], ◌∷◌, length, get_or, drop, Option, Some, None, refl, sym, ap, ◌∙◌, subst, lit<, arith}
+use Rattle.std.specs.Prelude.{IsUtf8, ◌&&◌, nat_le, nat_eq}
 use Rattle.std.specs.List.{list_all}
 use Rattle.std.proofs.lemmas.Bool.Decides.{nat_tests}
 use Rattle.std.proofs.lemmas.List.Sums.{take_while-cons}
 use Rattle.std.proofs.lemmas.Str.{IsUtf8-from_ascii}
 use Rattle.frame_core.specs.Texts.{Text}
 use Rattle.frame_core.specs.Schemas.{IsColName}
-use Rattle.script_lang.specs.Commands.{is_plain_byte, is_plain}
-use Rattle.script_lang.specs.Fronts.{where_true, is_wordy, word_of, is_identifier, identifier_at}
+use Rattle.script_lang.specs.Words.{is_plain_byte, is_plain}
+use Rattle.script_lang.specs.Fronts.{◌>>=◌, where_true, whole, if_nothing_left, is_wordy, word_of, is_identifier, identifier_at}
+use Rattle.script_lang.specs.PlainFiles.{short_name, column_name_at}
 
 wordy-small : (c : ℕ) → is_wordy c ≡ true → c < 128
 wordy-small c wordy = grind (arith, nat_tests)
@@ -51,6 +52,40 @@ identifier_at-name text name rest read few =
     let word = identifier_at-read text name rest read in
     let some : 1 ≤ length name = rw (← word.same) (is_identifier-some (word_of text) word.identifier) in
     record { some = some; most = few; text = identifier_at-utf8 text name rest read }
+
+-- ---- names of columns
+
+short-then : (few all : Bool) (name rest : Text) → nat_le (length name) 255 ≡ few → nat_eq (length rest) 0 ≡ all →
+    (short_name (name, rest) >>= if_nothing_left) ≡ (if_nothing_left (name, rest) >>= λ n. where_true (nat_le (length n) 255) n)
+short-then true true name rest few all = rw (few, all, few) refl
+short-then true false name rest few all = rw (few, all) refl
+short-then false true name rest few all = rw (few, all, few) refl
+short-then false false name rest few all = rw (few, all) refl
+
+then-short : (read : Option (Text × Text)) → ((read >>= short_name) >>= if_nothing_left) ≡ ((read >>= if_nothing_left) >>= λ n. where_true (nat_le (length n) 255) n)
+then-short None = refl
+then-short (Some x) = short-then (nat_le (length x.0) 255) (nat_eq (length x.1) 0) x.0 x.1 refl refl
+
+-- a word is the name of a column where it is an identifier of at most 255 bytes
+column_name-whole : (word : Text) → whole column_name_at word ≡ (whole identifier_at word >>= λ n. where_true (nat_le (length n) 255) n)
+unfolding column_name_at
+column_name-whole word = then-short (identifier_at word)
+
+-- a word that is no identifier is no name of a column
+pub column_name-none : (word : Text) → None ≡ whole identifier_at word → whole column_name_at word ≡ None
+column_name-none word none = column_name-whole word ∙ ap (λ read. read >>= λ n. where_true (nat_le (length n) 255) n) (sym none)
+
+-- an identifier of at most 255 bytes is one
+pub column_name-some : (word name : Text) → Some name ≡ whole identifier_at word → length name ≤ 255 → whole column_name_at word ≡ Some name
+column_name-some word name some few =
+    let short : nat_le (length name) 255 ≡ true = grind (arith, nat_tests) in
+    column_name-whole word ∙ ap (λ read. read >>= λ n. where_true (nat_le (length n) 255) n) (sym some) ∙ ap (λ b. where_true b name) short
+
+-- a longer one is none
+pub column_name-long : (word name : Text) → Some name ≡ whole identifier_at word → 255 < length name → whole column_name_at word ≡ None
+column_name-long word name some many =
+    let long : nat_le (length name) 255 ≡ false = grind (arith, nat_tests) in
+    column_name-whole word ∙ ap (λ read. read >>= λ n. where_true (nat_le (length n) 255) n) (sym some) ∙ ap (λ b. where_true b name) long
 
 -- ---- plain words
 

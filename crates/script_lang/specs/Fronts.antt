@@ -1,13 +1,14 @@
 -- Forms that stand at the front of a text: what is read, and the text after it.
 --     Front                   what reads such a form
 --     ◌>>=◌, where_true       one form after another, and a value where a test holds
---     byte_at                 this byte
+--     whole, each             a form that is all of a text, and values where each is there
+--     byte_at, sign_at        this byte, and these bytes
 --     digits_at, whole_number_at      digits and their number; the same with an optional `-`
 --     identifier_at           a letter or `_`, then letters, digits and `_`, and no reserved word
 --     field_at                a value and the byte that ends it
 --     line_at                 so many of a form, with commas between them and a line end behind
 --     all_of                  the values of a form that stand one behind another and are all of the text
-use Rattle.std.specs.Prelude.{ℕ, zero, suc, ◌+◌, ◌*◌, ◌-◌, ℤ, pos, neg_ℤ, Bool, true, false, ◌==◌, ◌&&◌, ◌||◌, not, if◌then◌else◌, List, [], ◌∷◌, length, drop, fold, take_while, Option, Some, None, option_map, nat_eq, nat_le, codes}
+use Rattle.std.specs.Prelude.{ℕ, zero, suc, ◌+◌, ◌*◌, ◌-◌, ℤ, pos, neg_ℤ, Bool, true, false, ◌==◌, ◌&&◌, ◌||◌, not, if◌then◌else◌, List, [], ◌∷◌, length, take, drop, fold, take_while, Option, Some, None, option_map, nat_eq, nat_le, codes}
 use Rattle.std.specs.List.{list_any}
 use Rattle.std.specs.Char.{is_ascii_digit, is_ascii_alphabetic, is_ascii_alphanumeric}
 use Rattle.std.specs.Str.{byte}
@@ -28,10 +29,27 @@ abbrev pub where_true : {A : Type 0} → Bool → A → Option A
 where_true true a = Some a
 where_true false a = None
 
+-- the value, where nothing is left behind it
+abbrev pub if_nothing_left : {A : Type 0} → A × Text → Option A
+if_nothing_left x = where_true (nat_eq (length x.1) 0) x.0
+
+-- a form that is all of the text
+abbrev pub whole : {A : Type 0} → Front A → Text → Option A
+whole form text = form text >>= if_nothing_left
+
+-- the values of these options, where each has one
+abbrev pub each : {A : Type 0} → List (Option A) → Option (List A)
+each [] = Some []
+each (o ∷ os) = o >>= λ a. each os >>= λ more. Some (a ∷ more)
+
 -- the text after this byte, if it begins with it
 abbrev pub byte_at : ℕ → Text → Option Text
 byte_at c [] = None
 byte_at c (b ∷ rest) = where_true (b == c) rest
+
+-- the text after these bytes, if it begins with them
+abbrev pub sign_at : Text → Text → Option Text
+sign_at sign text = where_true (same_text (take (length sign) text) sign) (drop (length sign) text)
 
 -- ---- numbers
 

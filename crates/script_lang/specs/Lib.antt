@@ -2,6 +2,9 @@ pub mod Fronts
 pub mod PlainFiles
 pub mod Rows
 pub mod Lines
+pub mod Words
+pub mod Moments
+pub mod Options
 pub mod Commands
 pub mod Scripts
 pub mod Answers

@@ -2,19 +2,20 @@
 --     Draft                   the loads and the commands of a script, up to some line
 --     after_line              what one more line makes of it, if some rule allows this line
 --     plain_script_of         the script of a text
---     AreLoaded               what each script keeps: a frame that is written is loaded
-use Rattle.std.specs.Prelude.{ℕ, ◌<◌, ⊤, List, [], ◌∷◌, ◌++◌, length, map, Option, Some, None, is_none, nat_eq, nat_le, codes}
+--     AreLoaded               what each script keeps: the frame of a command is loaded
+use Rattle.std.specs.Prelude.{ℕ, ◌<◌, ⊤, List, [], ◌∷◌, ◌++◌, length, map, Option, Some, None, is_none, nat_le, codes}
 use Rattle.std.specs.List.{AllByRecursion}
 use Rattle.frame_core.specs.declared.cell.ColType.{ColType}
 use Rattle.frame_core.specs.declared.cell.ColType.TheVariants as types
 use Rattle.frame_core.specs.Texts.{Text}
-use Rattle.script_lang.specs.declared.command.Command.{Command}
-use Rattle.script_lang.specs.declared.command.Command.TheVariants as commands
+use Rattle.expr_clause.specs.declared.command.Command.{Command}
+use Rattle.expr_clause.specs.declared.command.Command.TheVariants as commands
 use Rattle.script_lang.specs.declared.load.Load.{Load}
 use Rattle.script_lang.specs.declared.script.Script.{Script}
-use Rattle.script_lang.specs.Fronts.{Front, ◌>>=◌, where_true, identifier_at}
+use Rattle.script_lang.specs.Fronts.{◌>>=◌, where_true, whole, each, identifier_at}
 use Rattle.script_lang.specs.Lines.{between, lines_of, words_of}
-use Rattle.script_lang.specs.Commands.{under, plain_of, frame_of, command_of}
+use Rattle.script_lang.specs.Words.{under, plain_of, frame_of}
+use Rattle.script_lang.specs.Commands.{command_of}
 
 -- the loads in order, and the commands behind the line `first`, if it came
 pub record Draft : Type 0 where
@@ -26,19 +27,6 @@ abbrev pub no_lines : Draft
 no_lines = record { loads = []; first = None }
 
 -- ---- loads
-
--- the value, where nothing is left behind it
-abbrev pub if_nothing_left : {A : Type 0} → A × Text → Option A
-if_nothing_left x = where_true (nat_eq (length x.1) 0) x.0
-
--- a form that is all of the text
-abbrev pub whole : {A : Type 0} → Front A → Text → Option A
-whole form text = form text >>= if_nothing_left
-
--- the values of these options, where each has one
-abbrev pub each : {A : Type 0} → List (Option A) → Option (List A)
-each [] = Some []
-each (o ∷ os) = o >>= λ a. each os >>= λ more. Some (a ∷ more)
 
 -- the names of types
 abbrev pub type_names : List (Text × ColType)
@@ -139,11 +127,14 @@ plain_script_of text = lines_of text >>= λ lines. where_true (nat_le (length li
 
 -- ---- what each script keeps
 
--- the frame of the command is one of so many loads
+-- the frame of the command, if it has one, is one of so many loads
 abbrev pub IsLoaded : ℕ → Command → Type 0
-IsLoaded loads (commands.Write symbol frame) = frame < loads
-IsLoaded loads (commands.Read symbol) = ⊤
+IsLoaded loads (commands.Write symbol frame at prune) = frame < loads
+IsLoaded loads (commands.Append symbol frame at prune) = frame < loads
+IsLoaded loads (commands.Update symbol frame range upsert at prune) = frame < loads
+IsLoaded loads (commands.Stage symbol frame) = frame < loads
+IsLoaded loads _ = ⊤
 
--- each frame that is written is loaded
+-- each frame of a command is loaded
 abbrev pub AreLoaded : Script → Type 0
 AreLoaded script = AllByRecursion (IsLoaded (length script.loads)) script.first

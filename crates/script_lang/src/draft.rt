@@ -2,16 +2,17 @@ ghost use Rattle.std.specs.Prelude.{◌≡◌, map};
 ghost use Rattle.script_lang.specs.Scripts.{no_lines, after_load, after_first, with_command, after_verb, after_words, after_line, after_lines};
 ghost use Rattle.script_lang.specs.Answers.{GivesScript};
 
-use crate::command::{Command, command_of};
+use crate::command::command_of;
 use crate::fault::ScriptFault;
 use crate::lines::parts_between;
 use crate::load::{Load, load_of};
 use base_types::Items;
+use expr_clause::Command;
 use std::alloc::Global;
 use std::marker::Model;
 
 /// The loads and the commands of a script, up to some line.
-#[derive(Debug, Drop)]
+#[derive(Drop)]
 pub struct Draft {
     pub loads: Items<Load>,
     /// None until the line `first` comes.

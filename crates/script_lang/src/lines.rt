@@ -7,7 +7,7 @@ use base_types::NoMemory;
 use std::alloc::Global;
 
 /// How many bytes stand before the first separator.
-fn part_len(separator: u8, bytes: &[u8]) -> usize
+pub fn part_len(separator: u8, bytes: &[u8]) -> usize
     ensures { result ≡ length (part_at separator bytes.now) }
 {
     for (place, byte) in bytes.iter().enumerate() {

@@ -33,9 +33,31 @@ fn count_digits(bytes: &[u8]) -> Option<(u64, usize)>
     Some((value, bytes.len()))
 }
 
+/// The number of all digits at the front, and how many they are; none if it is above 64 bits.
+pub fn count_all(bytes: &[u8]) -> Option<(u64, usize)>
+    ensures value { IfSome result (λ x. x.0 ≡ value_of (digits_of bytes.now)) }
+    ensures count { IfSome result (λ x. x.1 ≡ length (digits_of bytes.now)) }
+    ensures large { result ≡ None → 2 ^ 64 ≤ value_of (digits_of bytes.now) }
+{
+    let mut value = 0u64;
+    for (place, byte) in bytes.iter().enumerate() {
+        if !is_digit(*byte) {
+            return Some((value, place));
+        }
+        let Some(tens) = value.checked_mul(10) else {
+            return None;
+        };
+        let Some(next) = tens.checked_add((*byte - b'0') as u64) else {
+            return None;
+        };
+        value = next;
+    }
+    Some((value, bytes.len()))
+}
+
 /// The number of the digits at the front, which are 1 to 18, and what stands behind them.
 #[tactic(auto, unfolding(crate::specs::Fronts::digits_at))]
-fn digits_of(bytes: &[u8]) -> Option<(u64, &[u8])>
+pub fn digits_of(bytes: &[u8]) -> Option<(u64, &[u8])>
     ensures reads { Reads (λ x. (x.0, x.1.now)) result (digits_at 18 bytes.now) }
     ensures small { IfSome result (λ x. x.0 < 10 ^ 18) }
 {

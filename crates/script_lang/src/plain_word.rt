@@ -1,6 +1,6 @@
 ghost use Rattle.std.specs.Prelude.{◌≡◌, option_map};
 ghost use Rattle.std.specs.List.{list_all};
-ghost use Rattle.script_lang.specs.Commands.{is_plain_byte, is_plain, plain_of};
+ghost use Rattle.script_lang.specs.Words.{is_plain_byte, is_plain, plain_of};
 ghost use Rattle.script_lang.specs.Scripts.{whole_identifier};
 ghost use Rattle.script_lang.specs.Answers.{Reads};
 

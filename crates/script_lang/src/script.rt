@@ -2,12 +2,12 @@ ghost use Rattle.std.specs.Prelude.{IfOk};
 ghost use Rattle.script_lang.specs.Scripts.{finished, plain_script_of, AreLoaded};
 ghost use Rattle.script_lang.specs.Answers.{GivesScript};
 
-use crate::command::Command;
 use crate::draft::{Draft, after_lines};
 use crate::fault::ScriptFault;
 use crate::lines::lines_of;
 use crate::load::Loads;
 use base_types::Items;
+use expr_clause::Command;
 use std::alloc::Global;
 
 /// Commands, seen as a list.
@@ -17,7 +17,7 @@ pub type Commands = Items<Command>;
 const MOST_LINES: usize = 1000;
 
 /// A script. A command names its frame by the place among the loads.
-#[derive(Debug, Drop)]
+#[derive(Drop)]
 pub struct Script {
     pub loads: Loads,
     pub first: Commands,
@@ -36,9 +36,19 @@ fn finished(draft: Draft) -> Result<Script, ScriptFault>
 /// The plain script of a text.
 ///
 /// Its lines end with LF, at most 1,000, with one space between words: any number of `load FRAME FILE TYPES`, then `first`,
-/// then any number of `write SYM FRAME` and `read SYM`. FRAME is an identifier, distinct among the loads and loaded where it
-/// is written; FILE and SYM are 1 to 32 letters, digits, `_` and `.`; TYPES is 1 to 127 times `int`, joined by commas. Every
-/// other text is BadScript.
+/// then any number of commands, each with its options in any order and each option at most once:
+///
+/// - `write SYM FRAME` and `append SYM FRAME`, with `at=M` and `prune`
+/// - `update SYM FRAME`, with `range=R`, `upsert`, `at=M` and `prune`
+/// - `delete_range SYM range=R`, with `at=M` and `prune`
+/// - `delete SYM`, with `version=N` and numbers joined by commas
+/// - `prune SYM`, `reclaim SYM`, `versions SYM` and `keys SYM`
+/// - `read SYM`, with `as_of=A`, `range=R`, and `columns=C` with names joined by commas
+///
+/// FRAME is an identifier, distinct among the loads and loaded where a command has it; FILE and SYM are 1 to 32 letters,
+/// digits, `_` and `.`; TYPES is 1 to 127 times `int`, joined by commas. M is a whole number in 64 bits with its sign, in
+/// nanoseconds since 1970; N has 1 to 18 digits; R is `M..M`, `M..` or `..M`, the first at most the second; A is N, `-N`
+/// with N at least 1, or `time:M`; a column's name is an identifier of at most 255 bytes. Every other text is BadScript.
 pub fn read_script(alloc: Global, bytes: &[u8]) -> Result<Script, ScriptFault>
     ensures script { GivesScript (λ script. script) result (plain_script_of bytes.now) }
     ensures loaded { IfOk result (λ script. AreLoaded script) }

@@ -1,4 +1,6 @@
-use crate::{ColType, Command, CsvFault, RawFrame, ScriptFault, read_frame, read_script};
+use crate::{
+    AsOf, ColType, Command, CsvFault, RawFrame, Script, ScriptFault, read_frame, read_script,
+};
 use frame_core::Column;
 use std::test::Fail;
 
@@ -96,15 +98,31 @@ fn the_worked_script_gives_its_load_and_commands(rt: HostRuntime) -> Result<(), 
     assert!(rt; load.types.items() == [INT, INT].as_slice());
     assert!(rt; script.first.len() == 3);
     match script.first.at(0) {
-        Command::Write { symbol, frame } => {
+        Command::Write {
+            symbol,
+            frame,
+            at,
+            prune,
+        } => {
             assert_eq!(rt; symbol.name().text(), "S");
             assert_eq!(rt; *frame, 0);
+            assert!(rt; at.is_none() && !*prune);
         }
-        Command::Read { .. } => panic!(rt; "no write"),
+        _ => panic!(rt; "no write"),
     }
     match script.first.at(2) {
-        Command::Read { symbol } => assert_eq!(rt; symbol.name().text(), "X"),
-        Command::Write { .. } => panic!(rt; "no read"),
+        Command::Read {
+            symbol,
+            as_of,
+            range,
+            columns,
+        } => {
+            assert_eq!(rt; symbol.name().text(), "X");
+            assert!(rt; matches!(as_of, AsOf::Back(1)));
+            assert!(rt; range.from().is_none() && range.to().is_none());
+            assert!(rt; columns.is_none());
+        }
+        _ => panic!(rt; "no read"),
     }
     Ok(())
 }
@@ -147,9 +165,7 @@ fn each_script_outside_its_form_is_bad(rt: HostRuntime) {
         b"load  t t.csv int\nfirst\n",
         b"load t t.csv int\nfirst\nwrite  S t\n",
         b"load t t.csv int\nfirst\nwrite S u\n",
-        b"load t t.csv int\nfirst\nwrite S t at=5\n",
         b"first\nread a-b\n",
-        b"first\nread S as_of=0\n",
         b"first\nread aaaaaaaaaaaaaaaaaaaaaaaaaaaaaaaaa\n",
         b"first\nwrote S t\n",
         b"first\n# read S\n",
@@ -159,6 +175,172 @@ fn each_script_outside_its_form_is_bad(rt: HostRuntime) {
         assert!(rt;
             matches!(answer, Err(ScriptFault::BadScript)),
             "script {place}"
+        );
+    }
+}
+
+/// The script of this command behind the loads of `s` and `t`.
+fn script_of_command(rt: &HostRuntime, line: &[u8]) -> Result<Script, ScriptFault> {
+    let mut text = Vec::new(rt.alloc());
+    for part in [
+        b"load s s.csv int\nload t t.csv int\nfirst\n".as_slice(),
+        line,
+        b"\n",
+    ] {
+        if text.extend_from_slice(part).is_err() {
+            return Err(ScriptFault::NoMemory);
+        }
+    }
+    read_script(rt.alloc(), text.as_slice())
+}
+
+#[test]
+fn each_command_takes_its_options_in_any_order(rt: HostRuntime) {
+    let lines = [
+        b"write S t at=50".as_slice(),
+        b"write S t at=60 prune",
+        b"write S t prune at=-0",
+        b"append S t",
+        b"append S t prune at=-9223372036854775808",
+        b"append S t at=0009223372036854775807",
+        b"update S t",
+        b"update S t range=2..10",
+        b"update X t upsert",
+        b"update S t prune at=7 upsert range=..-3",
+        b"update S t range=5..",
+        b"delete_range S range=2..4",
+        b"delete_range S range=4..4 prune at=1",
+        b"delete S",
+        b"delete S version=0",
+        b"delete S version=1,000000000000000002,1",
+        b"prune S",
+        b"reclaim S",
+        b"versions S",
+        b"keys S",
+        b"read S as_of=7",
+        b"read S as_of=0",
+        b"read S as_of=-2",
+        b"read S as_of=time:-49",
+        b"read S range=9..9 columns=price",
+        b"read S columns=price,size,_x9 as_of=-1 range=..-7",
+    ];
+    for (place, line) in lines.iter().enumerate() {
+        assert!(rt; script_of_command(&rt, line).is_ok(), "line {place}");
+    }
+}
+
+#[test]
+fn the_options_give_their_values(rt: HostRuntime) -> Result<(), Fail> {
+    let text = b"load s s.csv int\nload t t.csv int\nfirst\n\
+        append S t prune at=-5\n\
+        update S s upsert range=-3..10\n\
+        delete S version=4,0\n\
+        read S columns=price,size range=..9 as_of=time:55\n\
+        read S as_of=-2\n";
+    let Ok(script) = read_script(rt.alloc(), text.as_slice()) else {
+        panic!(rt; "no script");
+    };
+    assert!(rt; script.first.len() == 5);
+    match script.first.at(0) {
+        Command::Append {
+            frame,
+            at,
+            prune,
+            ..
+        } => assert!(rt; *frame == 1 && *at == Some(-5) && *prune),
+        _ => panic!(rt; "no append"),
+    }
+    match script.first.at(1) {
+        Command::Update {
+            range: Some(range),
+            upsert,
+            at,
+            prune,
+            ..
+        } => {
+            assert!(rt; range.from() == Some(-3) && range.to() == Some(10));
+            assert!(rt; *upsert && at.is_none() && !*prune);
+        }
+        _ => panic!(rt; "no update"),
+    }
+    match script.first.at(2) {
+        Command::Delete {
+            versions: Some(versions),
+            ..
+        } => assert!(rt; versions.items() == [4, 0].as_slice()),
+        _ => panic!(rt; "no delete"),
+    }
+    match script.first.at(3) {
+        Command::Read {
+            as_of,
+            range,
+            columns: Some(columns),
+            ..
+        } => {
+            assert!(rt; matches!(as_of, AsOf::Moment(55)));
+            assert!(rt; range.from().is_none() && range.to() == Some(9));
+            assert!(rt; columns.len() == 2);
+            assert_eq!(rt; columns.at(1).text(), "size");
+        }
+        _ => panic!(rt; "no read"),
+    }
+    match script.first.at(4) {
+        Command::Read { as_of, .. } => assert!(rt; matches!(as_of, AsOf::Back(2))),
+        _ => panic!(rt; "no read"),
+    }
+    Ok(())
+}
+
+#[test]
+fn each_command_outside_its_form_is_bad(rt: HostRuntime) {
+    let lines = [
+        b"write S t at=5 at=5".as_slice(),
+        b"write S t prune prune",
+        b"write S t prune=",
+        b"write S t at",
+        b"write S t at=",
+        b"write S t at=-",
+        b"write S t at=+5",
+        b"write S t at=9223372036854775808",
+        b"write S t at=-9223372036854775809",
+        b"write S t at=2024-01-02",
+        b"write S t upsert",
+        b"write S t  prune",
+        b"append S u",
+        b"append S",
+        b"append t S",
+        b"update S t range=5..3",
+        b"update S t range=..",
+        b"update S t range=5",
+        b"update S t range=1..2 range=1..2",
+        b"update S t columns=price",
+        b"delete_range S",
+        b"delete_range S prune range=2..4",
+        b"delete_range S range=1...4",
+        b"delete S version=",
+        b"delete S version=-1",
+        b"delete S version=1,,2",
+        b"delete S version=1234567890123456789",
+        b"delete S version=1 version=2",
+        b"prune",
+        b"prune S S",
+        b"keys S at=5",
+        b"read S as_of=-0",
+        b"read S as_of=snap:k",
+        b"read S as_of=time:",
+        b"read S columns=",
+        b"read S columns=price,true",
+        b"read S columns=`price`",
+        b"read S prune",
+        b"read S |> date_range 1..2",
+        b"stage S t",
+        b"symbols",
+    ];
+    for (place, line) in lines.iter().enumerate() {
+        let answer = script_of_command(&rt, line);
+        assert!(rt;
+            matches!(answer, Err(ScriptFault::BadScript)),
+            "line {place}"
         );
     }
 }

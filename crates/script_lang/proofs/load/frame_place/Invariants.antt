@@ -1,7 +1,7 @@
 use Rattle.std.proofs.Common.{◌≡◌, drop}
 use Rattle.std.specs.List.{position_from}
 use Rattle.frame_core.specs.Texts.{same_text}
-use Rattle.script_lang.specs.Commands.{frame_of}
+use Rattle.script_lang.specs.Words.{frame_of}
 use Rattle.script_lang.specs.Scripts.{frame_names}
 use Rattle.script_lang.proofs.load.frame_place.Given as goal
 

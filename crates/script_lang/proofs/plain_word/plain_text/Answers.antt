@@ -1,5 +1,5 @@
 use Rattle.std.proofs.Common.{◌≡◌, true, sym, ◌∙◌}
-use Rattle.script_lang.specs.Commands.{is_plain}
+use Rattle.script_lang.specs.Words.{is_plain}
 use Rattle.script_lang.proofs.Words.{is_plain-utf8}
 use Rattle.script_lang.proofs.plain_word.plain_text.Goals as goal
 
