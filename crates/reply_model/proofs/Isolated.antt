@@ -44,7 +44,7 @@ use Rattle.reply_model.proofs.Quiet.{is_plain, Quiet, others_unnamed, state_kept
 -- ---- answers by the state alone
 
 -- what a read answers of a version
-abbrev whole : Version → Range → Option (List Text) → Result Answer Refusal
+abbrev pub whole : Version → Range → Option (List Text) → Result Answer Refusal
 whole v range columns = ask v.frame range columns then λ f. Ok (record { outcome = outcomes.Whole v.number f; marks = [] })
 
 some_name : (a b : Name) → Some a ≡ Some b → a ≡ b
@@ -93,11 +93,11 @@ answer_same s list other l m p q commands.Snapshots symbol plain named snap list
 -- ---- the clauses of a plain command
 
 -- a try met another's Refer
-abbrev Met : History → Client → Command → Reply → Window → Type 0
+abbrev pub Met : History → Client → Command → Reply → Window → Type 0
 Met h client c reply w = (symbol : Name) × (now : ℕ) × MeetsOn h c reply symbol × IsMoved h client.session symbol now reply.place w
 
 -- a version that was read is gone
-abbrev Gone : History → Command → Reply → Window → Type 0
+abbrev pub Gone : History → Command → Reply → Window → Type 0
 Gone h (commands.Read symbol as_of range columns) reply w = (number : ℕ) × IsVersionGone h symbol as_of number reply.place w
 Gone h c reply w = ⊥
 
@@ -124,13 +124,13 @@ plain_ok h client commands.Symbols reply w o plain l = absurd (true≢false (sym
 plain_ok h client commands.Snapshots reply w o plain l = absurd (true≢false (sym plain))
 plain_ok h client c reply w o plain l = l
 
-plain_outcome : (h : History) (client : Client) (c : Command) (reply : Reply) (w : Window) (o : Outcome) → is_plain c ≡ true → is_cut o ≡ false → IsLegalOutcome h client c reply w o
+pub plain_outcome : (h : History) (client : Client) (c : Command) (reply : Reply) (w : Window) (o : Outcome) → is_plain c ≡ true → is_cut o ≡ false → IsLegalOutcome h client c reply w o
     → Met h client c reply w ⊎ Gone h c reply w ⊎ IsAnswer h client c reply
 plain_outcome h client c reply w (outcomes.Refused why) plain cut l = plain_refusal h client c reply w why plain cut l
 plain_outcome h client c reply w o plain cut l = inr (inr (plain_ok h client c reply w o plain l))
 
 -- what is not cut is no failure of the store
-uncut_is_no_fault : (o : Outcome) → is_cut o ≡ false → is_store_fault o ≡ false
+pub uncut_is_no_fault : (o : Outcome) → is_cut o ≡ false → is_store_fault o ≡ false
 uncut_is_no_fault (outcomes.Refused refusals.StoreFault) cut = absurd (true≢false cut)
 uncut_is_no_fault (outcomes.Refused why) cut = refl
 uncut_is_no_fault o cut = refl
@@ -138,7 +138,7 @@ uncut_is_no_fault o cut = refl
 -- ---- a version that was read is live
 
 -- through a snapshot
-abbrev reads_snapshot_as : AsOf → Bool
+abbrev pub reads_snapshot_as : AsOf → Bool
 reads_snapshot_as (moments.Snapshot name) = true
 reads_snapshot_as as_of = false
 
@@ -175,7 +175,7 @@ found_of st asked o v e = elim (not st.has_reference) as (λ b. refuse_if b refu
 live_is_not_buried : (st : State) (v : Version) → Contains (live_versions st) v → is_buried st v.number ≡ false
 live_is_not_buried st v there = not-true (is_buried st v.number) (filter_in (λ (x : Version). not (is_buried st x.number)) st.versions v there).1
 
-read_is_live : (l : Library) (symbol : Name) (as_of : AsOf) (v : Version) → reads_snapshot_as as_of ≡ false → read_version l symbol as_of ≡ Ok v → is_buried (l.state symbol) v.number ≡ false
+pub read_is_live : (l : Library) (symbol : Name) (as_of : AsOf) (v : Version) → reads_snapshot_as as_of ≡ false → read_version l symbol as_of ≡ Ok v → is_buried (l.state symbol) v.number ≡ false
 read_is_live l symbol (moments.Back zero) v snap e = absurd (none_is_not_some v (found_of (l.state symbol) (asks.Back 0) None v e))
   where
     none_is_not_some : (v : Version) → None ≡ Some v → ⊥
@@ -199,7 +199,7 @@ record Alone (h : History) (client : Client) (c : Command) (reply : Reply) (w : 
   legal : IsLegalSeen h client c reply w
   alone : IsAlone h client.session.client symbol w
 
-own_events_are : (h : History) (s : Session) (c : Command) (reply : Reply) (w : Window) → HasOwnEvents h s c reply w → is_cut reply.outcome ≡ false → IsOwn h s w c reply (is_done reply) (own_events h s.client w)
+pub own_events_are : (h : History) (s : Session) (c : Command) (reply : Reply) (w : Window) → HasOwnEvents h s c reply w → is_cut reply.outcome ≡ false → IsOwn h s w c reply (is_done reply) (own_events h s.client w)
 own_events_are h s c reply w o cut =
     subst (λ b. MatchBool b (IsBeginning (IsOwn h s w c reply true) (own_events h s.client w) ⊎ IsBeginning (IsOwn h s w c reply false) (own_events h s.client w))
     (IsOwn h s w c reply (is_done reply) (own_events h s.client w))) cut o.events
@@ -251,7 +251,7 @@ answer_before h client c reply w symbol q a first last none =
     (staged_kept h client.session.client symbol w (listed_at reply) (quiet_of h client c reply w symbol a) list.0 (omega (arith, list.1, end)))
     (state_before h client c reply w symbol q a first (omega (arith, last, end)) none)
 
-some_answer : (x y : Answer) → Some x ≡ Some y → x ≡ y
+pub some_answer : (x y : Answer) → Some x ≡ Some y → x ≡ y
 some_answer x y e = cc
 
 -- an answer is that of the window's beginning

@@ -43,7 +43,7 @@ touches symbol (events.Put client key body) = same_kind key.kind kinds.Staged &&
 touches symbol (events.Refer client s was entry list) = same_name s symbol
 touches symbol e = false
 
-untouched : (symbol : Name) (e : Event) (h : History) → touches symbol e ≡ false → state_of (e ∷ h) symbol ≡ state_of h symbol
+pub untouched : (symbol : Name) (e : Event) (h : History) → touches symbol e ≡ false → state_of (e ∷ h) symbol ≡ state_of h symbol
 untouched symbol (events.Put client key body) h still =
     ap (λ b. record (state_of h symbol) { staged = cond b (piece_of key (read_of (segment_of body))) [] ++ (state_of h symbol).staged }) still
 untouched symbol (events.Refer client s was entry list) h still = ap (λ b. cond b (after_changes (state_of h symbol) list) (state_of h symbol)) still
@@ -72,7 +72,7 @@ not_with : (a b : Bool) → b ≡ false → (a && b) ≡ false
 not_with true b e = e
 not_with false b e = refl
 
-not_first : (a b : Bool) → a ≡ false → (a && b) ≡ false
+pub not_first : (a b : Bool) → a ≡ false → (a && b) ≡ false
 not_first a b e = ap (λ x. x && b) e
 
 -- an event that does not name the symbol does not change its state
