@@ -1,0 +1,24 @@
+-- What the steps that bring a frame answer.
+--     BringsTable         a session that brings raw columns as one of its frames, with its client, tries and stamp
+--     IsLegalWriteOf      the reply of a write of raw columns is legal for each such session
+use Rattle.std.specs.Prelude.{◌≡◌, ℕ, ℤ, Bool, true, length, slice_get, Option, Some}
+use Rattle.base_types.specs.Faults.{Rose}
+use Rattle.frame_core.specs.RawFrames.{Table}
+use Rattle.key_kind.specs.Names.{Name}
+use Rattle.bucket_core.specs.History.{History}
+use Rattle.expr_clause.specs.declared.command.Command.TheVariants as commands
+use Rattle.reply_model.specs.declared.reply.Reply.{Reply}
+use Rattle.reply_model.specs.Answering.{Session, stamp_of}
+use Rattle.library_api.specs.Steps.{IsLegalIn}
+
+-- a session of this client, with so many tries, whose frame n is this table; a command of it that asks for this stamp has that one
+pub record BringsTable (s : Session) (client tries n : ℕ) (table : Table) (asked : Option ℤ) (at : ℤ) : Type 0 where
+  pub client_is : s.client ≡ client
+  pub tries_are : s.tries ≡ tries
+  pub table_is : slice_get s.frames n ≡ Some table
+  pub stamp_is : stamp_of s asked ≡ at
+
+-- for each session that brings the table the reply of its write is legal
+abbrev pub IsLegalWriteOf : ℕ → ℕ → ℕ → Name → Table → ℤ → Bool → ℕ → ℕ → History → History → Reply → Type 0
+IsLegalWriteOf limit client tries symbol table at prune before now old new reply =
+    (s : Session) (n : ℕ) (asked : Option ℤ) → BringsTable s client tries n table asked at → IsLegalIn (record { session = s; limit = limit }) before now old new (commands.Write symbol n asked prune) reply
