@@ -6,7 +6,6 @@ use Rattle.std.specs.Str.{is_utf8, chars}
 use lib.Utf8.{encode}
 use Rattle.frame_core.specs.Ranges.{Range}
 use Rattle.frame_core.specs.declared.part.Part.{Part}
-use Rattle.frame_core.specs.declared.column.Column.TheVariants as columns
 use Rattle.frame_core.specs.declared.cell.ColType.TheVariants as types
 use Rattle.frame_core.specs.declared.cell.Cell.TheVariants as cells
 use Rattle.frame_core.specs.RawFrames.{Table}

@@ -24,7 +24,7 @@ use Rattle.reply_model.specs.Answering.{Session, frame_of}
 use Rattle.reply_model.specs.Windows.{Client, is_refused, is_cut}
 use Rattle.reply_model.specs.Legal.{IsLegalReply}
 use Rattle.reply_model.specs.Blocks.{Cutting}
-use Rattle.reply_model.specs.Sole.{Alone, SoleRun, step_alone, alone, sole}
+use Rattle.reply_model.specs.Sole.{Alone, step_alone, alone, sole}
 
 -- ---- where a run stands
 

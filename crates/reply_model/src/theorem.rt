@@ -1,5 +1,6 @@
 ghost use Rattle.reply_model.specs.Legal.{LegalStays};
 ghost use Rattle.reply_model.specs.Runs.{LegalIsIsolated, RefusedHarmsNothing, RefusedReleases};
+ghost use Rattle.reply_model.specs.Standing.{LegalAloneSteps, RunsAreSole, RunsGrow};
 
 /// Replies that are legal in a history are legal in each longer one.
 pub fn legal_replies_stay_legal()
@@ -17,4 +18,16 @@ pub fn refused_commands_change_nothing()
 /// others in the window names the symbol, each legal reply has that outcome, want of memory, failures and a full store aside.
 pub fn commands_are_isolated()
     ensures { LegalIsIsolated }
+{}
+
+/// In a window without events of others each legal reply is the one that the fold of one client alone gives, and the history behind it
+/// is where the fold then stands: for the commands that are served, want of memory, failures and a full store aside.
+pub fn legal_replies_alone_are_sole()
+    ensures { LegalAloneSteps }
+{}
+
+/// Such steps make runs, one command after another; and a run from the empty history is that of one client alone.
+pub fn runs_alone_are_sole()
+    ensures grow { RunsGrow }
+    ensures sole { RunsAreSole }
 {}
