@@ -2,3 +2,9 @@ pub mod Lines
 pub mod Commas
 pub mod Prints
 pub mod Shown
+pub mod Digits
+pub mod WordPairs
+pub mod Loading
+pub mod Performing
+pub mod Running
+pub mod Ended

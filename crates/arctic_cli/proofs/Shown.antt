@@ -2,6 +2,7 @@
 use Rattle.std.proofs.Common.{◌≡◌, true, false, ℕ, zero, suc, ◌+◌, List, [], ◌∷◌, ◌++◌, length, map, Option, Some, refl, sym, ap, ◌∙◌, arith}
 use Rattle.std.specs.Prelude.{◌==◌, slice_get, option_map, codes}
 use Rattle.std.specs.List.{concat, join_with_byte}
+use Rattle.std.proofs.lemmas.Bool.{true≢false, ne_eqb}
 use Rattle.std.proofs.lemmas.List.{append-nil}
 use Rattle.std.proofs.lemmas.List.Folds.{concat-append}
 use Rattle.frame_core.specs.Texts.{Text}
@@ -51,12 +52,12 @@ length-reply_texts who k (r ∷ replies) = omega (arith, length-reply_texts who 
 pub left-none : (symbols : List Text) → true ≡ (length symbols == 0) → left_text symbols ≡ []
 unfolding left_text
 left-none [] none = refl
-left-none (symbol ∷ more) none = absurd cc
+left-none (symbol ∷ more) none = absurd (true≢false (none ∙ ne_eqb (suc (length more)) 0 (λ e. absurd (omega (arith, e)))))
 
 -- there are some
 pub left-some : (symbols : List Text) → false ≡ (length symbols == 0) → left_text symbols ≡ codes " left=" ++ join_with_byte 44 symbols
 unfolding left_text
-left-some [] some = absurd cc
+left-some [] some = absurd (true≢false (sym some))
 left-some (symbol ∷ more) some = refl
 
 -- ---- the transcript

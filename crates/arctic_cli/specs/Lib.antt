@@ -1,4 +1,8 @@
+pub mod CommandLine
 pub mod FrameText
 pub mod Transcript
-pub mod Endings
 pub mod Program
+pub mod Causes
+pub mod Performing
+pub mod Endings
+pub mod Preparing

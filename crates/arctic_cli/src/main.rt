@@ -4,17 +4,50 @@
 mod frame_lines;
 mod line;
 mod outcome_text;
+mod perform;
+mod prepare;
 mod print;
 mod reply_line;
+mod run;
 mod stop;
+#[cfg(test)]
+mod tests;
+mod words;
 
-use program_edge::OutSink;
+use bucket_core::PlainBucket;
+use program_edge::{FileShelf, HostClock, OutSink};
+use run::run;
+use std::env;
 use std::process::ExitCode;
 
+/// The number of the program's client.
+const CLIENT: u32 = 1;
+
+/// The program's store takes so many events.
+const LIMIT: u64 = 1 << 40;
+
 fn main(rt: HostRuntime) -> anyhow::Result<ExitCode> {
+    let mut words = Vec::new(rt.alloc());
+    for word in env::args(&rt)?.skip(1) {
+        words.push(word)?;
+    }
+    let Ok(bucket) = PlainBucket::make(rt.alloc(), CLIENT, LIMIT) else {
+        return Ok(ExitCode::from(6));
+    };
+    let mut shelf = FileShelf::make(&rt);
     let mut out = OutSink::make(&rt);
+    let mut clock = HostClock::make(&rt);
+    let ran = run(
+        &rt,
+        rt.alloc(),
+        &words,
+        &mut shelf,
+        &mut out,
+        &mut clock,
+        bucket,
+    );
     match out.finish() {
-        Ok(()) => Ok(ExitCode::from(0)),
+        Ok(()) => Ok(ExitCode::from(ran.status)),
         Err(_) => Ok(ExitCode::from(5)),
     }
 }

@@ -1,0 +1,32 @@
+-- What carrying out commands leaves.
+--     AreNamed                the frames that commands name are there
+--     talk_of                 the commands of one client, its replies and windows
+--     IsCarriedOut            the replies are legal in the history that goes on from an older one
+use Rattle.std.specs.Prelude.{◌≡◌, ℕ, List, [], ◌∷◌, ◌++◌, length}
+use Rattle.std.specs.List.{AllByRecursion}
+use Rattle.bucket_core.specs.History.{History}
+use Rattle.store_model.specs.Law.{IsLawful}
+use Rattle.expr_clause.specs.declared.command.Command.{Command}
+use Rattle.reply_model.specs.declared.reply.Reply.{Reply}
+use Rattle.reply_model.specs.Windows.{Window, Client}
+use Rattle.reply_model.specs.Runs.{Talk, IsLegalTalk, HasNoFault, AllCovered}
+use Rattle.script_lang.specs.Scripts.{IsLoaded}
+
+-- the commands are of the plain form, and the frames that they name are among so many
+abbrev pub AreNamed : ℕ → List Command → Type 0
+AreNamed count = AllByRecursion (IsLoaded count)
+
+-- the commands of one client, with its replies and windows
+abbrev pub talk_of : Client → List Command → List Reply → List Window → Talk
+talk_of client commands replies windows = record { client = client; commands = commands; replies = replies; windows = windows }
+
+-- the history goes on lawfully from an older one; there is a reply and a window for each command, in order, and each reply is legal for
+-- its window; each added event lies in a window; and no call of the store failed
+pub record IsCarriedOut (client : Client) (commands : List Command) (replies : List Reply) (old new : History) : Type 0 where
+  pub more : History
+  pub goes_on : new ≡ more ++ old
+  pub lawful : IsLawful old → IsLawful new
+  pub windows : List Window
+  pub legal : IsLegalTalk new (length old) (talk_of client commands replies windows)
+  pub covered : AllCovered new (length old) (talk_of client commands replies windows ∷ [])
+  pub no_fault : HasNoFault (talk_of client commands replies windows)

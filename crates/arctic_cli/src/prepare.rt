@@ -1,0 +1,117 @@
+ghost use Rattle.std.specs.Prelude.{◌≡◌, ◌≤◌, length, map, string_bytes, IfOk, IfErr};
+ghost use Rattle.std.specs.List.{AllZip};
+ghost use Rattle.frame_core.specs.RawFrames.{table_of};
+ghost use Rattle.script_lang.specs.Scripts.{AreLoaded};
+ghost use Rattle.arctic_cli.specs.CommandLine.{IsTries};
+ghost use Rattle.arctic_cli.specs.Causes.{HeldAs, GivesTable};
+ghost use Rattle.arctic_cli.specs.Preparing.{FetchHalts, LoadHalts, LoadsHalt, ScriptHalts, FindsJob, PlanIs};
+ghost use Rattle.arctic_cli.specs.Performing.{AreNamed};
+
+use crate::stop::{Halt, Stop};
+use crate::words::{Options, read_words};
+use base_types::{Items, Keep, Text};
+use frame_core::RawFrame;
+use program_edge::{Shelf, ShelfErr};
+use script_lang::{Commands, CsvFault, Load, Script, ScriptFault, read_frame, read_script};
+use std::alloc::Global;
+
+/// Raw frames, seen as a list.
+pub type RawFrames = Items<RawFrame>;
+
+/// What a run is to do: how, the commands, and the raw frames that they name by their places.
+#[derive(Drop)]
+pub struct Plan {
+    pub options: Options,
+    pub commands: Commands,
+    pub frames: RawFrames,
+}
+
+/// The bytes of a file.
+fn fetch_file<F: Shelf>(alloc: Global, shelf: &mut F, name: &str) -> Result<Vec<u8>, Halt>
+    ensures held { IfOk result (λ bytes. HeldAs (F.holds shelf.old) name.now bytes.items) }
+    ensures halts { IfErr result (FetchHalts (F.holds shelf.old) (F.faults shelf.old) (F.faults shelf.new) name.now) }
+    ensures same { F.holds shelf.new ≡ F.holds shelf.old }
+    ensures never_falls { F.faults shelf.old ≤ F.faults shelf.new }
+{
+    let mut bytes = Vec::new(alloc);
+    match shelf.fetch(name, &mut bytes) {
+        Ok(()) => Ok(bytes),
+        Err(ShelfErr::NoMemory) => Err(Halt::NoMemory),
+        Err(_) => Err(Halt::Stop(Stop::Unreadable(Text::make(alloc, name)?))),
+    }
+}
+
+/// The script that the words name, and the options that they say.
+fn find_script<F: Shelf>(
+    alloc: Global,
+    words: &[String],
+    shelf: &mut F,
+) -> Result<(Script, Options), Halt>
+    ensures found { IfOk result (λ x. FindsJob (F.holds shelf.old) (map string_bytes words.now) x.0 x.1) }
+    ensures placed { IfOk result (λ x. AreLoaded x.0) }
+    ensures tries { IfOk result (λ x. IsTries x.1.tries) }
+    ensures halts { IfErr result (ScriptHalts (F.holds shelf.old) (F.faults shelf.old) (F.faults shelf.new) (map string_bytes words.now)) }
+    ensures same { F.holds shelf.new ≡ F.holds shelf.old }
+    ensures never_falls { F.faults shelf.old ≤ F.faults shelf.new }
+{
+    let Some((name, options)) = read_words(words) else {
+        return Err(Halt::Stop(Stop::Usage));
+    };
+    let bytes = fetch_file(alloc, shelf, name)?;
+    match read_script(alloc, bytes.as_slice()) {
+        Ok(script) => Ok((script, options)),
+        Err(ScriptFault::BadScript) => Err(Halt::Stop(Stop::BadScript)),
+        Err(ScriptFault::NoMemory) => Err(Halt::NoMemory),
+    }
+}
+
+/// The raw frame of a load.
+fn load_frame<F: Shelf>(alloc: Global, shelf: &mut F, load: &Load) -> Result<RawFrame, Halt>
+    ensures loaded { IfOk result (λ raw. GivesTable (F.holds shelf.old) load.now (table_of raw)) }
+    ensures halts { IfErr result (LoadHalts (F.holds shelf.old) (F.faults shelf.old) (F.faults shelf.new) load.now) }
+    ensures same { F.holds shelf.new ≡ F.holds shelf.old }
+    ensures never_falls { F.faults shelf.old ≤ F.faults shelf.new }
+{
+    let bytes = fetch_file(alloc, shelf, load.file.text())?;
+    match read_frame(alloc, load.types.items(), bytes.as_slice()) {
+        Ok(raw) => Ok(raw),
+        Err(CsvFault::BadCsv) => Err(Halt::Stop(Stop::BadFile(load.file.copy(alloc)?))),
+        Err(CsvFault::NoMemory) => Err(Halt::NoMemory),
+    }
+}
+
+/// The raw frames of the loads, fetched and read one after another.
+fn load_frames<F: Shelf>(alloc: Global, shelf: &mut F, loads: &[Load]) -> Result<RawFrames, Halt>
+    ensures loaded { IfOk result (λ frames. AllZip (GivesTable (F.holds shelf.old)) loads.now (map table_of frames)) }
+    ensures halts { IfErr result (LoadsHalt (F.holds shelf.old) (F.faults shelf.old) (F.faults shelf.new) loads.now) }
+    ensures same { F.holds shelf.new ≡ F.holds shelf.old }
+    ensures never_falls { F.faults shelf.old ≤ F.faults shelf.new }
+{
+    let mut frames = Items::new(alloc);
+    for load in loads {
+        match load_frame(alloc, shelf, load) {
+            Ok(frame) => frames.push(frame)?,
+            Err(halt) => return Err(halt),
+        }
+    }
+    Ok(frames)
+}
+
+/// Reads the words, fetches and reads the script that they name, and then each loaded file in order.
+pub fn prepare<F: Shelf>(alloc: Global, words: &[String], shelf: &mut F) -> Result<Plan, Halt>
+    ensures plan { PlanIs (F.holds shelf.old) (F.faults shelf.old) (F.faults shelf.new) (map string_bytes words.now) result }
+    ensures tries { IfOk result (λ plan. IsTries plan.options.tries) }
+    ensures placed { IfOk result (λ plan. AreNamed (length plan.frames) plan.commands) }
+    ensures same { F.holds shelf.new ≡ F.holds shelf.old }
+    ensures never_falls { F.faults shelf.old ≤ F.faults shelf.new }
+{
+    let (script, options) = find_script(alloc, words, shelf)?;
+    match load_frames(alloc, shelf, script.loads.items()) {
+        Ok(frames) => Ok(Plan {
+            options,
+            commands: script.first,
+            frames,
+        }),
+        Err(halt) => Err(halt),
+    }
+}
