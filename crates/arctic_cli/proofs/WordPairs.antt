@@ -19,7 +19,7 @@ given-behind f name (a ∷ b ∷ xs) x le is other = ap (λ (ys : List _). value
 
 -- the first option and those behind it
 pub options-behind : {S : Type 0} (a : Allowed) (f : S → Text) (xs : List S) (x y : S) → 2 ≤ length xs → x ≡ get_or xs 0 x → y ≡ get_or xs 1 y →
-    are_options a (map f xs) ≡ 
+    are_options a (map f xs) ≡
     (is_option a (f x) (f y) && is_none (value_given (f x) (map f (take (length xs - 2) (drop 2 xs)))) && are_options a (map f (take (length xs - 2) (drop 2 xs))))
 options-behind a f [] x y le is at = absurd (omega (arith, le))
 options-behind a f (p ∷ []) x y le is at = absurd (omega (arith, le))

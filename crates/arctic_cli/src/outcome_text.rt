@@ -37,12 +37,7 @@ fn push_ok_version_field(
 
 /// Adds what was done, and a field.
 #[tactic(auto, using(crate::proofs::Lines::lines))]
-fn push_count(
-    line: &mut Vec<u8>,
-    done: &str,
-    name: &str,
-    number: u64,
-) -> Result<(), NoMemory>
+fn push_count(line: &mut Vec<u8>, done: &str, name: &str, number: u64) -> Result<(), NoMemory>
     ensures { OnOk result (line.new.items ≡ line.old.items ++ (done.now ++ field name.now number)) }
 {
     push_text(line, done)?;
@@ -51,12 +46,7 @@ fn push_count(
 
 /// Adds how many keys were dropped.
 #[tactic(auto, using(crate::proofs::Lines::lines))]
-fn push_freed(
-    line: &mut Vec<u8>,
-    tiles: u64,
-    indexes: u64,
-    staged: u64,
-) -> Result<(), NoMemory>
+fn push_freed(line: &mut Vec<u8>, tiles: u64, indexes: u64, staged: u64) -> Result<(), NoMemory>
     ensures { OnOk result (line.new.items ≡ line.old.items ++ (codes "ok freed" ++ field (codes "data") tiles ++ field (codes "index") indexes ++ field (codes "staged") staged)) }
 {
     push_text(line, "ok freed")?;

@@ -38,12 +38,7 @@ fn put_made<S: Sink>(out: &mut S, line: Result<Vec<u8>, NoMemory>) -> Result<(),
 }
 
 /// Puts a row, counted from 0. The line is used again for each.
-fn put_row<S: Sink>(
-    out: &mut S,
-    line: &mut Vec<u8>,
-    frame: &Frame,
-    row: u64,
-) -> Result<(), SinkErr>
+fn put_row<S: Sink>(out: &mut S, line: &mut Vec<u8>, frame: &Frame, row: u64) -> Result<(), SinkErr>
     requires { row < length frame.now.rows }
     ensures { (r : Row) → slice_get frame.now.rows row ≡ Some r → Prints S.written S.faults out.old out.new (record_text (row_fields frame.now.schema.timed r)) result }
 {

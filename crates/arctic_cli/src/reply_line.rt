@@ -50,12 +50,7 @@ fn push_left(line: &mut Vec<u8>, left: &[Symbol]) -> Result<(), NoMemory>
 
 /// The line of a reply, to the command of this number of whoever speaks.
 #[tactic(auto, using(crate::proofs::Lines::lines), unfolding(crate::specs::Transcript::reply_line))]
-pub fn reply_line(
-    alloc: Global,
-    who: &str,
-    number: u64,
-    reply: &Reply,
-) -> Result<Vec<u8>, NoMemory>
+pub fn reply_line(alloc: Global, who: &str, number: u64, reply: &Reply) -> Result<Vec<u8>, NoMemory>
     ensures { IfOk result (λ line. line.items ≡ reply_line who.now number reply.now) }
 {
     let mut line = Vec::new(alloc);

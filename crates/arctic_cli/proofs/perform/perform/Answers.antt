@@ -21,7 +21,7 @@ loop-command-init g c = record {
 pub loop-command-preserved : goal.loop-command-preserved
 loop-command-preserved g c =
     let same = same_client c.args.frames.now c.loop-command.library.settings c.args.library.now.settings (g.B.Bucket.number c.loop-command.library.bucket) (g.B.Bucket.number c.args.library.now.bucket) (g.B.Bucket.limit c.loop-command.library.bucket) (g.B.Bucket.limit c.args.library.now.bucket)
-        c.loop-command.invariant.settings c.loop-command.invariant.steady.same_number c.loop-command.invariant.steady.same_limit in
+    c.loop-command.invariant.settings c.loop-command.invariant.steady.same_number c.loop-command.invariant.steady.same_limit in
     record {
       carried_out = subst (λ (rs : List Reply). IsCarriedOut (client_of c.args.frames.now c.args.library.now.settings (g.B.Bucket.number c.args.library.now.bucket) (g.B.Bucket.limit c.args.library.now.bucket)) (take (c.loop-command.command-index + 1) c.args.commands.now) rs (g.B.Bucket.seen c.args.library.now.bucket) (g.B.Bucket.seen c.step-reply.new.self.bucket) ⊎ Rose (g.B.Bucket.faults c.args.library.now.bucket) (g.B.Bucket.faults c.step-reply.new.self.bucket)) (sym c.in-Ok.ensures.items)
           (step_at (client_of c.args.frames.now c.args.library.now.settings (g.B.Bucket.number c.args.library.now.bucket) (g.B.Bucket.limit c.args.library.now.bucket)) c.args.commands.now c.loop-command.command-index c.loop-command.replies.items c.command-item.result c.step-reply.result
