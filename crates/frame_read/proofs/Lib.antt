@@ -11,3 +11,4 @@ pub mod AskLemmas
 pub mod FrameLemmas
 pub mod SliceLemmas
 pub mod WholeLemmas
+pub mod VersionLemmas

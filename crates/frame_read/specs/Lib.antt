@@ -3,3 +3,4 @@ pub mod Fetches
 pub mod TileSets
 pub mod Wholes
 pub mod Gathers
+pub mod Versions

@@ -1,7 +1,8 @@
-//! Reads: which version is asked, and the tiles of its frame in a range.
+//! Reads: which version is asked, the tiles of its frame in a range, and the list of versions.
 #![tactic(auto)]
 
 mod choosing;
+mod counts;
 mod fetching;
 mod gathering;
 mod laws;
@@ -11,6 +12,7 @@ mod target;
 #[cfg(test)]
 mod tests;
 mod tiles;
+mod versions;
 
 pub use base_types::NoMemory;
 pub use choosing::choose;
@@ -20,3 +22,4 @@ pub use objects::index_of;
 pub use resolving::resolve;
 pub use target::Target;
 pub use tiles::{FetchedTile, Tiles};
+pub use versions::{VersionList, list_versions};

@@ -5,7 +5,7 @@ ghost use Rattle.store_model.specs.Law.{IsLawful};
 ghost use Rattle.store_model.specs.Commits.{Rising};
 ghost use Rattle.version_chain.specs.States.{IsStateOf};
 ghost use Rattle.frame_write.specs.Placing.{AreTilesOf, IsElementKey, live_of};
-ghost use Rattle.frame_write.specs.Plans.{IsPlan};
+ghost use Rattle.frame_write.specs.WritePlans.{IsWritePlan};
 
 use crate::elements::{mark_of, place_element};
 use crate::numbers::{buried_by, changes_of, next_version};
@@ -54,7 +54,7 @@ pub(crate) fn plan_write(
     requires tiles { AreTilesOf frame.now options.now.cutting tiles.now }
     requires was { IfSome state.now.was (IsElementKey symbol.now) }
     requires rising { Rising (live_of state.now) }
-    ensures { IfOk result (λ plan. (before : History) → ∥ IsLawful before ∥₁ → IsStateOf before symbol.now state.now → IsPlan client serial before symbol.now frame.now options.now.at options.now.prune plan) }
+    ensures { IfOk result (λ plan. (before : History) → ∥ IsLawful before ∥₁ → IsStateOf before symbol.now state.now → IsWritePlan client serial before symbol.now frame.now options.now plan) }
 {
     let at = options.stamp();
     let version = next_version(state)?;

@@ -1,8 +1,8 @@
 -- What is asked of the version that a target names: whether columns are refused, and the frame of fetched tiles.
-use Rattle.std.proofs.Common.{◌≡◌, ℕ, suc, ◌≤◌, ℤ, Bool, true, false, List, [], ◌∷◌, ◌++◌, refl, ap, sym, ◌∙◌, subst, Option, Some, None, Result, Ok, Err}
-use Rattle.std.specs.Prelude.{⊤, Contains, ◌≤ℤ◌, pos, FitsSigned}
+use Rattle.std.proofs.Common.{◌≡◌, ℕ, ℤ, Bool, true, List, [], ◌∷◌, refl, ap, sym, ◌∙◌, subst, Option, Some, None, Result, Ok, Err}
+use Rattle.std.specs.Prelude.{Contains, ◌≤ℤ◌, pos, FitsSigned}
 use Rattle.std.specs.Int.{w64}
-use Rattle.std.specs.List.{AllZip, AllByRecursion, list_any}
+use Rattle.std.specs.List.{AllZip, AllByRecursion}
 use mathlib.Core.Logic.{∥∥₁_elim, ∥∥₁_map}
 use mathlib.Core.HLevel.{⊥_prop, ×_prop, Unit-prop}
 use Rattle.std.proofs.Props.{props}
@@ -11,15 +11,13 @@ use Rattle.frame_core.specs.declared.cell.Cell.TheVariants as cells
 use Rattle.frame_core.specs.declared.refusal.Refusal.{Refusal}
 use Rattle.frame_core.specs.declared.refusal.Refusal.TheVariants as refusals
 use Rattle.frame_core.specs.Texts.{Text}
-use Rattle.frame_core.specs.Ranges.{Range, is_within}
+use Rattle.frame_core.specs.Ranges.{Range}
 use Rattle.frame_core.specs.Schemas.{Head, Schema, IsColName}
-use Rattle.frame_core.specs.Frames.{Row, Frame, IsFrame, IsCell, FitsColumns, NeverFall, stamps_of, stamp_at, rows_within, type_of}
+use Rattle.frame_core.specs.Frames.{Row, Frame, IsFrame, IsCell, FitsColumns, NeverFall, stamps_of, rows_within, type_of}
 use Rattle.frame_core.specs.Selecting.{places_of, pick_columns}
-use Rattle.segment_cut.specs.Tiles.{has_row, has_cell}
-use Rattle.key_kind.specs.Names.{Name}
-use Rattle.bucket_core.specs.History.{History, history_at}
+use Rattle.bucket_core.specs.History.{History}
 use Rattle.store_model.specs.Library.{Version, state_of}
-use Rattle.store_model.specs.Links.{Linked, links}
+use Rattle.store_model.specs.Links.{links}
 use Rattle.store_model.specs.Law.{IsLawful}
 use Rattle.store_model.proofs.Lawful.{lawful_is_intact}
 use Rattle.store_model.proofs.Numbering.{versions_numbered}
@@ -27,9 +25,9 @@ use Rattle.reply_model.specs.ReadAnswers.{select_columns, ask}
 use Rattle.frame_read.specs.declared.target.Target.{Target}
 use Rattle.frame_read.specs.declared.tiles.FetchedTile.{FetchedTile}
 use Rattle.frame_read.specs.declared.tiles.Tiles.{Tiles}
-use Rattle.frame_read.specs.TileSets.{is_asked, no_rows, IsAskedSchema, IsFetched}
+use Rattle.frame_read.specs.TileSets.{no_rows, IsAskedSchema, IsFetched}
 use Rattle.frame_read.specs.Fetches.{IsTargetIndex}
-use Rattle.frame_read.specs.Wholes.{HoldsPart, AreTilesOf, HasFrame, FetchedIsFrame}
+use Rattle.frame_read.specs.Wholes.{HoldsPart, AreTilesOf, FetchedIsFrame}
 use Rattle.library_api.proofs.VersionLemmas.{one_of_number, version_of_link}
 
 -- ---- refused columns

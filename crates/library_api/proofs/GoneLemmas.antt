@@ -1,19 +1,17 @@
 -- A version that was read through a snapshot is released only where the snapshot's name was taken away.
-use Rattle.std.proofs.Common.{◌≡◌, ℕ, zero, suc, ◌+◌, ◌-◌, ◌≤◌, Bool, true, false, ◌&&◌, ◌||◌, List, [], ◌∷◌, ◌++◌, length, take, drop, refl, ap, sym, ◌∙◌, subst, inl, inr, cond, nat_eq, Option, Some, None, Result, Ok, Err, arith}
+use Rattle.std.proofs.Common.{◌≡◌, ℕ, zero, suc, ◌-◌, ◌≤◌, Bool, true, false, ◌&&◌, List, [], ◌∷◌, ◌++◌, length, take, refl, ap, sym, ◌∙◌, subst, cond, nat_eq, Option, Some, None, Result, Ok, Err, arith}
 use Rattle.std.specs.Prelude.{Contains, find, is_some, option_map, map}
-use Rattle.std.specs.List.{list_any, AllByRecursion}
+use Rattle.std.specs.List.{list_any}
 use Rattle.std.proofs.lemmas.Bool.{true≢false, and_parts, or_parts, or_from, eqb-true}
 use Rattle.std.proofs.lemmas.List.{take-append-drop}
 use Rattle.std.proofs.lemmas.List.Elements.{All-from_recursion, All-contains}
 use mathlib.Core.Logic.{∥∥₁_elim}
 use mathlib.Core.HLevel.{⊥_prop}
-use denote.Struct.Props.{props}
 use Rattle.byte_fields.specs.Reading.{read_of}
 use Rattle.key_kind.specs.Names.{Name, same_name}
 use Rattle.key_kind.specs.Keys.{snapshot_key, same_holder}
 use Rattle.key_kind.proofs.KeyTests.{same_name_is}
 use Rattle.key_kind.specs.declared.key.Holder.{Holder}
-use Rattle.bucket_core.specs.declared.event.Event.{Event}
 use Rattle.bucket_core.specs.declared.event.Event.TheVariants as events
 use Rattle.bucket_core.specs.History.{History, Bytes, stored, history_at, events_within}
 use Rattle.store_model.specs.declared.snapshot.SnapRow.{SnapRow}
@@ -21,9 +19,9 @@ use Rattle.store_model.specs.declared.snapshot.SnapBody.{SnapBody}
 use Rattle.store_model.specs.ChainText.{snap_of}
 use Rattle.store_model.specs.Library.{State, Version, Hold, state_of, is_held}
 use Rattle.store_model.specs.Holders.{is_held_by, IsHeldRow}
-use Rattle.store_model.specs.Snapshots.{Snapshot, library_of, snap_body, snapshot_from, snapshot_named}
+use Rattle.store_model.specs.Snapshots.{library_of, snap_body, snapshot_from}
 use Rattle.store_model.specs.Law.{IsLawful}
-use Rattle.store_model.proofs.Lawful.{lawful_is_intact, beginning_lawful}
+use Rattle.store_model.proofs.Lawful.{lawful_is_intact}
 use Rattle.store_model.proofs.Standing.{snapshot_stands}
 use Rattle.store_model.proofs.Listing.{lists_agree}
 use Rattle.store_model.proofs.Lists.{contains_first, contains_later, one_passes, passes}
@@ -35,7 +33,6 @@ use Rattle.reply_model.specs.Answering.{◌then◌, or_refuse}
 use Rattle.reply_model.specs.ReadAnswers.{read_version, picked, numbered}
 use Rattle.reply_model.specs.Windows.{unnames}
 use Rattle.reply_model.specs.Causes.{UnnamedUpTo}
-use Rattle.reply_model.proofs.Places.{history_at_end}
 
 -- ---- a name stands until it is taken away
 

@@ -1,9 +1,8 @@
 -- The reply of `keys` is legal.
-use Rattle.std.proofs.Common.{◌≡◌, ℕ, ◌+◌, ◌≤◌, Bool, true, false, ◌&&◌, List, [], ◌∷◌, refl, ap, sym, ◌∙◌, subst, cond, Option, Some, None, length, arith}
+use Rattle.std.proofs.Common.{◌≡◌, ℕ, Bool, true, false, ◌&&◌, List, [], ◌∷◌, refl, ap, sym, ◌∙◌, subst, cond, Some, None, length, arith}
 use Rattle.std.specs.Prelude.{count_by, filter}
 use Rattle.std.proofs.lemmas.Bool.{and_from}
 use Rattle.base_types.specs.Faults.{Rose}
-use Rattle.frame_core.specs.declared.refusal.Refusal.{Refusal}
 use Rattle.frame_core.specs.declared.refusal.Refusal.TheVariants as refusals
 use Rattle.segment_cut.proofs.Lists.{count_by-yes, count_by-no}
 use Rattle.key_kind.specs.declared.key.KeyKind.{KeyKind}

@@ -5,3 +5,6 @@ pub mod GoneLemmas
 pub mod ReadLemmas
 pub mod WriteLemmas
 pub mod KeyLemmas
+pub mod StepLemmas
+pub mod BuryLemmas
+pub mod VersionsLemmas

@@ -1,10 +1,10 @@
 -- A reply to a command of which the client made no event is legal where its place lies in the window and its outcome has its clause.
-use Rattle.std.proofs.Common.{◌≡◌, ℕ, zero, suc, ◌+◌, ◌-◌, ◌≤◌, Bool, true, false, List, [], ◌∷◌, ◌++◌, length, take, refl, ap, sym, ◌∙◌, subst, inl, inr, cond, nat_eq, Option, Some, None, arith, length-append}
+use Rattle.std.proofs.Common.{◌≡◌, ℕ, zero, suc, ◌+◌, ◌-◌, ◌≤◌, Bool, true, false, List, [], ◌∷◌, ◌++◌, length, take, refl, ap, sym, ◌∙◌, subst, inl, inr, cond, nat_eq, Option, None, arith, length-append}
 use Rattle.std.specs.Prelude.{⊤, ◌⊎◌, ◌&&◌, ◌||◌, filter, reverse, MatchBool}
 use Rattle.std.specs.List.{list_any, AllByRecursion}
 use Rattle.std.proofs.lemmas.Bool.{true≢false, ne_eqb}
 use Rattle.bucket_core.specs.declared.event.Event.{Event}
-use Rattle.bucket_core.specs.History.{History, author, history_at, events_within, AllByOthers}
+use Rattle.bucket_core.specs.History.{History, author, history_at, AllByOthers}
 use Rattle.bucket_core.specs.Laws.{Looks}
 use Rattle.store_model.specs.declared.snapshot.SnapBody.{SnapBody}
 use Rattle.store_model.specs.Law.{IsClaimed}

@@ -1,8 +1,8 @@
 -- The replies of a read are legal.
-use Rattle.std.proofs.Common.{◌≡◌, ℕ, suc, ◌+◌, ◌-◌, ◌≤◌, Bool, true, false, List, [], ◌∷◌, ◌++◌, length, take, drop, ◌&&◌, nat_eq, refl, ap, sym, ◌∙◌, subst, inl, inr, Option, Some, None, Result, Ok, Err, arith, length-append}
-use Rattle.std.specs.Prelude.{⊤, Contains}
+use Rattle.std.proofs.Common.{◌≡◌, ℕ, ◌+◌, ◌-◌, ◌≤◌, Bool, true, false, List, [], ◌++◌, length, take, ◌&&◌, nat_eq, refl, ap, sym, ◌∙◌, subst, inl, inr, Option, Some, None, Result, Ok, Err, arith, length-append}
+use Rattle.std.specs.Prelude.{Contains, IfErr}
+use Rattle.std.specs.Result.{IsErr, IsErrAnd}
 use Rattle.std.proofs.lemmas.List.{take-append-drop, length-drop}
-use mathlib.Core.Logic.{∥∥₁_elim, ∥∥₁_map}
 use Rattle.base_types.specs.Faults.{Rose}
 use Rattle.frame_core.specs.declared.refusal.Refusal.{Refusal}
 use Rattle.frame_core.specs.declared.refusal.Refusal.TheVariants as refusals
@@ -10,7 +10,7 @@ use Rattle.frame_core.specs.declared.refusal.Refused.{Refused}
 use Rattle.frame_core.specs.Texts.{Text}
 use Rattle.frame_core.specs.Ranges.{Range}
 use Rattle.frame_core.specs.Frames.{Frame, IsFrame}
-use Rattle.frame_core.specs.Selecting.{select, then_map, places_of, pick_columns}
+use Rattle.frame_core.specs.Selecting.{places_of, pick_columns}
 use Rattle.key_kind.specs.Names.{Name}
 use Rattle.key_kind.specs.Keys.{same_key}
 use Rattle.bucket_core.specs.History.{History, history_at}
@@ -28,28 +28,30 @@ use Rattle.expr_clause.specs.declared.command.Command.{Command}
 use Rattle.expr_clause.specs.declared.command.Command.TheVariants as commands
 use Rattle.reply_model.specs.declared.outcome.Outcome.{Outcome}
 use Rattle.reply_model.specs.declared.outcome.Outcome.TheVariants as outcomes
-use Rattle.reply_model.specs.declared.reply.Reply.{Reply}
 use Rattle.reply_model.specs.Answering.{◌then◌, answered, Answer}
 use Rattle.reply_model.specs.ReadAnswers.{read_version, select_columns, ask}
-use Rattle.reply_model.specs.Windows.{Window, Client, library_at, is_cut}
-use Rattle.reply_model.specs.Causes.{IsVersionGone, UnnamedUpTo}
+use Rattle.reply_model.specs.Windows.{Client, library_at}
 use Rattle.reply_model.specs.Legal.{IsLegalOutcome}
 use Rattle.reply_model.proofs.Later.{history_at_later}
-use Rattle.reply_model.proofs.Places.{history_at_end}
 use Rattle.frame_read.specs.declared.target.Target.{Target}
 use Rattle.frame_read.specs.declared.tiles.Tiles.{Tiles}
-use Rattle.frame_read.specs.Targets.{IsOfNumber, IsChosen, IsTarget, IsResolveRefusal, RefusesResolve}
-use Rattle.frame_read.specs.Fetches.{IsGone, IsGetRefusal, RefusesGet, IsTargetIndex}
+use Rattle.frame_read.specs.Targets.{IsOfNumber, IsTarget, IsResolveRefusal, RefusesResolve}
+use Rattle.frame_read.specs.Fetches.{IsGone, IsGetRefusal}
 use Rattle.frame_read.specs.TileSets.{no_rows, IsFetched, LacksColumn, RefusesFetch}
 use Rattle.frame_read.specs.Wholes.{AreTilesOf, FetchedIsFrame}
 use Rattle.frame_read.specs.Gathers.{AreOfFrame}
 use Rattle.frame_read.proofs.FetchLemmas.{links_later}
 use Rattle.frame_read.proofs.ResolvingLemmas.{lawful_at}
 use Rattle.library_api.specs.Steps.{plain_reply, refusal_reply, IsLegalForAll}
-use Rattle.library_api.proofs.NoEvents.{HasNone, served_has_none, legal_without_events}
+use Rattle.library_api.proofs.NoEvents.{served_has_none, legal_without_events}
 use Rattle.library_api.proofs.VersionLemmas.{version_later, read_is_version}
 use Rattle.library_api.proofs.AskedLemmas.{refused_by_schema, index_schema, fetched_version}
 use Rattle.library_api.proofs.GoneLemmas.{unnamed_up_to}
+
+-- what holds of the error that comes back holds of the result
+pub err_holds : {A E : Type 0} (P : E → Type 0) (r : Result A E) (x : E) → IsErr r → IsErrAnd r (λ y. y ≡ x) → P x → IfErr r P
+err_holds P (Ok a) x is same p = absurd cc
+err_holds P (Err y) x is same p = subst P (sym same) p
 
 module _ (symbol : Name) (as_of : AsOf) (range : Range) (columns : Option (List Text)) where
   abbrev asks : Command
@@ -75,6 +77,10 @@ module _ (symbol : Name) (as_of : AsOf) (range : Range) (columns : Option (List 
     -- memory is wanting
     pub no_memory_legal : (place : ℕ) → IsWithin old new place → IsLegalForAll number before now old new asks (plain_reply place (outcomes.Refused refusals.NoMemory))
     no_memory_legal place within = read_legal place (outcomes.Refused refusals.NoMemory) within (λ client faulted own rose. tt)
+
+    -- at the end of the call
+    pub no_memory_at_end : (place : ℕ) → place ≡ length new → IsLegalForAll number before now old new asks (plain_reply place (outcomes.Refused refusals.NoMemory))
+    no_memory_at_end place here = no_memory_legal place (record { from = omega (arith, here, looks_length number sole old new looks); to = omega (arith, here) })
 
     fault_legal : (place : ℕ) → IsWithin old new place → Rose before now → IsLegalForAll number before now old new asks (plain_reply place (outcomes.Refused refusals.StoreFault))
     fault_legal place within rose = read_legal place (outcomes.Refused refusals.StoreFault) within (λ client faulted own f. f rose)

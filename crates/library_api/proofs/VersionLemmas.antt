@@ -1,8 +1,7 @@
 -- Versions stay, and each number has one.
-use Rattle.std.proofs.Common.{◌≡◌, ℕ, zero, suc, ◌-◌, ◌≤◌, ◌<◌, Bool, true, false, not, List, [], ◌∷◌, ◌++◌, length, drop, refl, ap, sym, ◌∙◌, subst, inl, inr, cond, nat_eq, int_le, Option, Some, None, Result, Ok, Err, arith}
-use Rattle.std.specs.Prelude.{⊤, Contains, filter, find, fold, slice_get, map}
-use Rattle.std.specs.List.{AllZip, cons_option}
-use Rattle.std.proofs.lemmas.Bool.{eqb-true}
+use Rattle.std.proofs.Common.{◌≡◌, ℕ, zero, suc, ◌<◌, Bool, true, false, not, List, [], ◌∷◌, ◌++◌, refl, ap, sym, ◌∙◌, subst, inl, inr, cond, nat_eq, int_le, Option, Some, None, Result, Ok, Err, arith}
+use Rattle.std.specs.Prelude.{Contains, find, fold, slice_get}
+use Rattle.std.specs.List.{AllZip}
 use Rattle.frame_core.specs.declared.refusal.Refusal.{Refusal}
 use Rattle.frame_core.specs.declared.refusal.Refusal.TheVariants as refusals
 use Rattle.frame_core.specs.declared.refusal.Asked.{Asked}
@@ -10,13 +9,13 @@ use Rattle.key_kind.specs.Names.{Name, same_name}
 use Rattle.bucket_core.specs.declared.event.Change.{Change}
 use Rattle.bucket_core.specs.declared.event.Change.TheVariants as changes
 use Rattle.bucket_core.specs.declared.event.Event.TheVariants as events
-use Rattle.bucket_core.specs.History.{History, history_at}
+use Rattle.bucket_core.specs.History.{History}
 use Rattle.store_model.specs.Library.{State, Version, state_of, number_after, after_change, live_versions, is_buried}
-use Rattle.store_model.specs.Links.{Linked, links}
+use Rattle.store_model.specs.Links.{Linked}
 use Rattle.store_model.specs.Snapshots.{Snapshot, library_of, snapshot_named}
 use Rattle.store_model.specs.Intact.{IsLinkOf}
 use Rattle.store_model.proofs.Lists.{contains_first, contains_later, contains_cases, contains_none, filter_in}
-use Rattle.store_model.proofs.Numbering.{AreNumbered, versions_numbered}
+use Rattle.store_model.proofs.Numbering.{AreNumbered}
 use Rattle.expr_clause.specs.declared.command.AsOf.{AsOf}
 use Rattle.expr_clause.specs.declared.command.AsOf.TheVariants as moments
 use Rattle.reply_model.specs.Answering.{◌then◌, version_or, or_refuse, refuse_if}

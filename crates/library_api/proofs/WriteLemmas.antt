@@ -1,11 +1,11 @@
 -- The replies of a write of raw columns are legal.
-use Rattle.std.proofs.Common.{◌≡◌, ℕ, ◌≤◌, ℤ, Bool, true, false, List, [], refl, ap, sym, ◌∙◌, subst, inl, Option, Some, None, Result, Ok, Err, length, arith}
+use Rattle.std.proofs.Common.{◌≡◌, ℕ, ℤ, Bool, true, List, [], refl, sym, ap, ◌∙◌, subst, inl, Option, Some, None, Result, Ok, Err, length, arith}
 use Rattle.std.specs.Prelude.{option_map, slice_get}
-use Rattle.base_types.specs.Faults.{Rose}
 use Rattle.frame_core.specs.declared.refusal.Extent.{Extent}
 use Rattle.frame_core.specs.declared.refusal.Refusal.{Refusal}
 use Rattle.frame_core.specs.declared.refusal.Refusal.TheVariants as refusals
 use Rattle.frame_core.specs.declared.refusal.Refused.{Refused}
+use Rattle.frame_core.specs.Refusals.{Answers}
 use Rattle.frame_core.specs.Frames.{Frame}
 use Rattle.frame_core.specs.Limits.{refuse_large}
 use Rattle.frame_core.specs.RawFrames.{Table, frame_of_table, table_frame, table_too_large, bad_column, bad_row, unless}
@@ -17,13 +17,15 @@ use Rattle.version_chain.proofs.Walked.{looks_none}
 use Rattle.expr_clause.specs.declared.command.Command.TheVariants as commands
 use Rattle.reply_model.specs.declared.outcome.Outcome.TheVariants as outcomes
 use Rattle.reply_model.specs.Answering.{Session, Answer, ◌then◌, answered, committed, stamp_of}
-use Rattle.reply_model.specs.Windows.{Client, Window}
 use Rattle.reply_model.specs.Legal.{IsLegalOutcome}
 use Rattle.frame_write.specs.declared.options.Committed.{Committed}
-use Rattle.frame_write.specs.Writes.{reply_to, IsLegalWrite}
-use Rattle.library_api.specs.Steps.{plain_reply}
-use Rattle.library_api.specs.Frames.{BringsTable, IsLegalWriteOf}
-use Rattle.library_api.proofs.NoEvents.{HasNone, served_has_none, legal_without_events}
+use Rattle.frame_write.specs.Writes.{StandsAlone, reply_to, IsLegalWrite}
+use Rattle.library_api.specs.Steps.{plain_reply, reply_with}
+use Rattle.segment_cut.specs.Cuttings.{Cutting}
+use Rattle.segment_cut.specs.Grids.{parts, grid_of}
+use Rattle.std.proofs.lemmas.Bool.{true≢false}
+use Rattle.library_api.specs.Frames.{BringsTable, IsLegalWriteOf, StandsBehindPuts}
+use Rattle.library_api.proofs.NoEvents.{served_has_none, legal_without_events}
 
 -- ---- what a frame is refused for
 
@@ -79,14 +81,53 @@ module _ (limit number tries : ℕ) (symbol : Name) (table : Table) (at : ℤ) (
         (λ row e. untried (refusals.Unsorted row) (λ s n asked faulted brings. inl (refused_answer (refusals.Unsorted row) e s n asked brings (next s asked), refl)))
         refuses
 
+    -- what the making of the frame answers
+    pub write_unmade_legal : (why : Refusal) → Answers (Err why) (frame_of_table table) → IsLegalWriteOf limit number tries symbol table at prune before now old old (plain_reply place (outcomes.Refused why))
+    write_unmade_legal refusals.NoMemory e = write_wants_memory
+    write_unmade_legal refusals.StoreFault e = write_refused_legal refusals.StoreFault e
+    write_unmade_legal refusals.NoSuchSymbol e = write_refused_legal refusals.NoSuchSymbol e
+    write_unmade_legal (refusals.NoSuchVersion asked) e = write_refused_legal (refusals.NoSuchVersion asked) e
+    write_unmade_legal (refusals.VersionGone version) e = write_refused_legal (refusals.VersionGone version) e
+    write_unmade_legal (refusals.Moved at) e = write_refused_legal (refusals.Moved at) e
+    write_unmade_legal (refusals.Unsorted row) e = write_refused_legal (refusals.Unsorted row) e
+    write_unmade_legal (refusals.SchemaDiffers column) e = write_refused_legal (refusals.SchemaDiffers column) e
+    write_unmade_legal (refusals.AppendBefore last first) e = write_refused_legal (refusals.AppendBefore last first) e
+    write_unmade_legal (refusals.OutsideRange row) e = write_refused_legal (refusals.OutsideRange row) e
+    write_unmade_legal refusals.EmptyUpdate e = write_refused_legal refusals.EmptyUpdate e
+    write_unmade_legal (refusals.NoSuchColumn clause position) e = write_refused_legal (refusals.NoSuchColumn clause position) e
+    write_unmade_legal (refusals.TypeMismatch clause) e = write_refused_legal (refusals.TypeMismatch clause) e
+    write_unmade_legal (refusals.Overflow clause row) e = write_refused_legal (refusals.Overflow clause row) e
+    write_unmade_legal (refusals.GroupOverflow clause group) e = write_refused_legal (refusals.GroupOverflow clause group) e
+    write_unmade_legal (refusals.NotTimeIndexed clause) e = write_refused_legal (refusals.NotTimeIndexed clause) e
+    write_unmade_legal refusals.SnapshotExists e = write_refused_legal refusals.SnapshotExists e
+    write_unmade_legal refusals.NoSuchSnapshot e = write_refused_legal refusals.NoSuchSnapshot e
+    write_unmade_legal refusals.NoStaged e = write_refused_legal refusals.NoStaged e
+    write_unmade_legal (refusals.StagedOverlap piece) e = write_refused_legal (refusals.StagedOverlap piece) e
+    write_unmade_legal (refusals.Spent count) e = write_refused_legal (refusals.Spent count) e
+    write_unmade_legal (refusals.TooLarge what most) e = write_refused_legal (refusals.TooLarge what most) e
+
   -- ---- tried
 
   pub write_tried_legal : (old new : History) (frame : Frame) (result : Result Committed Refused) → frame_of_table table ≡ Ok frame
       → IsLegalWrite limit number tries symbol frame at prune before now old new result → IsLegalWriteOf limit number tries symbol table at prune before now old new (reply_to result)
   write_tried_legal old new frame result is legal s n asked brings faulted rose =
-      legal s n asked faulted (record {
+      legal s n asked (record {
         client_is = brings.client_is;
         tries_are = brings.tries_are;
         frame_is = ap (option_map frame_of_table) brings.table_is ∙ ap Some is;
         stamp_is = brings.stamp_is;
-      }) rose
+      }) faulted rose
+
+-- ---- the place, where nobody else makes events
+
+same_frame : (a b : Frame) → ◌≡◌ {A = Result Frame Refusal} (Ok a) (Ok b) → a ≡ b
+same_frame a b e = cc
+
+pub refused_stands : (table : Table) (cutting : Cutting) (old : History) (place : ℕ) (why : Refusal) → StandsBehindPuts table cutting old (plain_reply place (outcomes.Refused why))
+refused_stands table cutting old place why whole is done = absurd (true≢false done)
+
+pub done_stands : (table : Table) (cutting : Cutting) (old : History) (frame : Frame) (done : Committed) (commits : List ℕ) → frame_of_table table ≡ Ok frame
+    → StandsAlone (length (parts (grid_of frame cutting))) old done → StandsBehindPuts table cutting old (reply_with done.place commits (outcomes.Committed done.version))
+done_stands table cutting old frame done commits made stands whole is went =
+    let tiles : length (parts (grid_of frame cutting)) ≡ length (parts (grid_of whole cutting)) = ap (λ f. length (parts (grid_of f cutting))) (same_frame frame whole (sym made ∙ is)) in
+    omega (arith, stands, tiles)

@@ -1,14 +1,18 @@
 -- What the steps that bring a frame answer.
 --     BringsTable         a session that brings raw columns as one of its frames, with its client, tries and stamp
 --     IsLegalWriteOf      the reply of a write of raw columns is legal for each such session
-use Rattle.std.specs.Prelude.{◌≡◌, ℕ, ℤ, Bool, true, length, slice_get, Option, Some}
-use Rattle.base_types.specs.Faults.{Rose}
-use Rattle.frame_core.specs.RawFrames.{Table}
+--     StandsBehindPuts    where the commit of a write stands if nobody else makes events
+use Rattle.std.specs.Prelude.{◌≡◌, ℕ, ◌+◌, ℤ, Bool, false, length, slice_get, Option, Some, Ok}
+use Rattle.frame_core.specs.Frames.{Frame}
+use Rattle.frame_core.specs.RawFrames.{Table, frame_of_table}
+use Rattle.segment_cut.specs.Cuttings.{Cutting}
+use Rattle.segment_cut.specs.Grids.{parts, grid_of}
 use Rattle.key_kind.specs.Names.{Name}
 use Rattle.bucket_core.specs.History.{History}
 use Rattle.expr_clause.specs.declared.command.Command.TheVariants as commands
 use Rattle.reply_model.specs.declared.reply.Reply.{Reply}
 use Rattle.reply_model.specs.Answering.{Session, stamp_of}
+use Rattle.reply_model.specs.Windows.{is_refused}
 use Rattle.library_api.specs.Steps.{IsLegalIn}
 
 -- a session of this client, with so many tries, whose frame n is this table; a command of it that asks for this stamp has that one
@@ -22,3 +26,8 @@ pub record BringsTable (s : Session) (client tries n : ℕ) (table : Table) (ask
 abbrev pub IsLegalWriteOf : ℕ → ℕ → ℕ → Name → Table → ℤ → Bool → ℕ → ℕ → History → History → Reply → Type 0
 IsLegalWriteOf limit client tries symbol table at prune before now old new reply =
     (s : Session) (n : ℕ) (asked : Option ℤ) → BringsTable s client tries n table asked at → IsLegalIn (record { session = s; limit = limit }) before now old new (commands.Write symbol n asked prune) reply
+
+-- a write that is not refused stands behind its puts: the tiles of the table's frame, the index and the element
+abbrev pub StandsBehindPuts : Table → Cutting → History → Reply → Type 0
+StandsBehindPuts table cutting old reply =
+    (whole : Frame) → frame_of_table table ≡ Ok whole → is_refused reply.outcome ≡ false → reply.place ≡ length old + (length (parts (grid_of whole cutting)) + 3)

@@ -1,22 +1,29 @@
 -- What one step of a library does.
 --     is_carried_out      the commands that a step carries out
 --     frame_named, IsNamed      the frame that a command names, which is to be there
---     plain_reply, refusal_reply, commit_reply      replies that name a place and an outcome alone, or one commit beside
+--     reply_with, plain_reply, refusal_reply      replies that name a place, an outcome, and commits or none
 --     client_of           what the replies of a library are judged by
 --     IsLegalIn           a reply is legal for the window that a step added
 --     IsLegalForAll       it is legal whatever else the client's session brings
-use Rattle.std.specs.Prelude.{◌≡◌, ℕ, ◌<◌, Bool, true, false, List, [], ◌∷◌, map, length, Option, Some, None, IfSome}
+--     IsLegalWithTries    it is legal whatever the session brings beside its tries
+--     run_cutting, IsStepAlone      where nobody else makes events a step is that of one client alone
+use Rattle.std.specs.Prelude.{◌≡◌, ℕ, ◌<◌, Bool, true, false, List, [], map, length, Option, Some, None, IfSome}
 use Rattle.base_types.specs.Faults.{Rose}
 use Rattle.frame_core.specs.declared.raw.RawFrame.{RawFrame}
 use Rattle.frame_core.specs.declared.refusal.Refused.{Refused}
 use Rattle.frame_core.specs.RawFrames.{table_of}
+use Rattle.segment_cut.specs.Cuttings.{Cutting as Sizes}
 use Rattle.bucket_core.specs.History.{History}
+use Rattle.store_model.specs.Law.{IsLawful}
 use Rattle.expr_clause.specs.declared.command.Command.{Command}
 use Rattle.expr_clause.specs.declared.command.Command.TheVariants as commands
 use Rattle.reply_model.specs.declared.outcome.Outcome.{Outcome}
 use Rattle.reply_model.specs.declared.outcome.Outcome.TheVariants as outcomes
 use Rattle.reply_model.specs.declared.reply.Reply.{Reply}
-use Rattle.reply_model.specs.Windows.{Client}
+use Rattle.reply_model.specs.Answering.{Session}
+use Rattle.reply_model.specs.Windows.{Client, is_cut}
+use Rattle.reply_model.specs.Blocks.{Cutting}
+use Rattle.reply_model.specs.Standing.{is_served, IsStep}
 use Rattle.reply_model.specs.Legal.{IsLegalReply}
 use Rattle.library_api.specs.declared.settings.Settings.{Settings}
 
@@ -50,17 +57,17 @@ IsNamed count command = IfSome (frame_named command) (λ n. n < count)
 
 -- ---- replies
 
--- an outcome at a place, without a list, commits and left holds
+-- an outcome at a place, with these commits, without a list and left holds
+abbrev pub reply_with : ℕ → List ℕ → Outcome → Reply
+reply_with place commits outcome = record { place = place; listed = None; commits = commits; left = []; outcome = outcome }
+
+-- the same without commits
 abbrev pub plain_reply : ℕ → Outcome → Reply
-plain_reply place outcome = record { place = place; listed = None; commits = []; left = []; outcome = outcome }
+plain_reply place outcome = reply_with place [] outcome
 
 -- a refusal at its place
 abbrev pub refusal_reply : Refused → Reply
 refusal_reply refused = plain_reply refused.place (outcomes.Refused refused.why)
-
--- an outcome of a commit at its place
-abbrev pub commit_reply : ℕ → Outcome → Reply
-commit_reply place outcome = record { place = place; listed = None; commits = place ∷ []; left = []; outcome = outcome }
 
 -- ---- legality
 
@@ -76,3 +83,20 @@ IsLegalIn client before now old new command reply =
 -- the same for each client of this number, whatever its session brings
 abbrev pub IsLegalForAll : ℕ → ℕ → ℕ → History → History → Command → Reply → Type 0
 IsLegalForAll number before now old new command reply = (client : Client) → client.session.client ≡ number → IsLegalIn client before now old new command reply
+
+-- the same for each session of this client with so many tries
+abbrev pub IsLegalWithTries : ℕ → ℕ → ℕ → ℕ → ℕ → History → History → Command → Reply → Type 0
+IsLegalWithTries limit number tries before now old new command reply =
+    (s : Session) → s.client ≡ number → s.tries ≡ tries → IsLegalIn (record { session = s; limit = limit }) before now old new command reply
+
+-- ---- one client alone
+
+-- the cutting of the settings, as a run alone has it
+abbrev pub run_cutting : Sizes → Cutting
+run_cutting c = record { rows = c.rows; columns = c.cols }
+
+-- behind a lawful history, and where nobody else makes events, the reply is the one that a run of this client alone gives, and the run then
+-- stands as the new history: for the commands of which this is shown, want of memory, failures and a full store aside
+abbrev pub IsStepAlone : Settings → Client → Bool → History → History → Command → Reply → Type 0
+IsStepAlone settings client sole old new command reply =
+    IsLawful old → sole ≡ true → is_served command ≡ true → is_cut reply.outcome ≡ false → IsStep (run_cutting settings.cutting) client.session command reply old new

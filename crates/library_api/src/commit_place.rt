@@ -1,8 +1,6 @@
-ghost use Rattle.std.specs.Prelude.{◌≡◌, length};
-ghost use Rattle.library_api.specs.Steps.{commit_reply};
+ghost use Rattle.std.specs.Prelude.{◌≡◌, ◌∷◌, [], length};
 
 use base_types::{Items, NoMemory};
-use reply_model::{Outcome, Reply};
 use std::alloc::Global;
 
 /// Memory for the place of a commit, which is taken before the commit is tried: its reply must name it.
@@ -20,18 +18,12 @@ impl CommitPlace {
         })
     }
 
-    /// The reply of the commit at this place. It takes no memory.
-    pub(crate) fn reply(self, alloc: Global, place: u64, outcome: Outcome) -> Reply
-        ensures { result ≡ commit_reply place outcome }
+    /// The places of a reply's commits, where this is the only one. It takes no memory.
+    pub(crate) fn named(self, place: u64) -> Items<u64>
+        ensures { result ≡ place ∷ [] }
     {
         let CommitPlace { mut places, .. } = self;
         places[0] = place;
-        Reply {
-            place,
-            listed: None,
-            commits: Items::from_vec(places),
-            left: Items::new(alloc),
-            outcome,
-        }
+        Items::from_vec(places)
     }
 }

@@ -1,12 +1,18 @@
 //! The library of one client: each command of a client is carried out by one step.
 #![tactic(auto)]
 
+mod burying;
 mod commit_place;
 mod keys;
 mod library;
+mod reading;
 mod reply;
 mod settings;
 mod step;
+#[cfg(test)]
+mod tests;
+mod versions;
+mod writing;
 
 pub use base_types::{Items, NoMemory};
 pub use library::Library;

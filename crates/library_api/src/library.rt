@@ -2,14 +2,14 @@ ghost use Rattle.std.specs.Prelude.{◌≡◌, ◌≤◌, ℕ, Bool, true, lengt
 ghost use Rattle.bucket_core.specs.Calls.{IsSteady};
 ghost use Rattle.frame_write.specs.Writes.{GoesOn};
 ghost use Rattle.library_api.specs.Libraries.{AreSettings};
-ghost use Rattle.library_api.specs.Steps.{is_carried_out, IsNamed, client_of, IsLegalIn};
+ghost use Rattle.library_api.specs.Steps.{is_carried_out, IsNamed, client_of, IsLegalIn, IsStepAlone};
 
 use crate::settings::Settings;
 use crate::step::perform;
 use bucket_core::Bucket;
 use expr_clause::Command;
 use frame_core::RawFrame;
-use reply_model::Reply;
+use reply_model::{Reply, legal_replies_alone_are_sole};
 use std::alloc::Global;
 use std::marker::Model;
 use std::sync::Wait;
@@ -69,7 +69,11 @@ impl<B> Library<B> {
         ensures steady { IsSteady B.number B.limit B.faults B.sole self.old.bucket self.new.bucket }
         ensures grown { GoesOn (B.number self.old.bucket) (B.sole self.old.bucket) (B.seen self.old.bucket) (B.seen self.new.bucket) }
         ensures legal { IsLegalIn (client_of frames.now self.old.settings (B.number self.old.bucket) (B.limit self.old.bucket)) (B.faults self.old.bucket) (B.faults self.new.bucket) (B.seen self.old.bucket) (B.seen self.new.bucket) command.now result }
+        // Where nobody else makes events a step is that of one client alone.
+        ensures alone { IsStepAlone self.old.settings (client_of frames.now self.old.settings (B.number self.old.bucket) (B.limit self.old.bucket)) (B.sole self.old.bucket) (B.seen self.old.bucket) (B.seen self.new.bucket) command.now result }
     {
-        perform(rt, alloc, &mut self.bucket, self.settings, command, frames)
+        let reply = perform(rt, alloc, &mut self.bucket, self.settings, command, frames);
+        legal_replies_alone_are_sole();
+        reply
     }
 }

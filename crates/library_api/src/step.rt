@@ -1,13 +1,20 @@
 //! One command, by its kind.
 
-ghost use Rattle.std.specs.Prelude.{◌≡◌, true, length};
+ghost use Rattle.std.specs.Prelude.{◌≡◌, true, length, option_copied};
 ghost use Rattle.bucket_core.specs.Calls.{IsSteady};
 ghost use Rattle.frame_write.specs.Writes.{GoesOn};
+ghost use Rattle.reply_model.specs.Standing.{LaysOut};
 ghost use Rattle.library_api.specs.Libraries.{AreSettings};
-ghost use Rattle.library_api.specs.Steps.{is_carried_out, IsNamed, client_of, IsLegalIn};
+ghost use Rattle.library_api.specs.Steps.{is_carried_out, IsNamed, client_of, IsLegalIn, run_cutting};
 
+use crate::burying::{delete, prune};
+use crate::keys::keys;
+use crate::reading::read;
 use crate::reply::plain;
 use crate::settings::Settings;
+use crate::versions::versions;
+use crate::writing::write;
+use base_types::Items;
 use bucket_core::Bucket;
 use expr_clause::Command;
 use frame_core::{RawFrame, Refusal};
@@ -18,7 +25,7 @@ use version_chain::StoreLaw;
 
 /// Carries out one command over a bucket. It may wait for the store.
 pub(crate) fn perform<R: Wait, B: Bucket<StoreLaw>>(
-    _rt: &R,
+    rt: &R,
     alloc: Global,
     bucket: &mut B,
     settings: Settings,
@@ -31,12 +38,54 @@ pub(crate) fn perform<R: Wait, B: Bucket<StoreLaw>>(
     ensures steady { IsSteady B.number B.limit B.faults B.sole bucket.old bucket.new }
     ensures grown { GoesOn (B.number bucket.old) (B.sole bucket.old) (B.seen bucket.old) (B.seen bucket.new) }
     ensures legal { IsLegalIn (client_of frames.now settings (B.number bucket.old) (B.limit bucket.old)) (B.faults bucket.old) (B.faults bucket.new) (B.seen bucket.old) (B.seen bucket.new) command.now result }
+    // A client that is alone knows the place of a write.
+    ensures lays { B.sole bucket.old ≡ true → LaysOut (run_cutting settings.cutting) (client_of frames.now settings (B.number bucket.old) (B.limit bucket.old)).session command.now result (B.seen bucket.old) }
 {
-    plain(
-        alloc,
-        bucket.place(),
-        Outcome::Refused {
-            why: Refusal::NoMemory,
-        },
-    )
+    match command {
+        Command::Write {
+            symbol,
+            frame,
+            at,
+            prune,
+        } => {
+            let options = settings.options(*at, *prune);
+            write(
+                rt,
+                alloc,
+                bucket,
+                symbol,
+                &frames[*frame as usize],
+                &options,
+            )
+        }
+        Command::Read {
+            symbol,
+            as_of,
+            range,
+            columns,
+        } => read(rt, alloc, bucket, symbol, as_of, *range, lent(columns)),
+        Command::Keys { symbol } => keys(rt, alloc, bucket, symbol),
+        Command::Versions { symbol } => versions(rt, alloc, bucket, symbol),
+        Command::Delete { symbol, versions } => {
+            delete(rt, alloc, bucket, symbol, lent(versions), settings.tries)
+        }
+        Command::Prune { symbol } => prune(rt, alloc, bucket, symbol, settings.tries),
+        _ => plain(
+            alloc,
+            bucket.place(),
+            Outcome::Refused {
+                why: Refusal::NoMemory,
+            },
+        ),
+    }
+}
+
+/// The items, lent.
+fn lent<T>(items: &Option<Items<T>>) -> Option<&[T]>
+    ensures { option_copied result ≡ items.now }
+{
+    match items {
+        Some(items) => Some(items.items()),
+        None => None,
+    }
 }

@@ -5,3 +5,11 @@ pub mod Steps
 pub mod Walked
 pub mod Collected
 pub mod Newest
+pub mod TraceLemmas
+pub mod CallLemmas
+pub mod SteadyLemmas
+pub mod MeetLemmas
+pub mod MarkingLemmas
+pub mod ElementForms
+pub mod MarkEnds
+pub mod MarkFlow

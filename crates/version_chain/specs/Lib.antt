@@ -4,3 +4,8 @@ pub mod ChainFaults
 pub mod Reads
 pub mod States
 pub mod Elements
+pub mod Traces
+pub mod Stops
+pub mod StoreCalls
+pub mod Marking
+pub mod MarkPlans

@@ -48,7 +48,7 @@ impl SymbolState {
     }
 
     /// Whether a version is buried.
-    fn is_buried(&self, version: u64) -> bool
+    pub fn is_buried(&self, version: u64) -> bool
         ensures { result ≡ is_tomb self.now.tombs version }
     {
         self.tombs.items().iter().any(|tomb| version == *tomb)

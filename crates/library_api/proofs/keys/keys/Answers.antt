@@ -1,8 +1,6 @@
 use Rattle.std.proofs.Common.{None, Some, ap, sym, ◌∙◌, subst}
-use Rattle.frame_core.specs.declared.refusal.Refusal.TheVariants as refusals
 use Rattle.bucket_core.specs.Calls.{keys_that_match, RefusesLook}
 use Rattle.expr_clause.specs.declared.command.Command.TheVariants as commands
-use Rattle.reply_model.specs.declared.outcome.Outcome.TheVariants as outcomes
 use Rattle.library_api.specs.Steps.{plain_reply, IsLegalForAll}
 use Rattle.library_api.proofs.KeyLemmas.{numbers_of, keys_legal, keys_fault, keys_want_memory}
 use Rattle.library_api.proofs.keys.keys.Goals as goal

@@ -1,17 +1,90 @@
-use Rattle.std.proofs.Common.{subst, sym, refl}
-use Rattle.frame_core.specs.declared.refusal.Refusal.TheVariants as refusals
+use Rattle.std.proofs.Common.{ℕ, option_copied, sym, ap, ◌∙◌, subst}
+use Rattle.bucket_core.specs.History.{History}
 use Rattle.version_chain.proofs.Walked.{looks_none}
+use Rattle.expr_clause.specs.declared.command.Command.TheVariants as commands
+use Rattle.reply_model.specs.declared.reply.Reply.{Reply}
+use Rattle.reply_model.specs.Windows.{is_refused}
 use Rattle.library_api.specs.Steps.{client_of, IsLegalIn}
 use Rattle.library_api.proofs.NoEvents.{looks_go_on, wants_memory}
+use Rattle.frame_read.proofs.LoopLemmas.{steady_none}
+use Rattle.library_api.proofs.StepLemmas.{any_command, tried_command, write_command, lays_as, refused_lays, write_lays}
 use Rattle.library_api.proofs.step.perform.Goals as goal
 
-pub returns-clause-grown : goal.returns-clause-grown
-returns-clause-grown g c = looks_go_on _ _ _ _ (looks_none (g.B.Bucket.number c.args.bucket.now) (g.B.Bucket.sole c.args.bucket.now) (g.B.Bucket.seen c.args.bucket.now))
+pub returns-in-Write-clause-legal : goal.returns-in-Write-clause-legal
+returns-in-Write-clause-legal g c =
+    write_command c.args.frames.now c.args.settings (g.B.Bucket.number c.args.bucket.now) (g.B.Bucket.limit c.args.bucket.now) (g.B.Bucket.faults c.args.bucket.now) (g.B.Bucket.faults c.write.new.bucket)
+    (g.B.Bucket.seen c.args.bucket.now) (g.B.Bucket.seen c.write.new.bucket) c.args.command.now c.write.result
+    c.in-Write.symbol c.in-Write.frame c.in-Write.at c.in-Write.prune c.options-options.result c.index-frames-frame.result c.in-Write.is c.options-options.ensures c.requires.named c.index-frames-frame.is c.write.ensures.legal
 
-pub returns-clause-legal : goal.returns-clause-legal
-returns-clause-legal g c =
-    let old = g.B.Bucket.seen c.args.bucket.now in
-    let faults = g.B.Bucket.faults c.args.bucket.now in
+pub returns-in-Read-clause-legal : goal.returns-in-Read-clause-legal
+returns-in-Read-clause-legal g c =
+    any_command c.args.frames.now c.args.settings (g.B.Bucket.number c.args.bucket.now) (g.B.Bucket.limit c.args.bucket.now) (g.B.Bucket.faults c.args.bucket.now) (g.B.Bucket.faults c.read.new.bucket)
+    (g.B.Bucket.seen c.args.bucket.now) (g.B.Bucket.seen c.read.new.bucket) c.args.command.now c.read.result
+    (commands.Read c.in-Read.symbol c.in-Read.as_of c.in-Read.range (option_copied c.lent.result)) (c.in-Read.is ∙ ap (commands.Read c.in-Read.symbol c.in-Read.as_of c.in-Read.range) (sym c.lent.ensures)) c.read.ensures.legal
+
+pub returns-in-Keys-clause-legal : goal.returns-in-Keys-clause-legal
+returns-in-Keys-clause-legal g c =
+    any_command c.args.frames.now c.args.settings (g.B.Bucket.number c.args.bucket.now) (g.B.Bucket.limit c.args.bucket.now) (g.B.Bucket.faults c.args.bucket.now) (g.B.Bucket.faults c.keys.new.bucket)
+    (g.B.Bucket.seen c.args.bucket.now) (g.B.Bucket.seen c.keys.new.bucket) c.args.command.now c.keys.result
+    (commands.Keys c.in-Keys.symbol) c.in-Keys.is c.keys.ensures.legal
+
+pub returns-in_default : goal.returns-in_default
+returns-in_default g c =
+    let old : History = g.B.Bucket.seen c.args.bucket.now in
+    let faults : ℕ = g.B.Bucket.faults c.args.bucket.now in
     let client = client_of c.args.frames.now c.args.settings (g.B.Bucket.number c.args.bucket.now) (g.B.Bucket.limit c.args.bucket.now) in
-    subst (IsLegalIn client faults faults old old c.args.command.now) (sym c.plain.ensures)
-    (wants_memory client c.args.command.now c.requires.served faults faults old c.place.result c.place.ensures)
+    record {
+      steady = steady_none g.B.Bucket.number g.B.Bucket.limit g.B.Bucket.faults g.B.Bucket.sole c.args.bucket.now;
+      grown = looks_go_on _ _ _ _ (looks_none (g.B.Bucket.number c.args.bucket.now) (g.B.Bucket.sole c.args.bucket.now) old);
+      legal = subst (IsLegalIn client faults faults old old c.args.command.now) (sym c.plain.ensures)
+          (wants_memory client c.args.command.now c.requires.served faults faults old c.place.result c.place.ensures);
+      lays = λ one. refused_lays c.args.settings client.session old c.args.command.now c.plain.result (ap (λ (r : Reply). is_refused r.outcome) c.plain.ensures);
+    }
+
+pub returns-in-Write-clause-lays : goal.returns-in-Write-clause-lays
+returns-in-Write-clause-lays g c one =
+    write_lays c.args.frames.now c.args.settings (g.B.Bucket.number c.args.bucket.now) (g.B.Bucket.limit c.args.bucket.now) (g.B.Bucket.seen c.args.bucket.now) c.args.command.now c.write.result
+    c.in-Write.symbol c.in-Write.frame c.in-Write.at c.in-Write.prune c.options-options.result c.index-frames-frame.result c.in-Write.is c.options-options.ensures c.requires.named c.index-frames-frame.is (c.write.ensures.lays one)
+
+pub returns-in-Read-clause-lays : goal.returns-in-Read-clause-lays
+returns-in-Read-clause-lays g c one =
+    lays_as c.args.settings (client_of c.args.frames.now c.args.settings (g.B.Bucket.number c.args.bucket.now) (g.B.Bucket.limit c.args.bucket.now)).session (g.B.Bucket.seen c.args.bucket.now) c.args.command.now
+    (commands.Read c.in-Read.symbol c.in-Read.as_of c.in-Read.range c.in-Read.columns) c.read.result c.in-Read.is tt
+
+pub returns-in-Keys-clause-lays : goal.returns-in-Keys-clause-lays
+returns-in-Keys-clause-lays g c one =
+    lays_as c.args.settings (client_of c.args.frames.now c.args.settings (g.B.Bucket.number c.args.bucket.now) (g.B.Bucket.limit c.args.bucket.now)).session (g.B.Bucket.seen c.args.bucket.now) c.args.command.now
+    (commands.Keys c.in-Keys.symbol) c.keys.result c.in-Keys.is tt
+
+pub returns-in-Delete-clause-legal : goal.returns-in-Delete-clause-legal
+returns-in-Delete-clause-legal g c =
+    tried_command c.args.frames.now c.args.settings (g.B.Bucket.number c.args.bucket.now) (g.B.Bucket.limit c.args.bucket.now) (g.B.Bucket.faults c.args.bucket.now) (g.B.Bucket.faults c.delete.new.bucket)
+    (g.B.Bucket.seen c.args.bucket.now) (g.B.Bucket.seen c.delete.new.bucket) c.args.command.now c.delete.result
+    (commands.Delete c.in-Delete.symbol (option_copied c.lent-in-Delete.result)) (c.in-Delete.is ∙ ap (commands.Delete c.in-Delete.symbol) (sym c.lent-in-Delete.ensures)) c.delete.ensures.legal
+
+pub returns-in-Delete-clause-lays : goal.returns-in-Delete-clause-lays
+returns-in-Delete-clause-lays g c one =
+    lays_as c.args.settings (client_of c.args.frames.now c.args.settings (g.B.Bucket.number c.args.bucket.now) (g.B.Bucket.limit c.args.bucket.now)).session (g.B.Bucket.seen c.args.bucket.now) c.args.command.now
+    (commands.Delete c.in-Delete.symbol c.in-Delete.versions) c.delete.result c.in-Delete.is tt
+
+pub returns-in-Prune-clause-legal : goal.returns-in-Prune-clause-legal
+returns-in-Prune-clause-legal g c =
+    tried_command c.args.frames.now c.args.settings (g.B.Bucket.number c.args.bucket.now) (g.B.Bucket.limit c.args.bucket.now) (g.B.Bucket.faults c.args.bucket.now) (g.B.Bucket.faults c.prune.new.bucket)
+    (g.B.Bucket.seen c.args.bucket.now) (g.B.Bucket.seen c.prune.new.bucket) c.args.command.now c.prune.result
+    (commands.Prune c.in-Prune.symbol) c.in-Prune.is c.prune.ensures.legal
+
+pub returns-in-Prune-clause-lays : goal.returns-in-Prune-clause-lays
+returns-in-Prune-clause-lays g c one =
+    lays_as c.args.settings (client_of c.args.frames.now c.args.settings (g.B.Bucket.number c.args.bucket.now) (g.B.Bucket.limit c.args.bucket.now)).session (g.B.Bucket.seen c.args.bucket.now) c.args.command.now
+    (commands.Prune c.in-Prune.symbol) c.prune.result c.in-Prune.is tt
+
+pub returns-in-Versions-clause-legal : goal.returns-in-Versions-clause-legal
+returns-in-Versions-clause-legal g c =
+    any_command c.args.frames.now c.args.settings (g.B.Bucket.number c.args.bucket.now) (g.B.Bucket.limit c.args.bucket.now) (g.B.Bucket.faults c.args.bucket.now) (g.B.Bucket.faults c.versions.new.bucket)
+    (g.B.Bucket.seen c.args.bucket.now) (g.B.Bucket.seen c.versions.new.bucket) c.args.command.now c.versions.result
+    (commands.Versions c.in-Versions.symbol) c.in-Versions.is c.versions.ensures.legal
+
+pub returns-in-Versions-clause-lays : goal.returns-in-Versions-clause-lays
+returns-in-Versions-clause-lays g c one =
+    lays_as c.args.settings (client_of c.args.frames.now c.args.settings (g.B.Bucket.number c.args.bucket.now) (g.B.Bucket.limit c.args.bucket.now)).session (g.B.Bucket.seen c.args.bucket.now) c.args.command.now
+    (commands.Versions c.in-Versions.symbol) c.versions.result c.in-Versions.is tt

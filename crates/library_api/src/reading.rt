@@ -1,0 +1,86 @@
+//! A read: the version that is asked, and what is asked of its frame.
+
+ghost use Rattle.std.specs.Prelude.{◌≡◌, option_copied, IfOk, IfErr};
+ghost use Rattle.bucket_core.specs.Laws.{Looks};
+ghost use Rattle.bucket_core.specs.Calls.{IsSteady};
+ghost use Rattle.store_model.specs.Law.{IsClaimed};
+ghost use Rattle.library_api.specs.Steps.{plain_reply, refusal_reply, IsLegalForAll};
+
+use crate::reply::{plain, refusal};
+use base_types::NoMemory;
+use bucket_core::Bucket;
+use expr_clause::{AsOf, Command};
+use frame_core::{ColName, Frame, Range, Refusal, Refused};
+use frame_read::{fetch, fetched_tiles_have_what_is_asked, resolve};
+use key_kind::Symbol;
+use reply_model::{Outcome, Reply};
+use std::alloc::Global;
+use std::sync::Wait;
+use version_chain::StoreLaw;
+
+/// What a read found: a version's number, the rows and columns that were asked of its frame, and the place at which it is so.
+#[derive(Drop)]
+struct VersionRead {
+    version: u64,
+    frame: Frame,
+    place: u64,
+}
+
+/// The version that is asked, with the rows in the range and the asked columns of its frame.
+fn read_frame<R: Wait, B: Bucket<StoreLaw>>(
+    rt: &R,
+    alloc: Global,
+    bucket: &mut B,
+    symbol: &Symbol,
+    as_of: &AsOf,
+    range: Range,
+    columns: Option<&[ColName]>,
+) -> Result<VersionRead, Refused>
+    ensures looks { Looks IsClaimed (B.number bucket.old) (B.sole bucket.old) (B.seen bucket.old) (B.seen bucket.new) }
+    ensures steady { IsSteady B.number B.limit B.faults B.sole bucket.old bucket.new }
+    ensures whole { IfOk result (λ found. IsLegalForAll (B.number bucket.old) (B.faults bucket.old) (B.faults bucket.new) (B.seen bucket.old) (B.seen bucket.new) (Command.Read symbol.now as_of.now range (option_copied columns.entry)) (plain_reply found.place (Outcome.Whole found.version found.frame))) }
+    ensures refused { IfErr result (λ refused. IsLegalForAll (B.number bucket.old) (B.faults bucket.old) (B.faults bucket.new) (B.seen bucket.old) (B.seen bucket.new) (Command.Read symbol.now as_of.now range (option_copied columns.entry)) (refusal_reply refused)) }
+{
+    let target = resolve(rt, alloc, bucket, symbol, as_of)?;
+    let tiles = fetch(rt, alloc, bucket, &target, range, columns)?;
+    fetched_tiles_have_what_is_asked();
+    match tiles.to_frame(alloc) {
+        Ok(frame) => Ok(VersionRead {
+            version: target.version,
+            frame,
+            place: target.place,
+        }),
+        Err(NoMemory) => Err(Refused {
+            place: bucket.place(),
+            why: Refusal::NoMemory,
+        }),
+    }
+}
+
+/// Reads the rows in the range and the asked columns of the version that is asked, with the place of the look that found the
+/// version. It may wait for the store.
+pub(crate) fn read<R: Wait, B: Bucket<StoreLaw>>(
+    rt: &R,
+    alloc: Global,
+    bucket: &mut B,
+    symbol: &Symbol,
+    as_of: &AsOf,
+    range: Range,
+    columns: Option<&[ColName]>,
+) -> Reply
+    ensures looks { Looks IsClaimed (B.number bucket.old) (B.sole bucket.old) (B.seen bucket.old) (B.seen bucket.new) }
+    ensures steady { IsSteady B.number B.limit B.faults B.sole bucket.old bucket.new }
+    ensures legal { IsLegalForAll (B.number bucket.old) (B.faults bucket.old) (B.faults bucket.new) (B.seen bucket.old) (B.seen bucket.new) (Command.Read symbol.now as_of.now range (option_copied columns.entry)) result }
+{
+    match read_frame(rt, alloc, bucket, symbol, as_of, range, columns) {
+        Ok(found) => plain(
+            alloc,
+            found.place,
+            Outcome::Whole {
+                version: found.version,
+                frame: found.frame,
+            },
+        ),
+        Err(refused) => refusal(alloc, refused),
+    }
+}

@@ -1,0 +1,64 @@
+//! A write: a frame of the session as a new version.
+
+ghost use Rattle.std.specs.Prelude.{◌≡◌, ◌≤◌, true};
+ghost use Rattle.frame_core.specs.RawFrames.{table_of};
+ghost use Rattle.bucket_core.specs.Calls.{IsSteady};
+ghost use Rattle.frame_write.specs.Writes.{GoesOn};
+ghost use Rattle.library_api.specs.Frames.{IsLegalWriteOf, StandsBehindPuts};
+
+use crate::commit_place::CommitPlace;
+use crate::reply::{refusal, with_commits};
+use base_types::NoMemory;
+use bucket_core::Bucket;
+use frame_core::{Frame, RawFrame, Refusal, Refused};
+use frame_write::{Options, write_link};
+use key_kind::Symbol;
+use reply_model::{Outcome, Reply};
+use std::alloc::Global;
+use std::sync::Wait;
+use version_chain::StoreLaw;
+
+/// Writes the frame of raw columns as a new version of the symbol. What a frame may not be is refused before any call. It may wait
+/// for the store.
+pub(crate) fn write<R: Wait, B: Bucket<StoreLaw>>(
+    rt: &R,
+    alloc: Global,
+    bucket: &mut B,
+    symbol: &Symbol,
+    raw: &RawFrame,
+    options: &Options,
+) -> Reply
+    requires some_tries { 1 ≤ options.now.tries }
+    requires few_tries { options.now.tries ≤ 1000 }
+    ensures steady { IsSteady B.number B.limit B.faults B.sole bucket.old bucket.new }
+    ensures grown { GoesOn (B.number bucket.old) (B.sole bucket.old) (B.seen bucket.old) (B.seen bucket.new) }
+    ensures legal { IsLegalWriteOf (B.limit bucket.old) (B.number bucket.old) options.now.tries symbol.now (table_of raw.now) options.now.at options.now.prune (B.faults bucket.old) (B.faults bucket.new) (B.seen bucket.old) (B.seen bucket.new) result }
+    // A client that is alone knows the place.
+    ensures lays { B.sole bucket.old ≡ true → StandsBehindPuts (table_of raw.now) options.now.cutting (B.seen bucket.old) result }
+{
+    let place = bucket.place();
+    let frame = match Frame::make(alloc, raw) {
+        Ok(frame) => frame,
+        Err(why) => return refusal(alloc, Refused { place, why }),
+    };
+    let Ok(commit) = CommitPlace::new(alloc) else {
+        return refusal(
+            alloc,
+            Refused {
+                place,
+                why: Refusal::NoMemory,
+            },
+        );
+    };
+    match write_link(rt, alloc, bucket, symbol, &frame, options) {
+        Ok(done) => with_commits(
+            alloc,
+            done.place,
+            commit.named(done.place),
+            Outcome::Committed {
+                version: done.version,
+            },
+        ),
+        Err(refused) => refusal(alloc, refused),
+    }
+}

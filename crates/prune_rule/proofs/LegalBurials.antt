@@ -1,0 +1,614 @@
+-- What all tries of a burial did makes a legal reply.
+use Rattle.std.proofs.Common.{◌≡◌, ◌⊎◌, ℕ, suc, ◌+◌, ◌-◌, ◌≤◌, ◌<◌, Bool, true, false, ◌||◌, List, [], ◌∷◌, ◌++◌, length, refl, ap, sym, ◌∙◌, subst, inl, inr, cond, not, nat_eq, Option, Some, None, arith, Result, Ok, Err, length-append}
+use Rattle.std.specs.Prelude.{⊤, map, filter, reverse, unwrap_or, MatchBool}
+use Rattle.std.specs.List.{list_any, flat_map, AllByRecursion}
+use Rattle.std.proofs.lemmas.Bool.{true≢false, or_from, eqb-true}
+use Rattle.std.proofs.lemmas.List.{reverse-reverse}
+use Rattle.std.proofs.lemmas.List.Folds.{list_any-append}
+use Rattle.base_types.specs.Faults.{Rose}
+use Rattle.frame_core.specs.declared.refusal.Asked.{Asked}
+use Rattle.frame_core.specs.declared.refusal.Asked.TheVariants as asks
+use Rattle.frame_core.specs.declared.refusal.Refusal.{Refusal}
+use Rattle.frame_core.specs.declared.refusal.Refusal.TheVariants as refusals
+use Rattle.frame_core.specs.declared.refusal.Refused.{Refused}
+use Rattle.frame_core.specs.RawFrames.{unless}
+use Rattle.key_kind.specs.declared.key.Key.{Key}
+use Rattle.key_kind.specs.declared.key.KeyKind.TheVariants as kinds
+use Rattle.key_kind.specs.Keys.{same_kind}
+use Rattle.key_kind.specs.Names.{Name}
+use Rattle.bucket_core.specs.declared.event.Change.TheVariants as changes
+use Rattle.bucket_core.specs.declared.event.Event.{Event}
+use Rattle.bucket_core.specs.declared.event.Event.TheVariants as events
+use Rattle.bucket_core.specs.History.{History, Bytes, author, history_at, event_at}
+use Rattle.store_model.specs.Library.{State, state_of}
+use Rattle.store_model.specs.Commits.{IsFilled}
+use Rattle.store_model.specs.Snapshots.{Library}
+use Rattle.version_chain.specs.States.{IsWithin}
+use Rattle.version_chain.specs.Traces.{met_in, Went, GoesOn}
+use Rattle.version_chain.specs.Stops.{is_fault, StopsAt}
+use Rattle.version_chain.specs.Marking.{IsMet}
+use Rattle.version_chain.proofs.TraceLemmas.{append_assoc, own_of-append, own_of-one, went_then, went_as, went_longer, same_front, met_in-append}
+use Rattle.version_chain.proofs.MeetLemmas.{event_at_end}
+use Rattle.reply_model.specs.declared.outcome.Outcome.{Outcome}
+use Rattle.reply_model.specs.declared.outcome.Outcome.TheVariants as outcomes
+use Rattle.reply_model.specs.declared.reply.Reply.{Reply}
+use Rattle.reply_model.specs.Answering.{Session, Answer, answered, ◌then◌, refuse_if, removed}
+use Rattle.reply_model.specs.Answers.{answer}
+use Rattle.reply_model.specs.CommitAnswers.{first_absent, ascending}
+use Rattle.reply_model.specs.Causes.{MarksAt, IsMoved, IsSpent, HasToMake}
+use Rattle.reply_model.specs.Windows.{Window, Client, library_at, own_events, symbol_of, refer_places, refers_by_others, is_cut, is_store_fault, AreCommits}
+use Rattle.reply_model.specs.Tries.{put_of, drop_of, one_if, IsTry, IsRefused, IsTurn}
+use Rattle.reply_model.specs.OwnEvents.{AnyMarks, IsBeginning, IsMeantAt, is_end, is_done}
+use Rattle.reply_model.specs.Legal.{IsLegalOutcome, IsLegalSeen}
+use Rattle.reply_model.specs.Rows.{IsAnswer}
+use Rattle.reply_model.proofs.Places.{history_at_end}
+use Rattle.reply_model.specs.Runs.{harms}
+use Rattle.reply_model.proofs.Harmless.{try_harms_nothing}
+use Rattle.reply_model.proofs.Later.{history_at_later}
+use Rattle.prune_rule.specs.declared.choosing.Wish.{Wish}
+use Rattle.prune_rule.specs.declared.choosing.Wish.TheVariants as wishes
+use Rattle.prune_rule.specs.declared.burying.Buried.{Buried}
+use Rattle.prune_rule.specs.Burials.{to_bury, bury_answer, command_of, outcome_of}
+use Rattle.prune_rule.specs.Tries.{DidBury, DidNothing, DidRefuse, DidStop, DidFault, DidEnd, DidRefused, DidTries, IsPart, no_event, one_put, one_drop}
+use Rattle.prune_rule.specs.Replies.{commits_of, reply_to, IsLegalBurial}
+use Rattle.prune_rule.proofs.WindowLemmas.{is_refer, own_in_window, met_in_window, no_places, no_own_refer, one_place}
+use Rattle.prune_rule.proofs.TurnLemmas.{done_turn, open_turn, cut_turn, append_none}
+use Rattle.prune_rule.proofs.SeenLemmas.{IsBurial, deleting, pruning, SeenFacts, seen_of}
+
+-- ---- by what is buried
+
+on_true : {A : Type 0} (B : Type 0) (b : Bool) → b ≡ true → A → MatchBool b A B
+on_true {A} B b is a = subst (λ x. MatchBool x A B) (sym is) a
+
+on_false : (A : Type 0) {B : Type 0} (b : Bool) → b ≡ false → B → MatchBool b A B
+on_false A {B} b is x = subst (λ y. MatchBool y A B) (sym is) x
+
+burial_of : (symbol : Name) (wish : Wish) → IsBurial (command_of symbol wish) symbol
+burial_of symbol wishes.All = deleting symbol None
+burial_of symbol (wishes.These numbers) = deleting symbol (Some numbers.now)
+burial_of symbol wishes.ButNewest = pruning symbol
+
+symbol_is : (symbol : Name) (wish : Wish) → symbol_of (command_of symbol wish) ≡ Some symbol
+symbol_is symbol wishes.All = refl
+symbol_is symbol (wishes.These numbers) = refl
+symbol_is symbol wishes.ButNewest = refl
+
+-- the answer of what is buried
+abbrev answer_from : Wish → Result (List ℕ) Refusal → Option Answer
+answer_from wish r = Some (answered (r then λ ns. Ok (record { outcome = outcome_of wish (length ns); marks = removed ns })))
+
+module _ {A B : Type 0} (f : A → Result B Refusal) where
+  refuse_then : (b : Bool) (why : Refusal) (r : Result A Refusal) → ((refuse_if b why r) then f) ≡ refuse_if b why (r then f)
+  refuse_then true why r = refl
+  refuse_then false why r = refl
+
+  unless_then : {X : Type 0} (o : Option X) (why : X → Refusal) (r : Result A Refusal) → ((unless o why r) then f) ≡ unless o why (r then f)
+  unless_then None why r = refl
+  unless_then (Some x) why r = refl
+
+answer_is : (s : Session) (listed l : Library) (place : ℕ) (symbol : Name) (wish : Wish) → answer s listed l place (command_of symbol wish) ≡ answer_from wish (bury_answer wish (l.state symbol))
+answer_is s listed l place symbol wishes.All =
+    ap (λ r. Some (answered r)) (sym (refuse_then (λ ns. Ok (record { outcome = outcomes.Deleted (length ns); marks = removed ns })) (not (l.state symbol).has_reference) refusals.NoSuchSymbol (to_bury wishes.All (l.state symbol))))
+answer_is s listed l place symbol (wishes.These numbers) =
+    ap (λ r. Some (answered r)) (sym (refuse_then (λ ns. Ok (record { outcome = outcomes.Deleted (length ns); marks = removed ns })) (not (l.state symbol).has_reference) refusals.NoSuchSymbol (to_bury (wishes.These numbers) (l.state symbol))
+    ∙ ap (refuse_if (not (l.state symbol).has_reference) refusals.NoSuchSymbol)
+    (unless_then (λ ns. Ok (record { outcome = outcomes.Deleted (length ns); marks = removed ns })) (first_absent (l.state symbol) numbers.now) (λ n. refusals.NoSuchVersion (asks.Number n)) (Ok (ascending numbers.now)))))
+answer_is s listed l place symbol wishes.ButNewest =
+    ap (λ r. Some (answered r)) (sym (refuse_then (λ ns. Ok (record { outcome = outcomes.Pruned (length ns); marks = removed ns })) (not (l.state symbol).has_reference) refusals.NoSuchSymbol (to_bury wishes.ButNewest (l.state symbol))))
+
+-- kinds of outcomes
+not_cut : (wish : Wish) (n : ℕ) → is_cut (outcome_of wish n) ≡ false
+not_cut wishes.All n = refl
+not_cut (wishes.These numbers) n = refl
+not_cut wishes.ButNewest n = refl
+
+no_fault : (wish : Wish) (n : ℕ) → is_store_fault (outcome_of wish n) ≡ false
+no_fault wishes.All n = refl
+no_fault (wishes.These numbers) n = refl
+no_fault wishes.ButNewest n = refl
+
+is_done_with : (wish : Wish) (n place : ℕ) (commits : List ℕ) → is_done (record { place = place; listed = None; commits = commits; left = []; outcome = outcome_of wish n }) ≡ not (nat_eq (length commits) 0)
+is_done_with wishes.All n place commits = refl
+is_done_with (wishes.These numbers) n place commits = refl
+is_done_with wishes.ButNewest n place commits = refl
+
+ok_outcome : (h : History) (client : Client) (symbol : Name) (wish : Wish) (reply : Reply) (w : Window) (n : ℕ) → IsAnswer h client (command_of symbol wish) reply → IsLegalOutcome h client (command_of symbol wish) reply w (outcome_of wish n)
+ok_outcome h client symbol wishes.All reply w n a = a
+ok_outcome h client symbol (wishes.These numbers) reply w n a = a
+ok_outcome h client symbol wishes.ButNewest reply w n a = a
+
+unknown_outcome : (h : History) (client : Client) (symbol : Name) (wish : Wish) (reply : Reply) (w : Window) → IsAnswer h client (command_of symbol wish) reply → IsLegalOutcome h client (command_of symbol wish) reply w (outcomes.Refused refusals.NoSuchSymbol)
+unknown_outcome h client symbol wishes.All reply w a = a
+unknown_outcome h client symbol (wishes.These numbers) reply w a = a
+unknown_outcome h client symbol wishes.ButNewest reply w a = a
+
+absent_outcome : (h : History) (client : Client) (symbol : Name) (wish : Wish) (reply : Reply) (w : Window) (asked : Asked) → IsAnswer h client (command_of symbol wish) reply → IsLegalOutcome h client (command_of symbol wish) reply w (outcomes.Refused (refusals.NoSuchVersion asked))
+absent_outcome h client symbol wishes.All reply w asked a = a
+absent_outcome h client symbol (wishes.These numbers) reply w asked a = a
+absent_outcome h client symbol wishes.ButNewest reply w asked a = a
+
+-- the answer that refuses so
+abbrev declined : Refusal → Result (List ℕ) Refusal
+declined why = Err why
+
+-- the refusals of an answer
+bury_refusals : (wish : Wish) (st : State) (why : Refusal) → bury_answer wish st ≡ Err why → (refusals.NoSuchSymbol ≡ why) ⊎ ((asked : Asked) × (refusals.NoSuchVersion asked ≡ why))
+bury_refusals wish st why e = by st.has_reference e
+  where
+    same : (a b : Refusal) → declined a ≡ declined b → a ≡ b
+    same a b e = cc
+
+    asked_for : (wish : Wish) → to_bury wish st ≡ Err why → (asked : Asked) × (refusals.NoSuchVersion asked ≡ why)
+    asked_for wishes.All g = cc
+    asked_for wishes.ButNewest g = cc
+    asked_for (wishes.These numbers) g = of (first_absent st numbers.now) g
+      where
+        of : (o : Option ℕ) → unless o (λ n. refusals.NoSuchVersion (asks.Number n)) (Ok (ascending numbers.now)) ≡ Err why → (asked : Asked) × (refusals.NoSuchVersion asked ≡ why)
+        of None g = cc
+        of (Some n) g = (asks.Number n, same (refusals.NoSuchVersion (asks.Number n)) why g)
+
+    by : (b : Bool) → refuse_if (not b) refusals.NoSuchSymbol (to_bury wish st) ≡ Err why → (refusals.NoSuchSymbol ≡ why) ⊎ ((asked : Asked) × (refusals.NoSuchVersion asked ≡ why))
+    by true g = inr (asked_for wish g)
+    by false g = inl (same refusals.NoSuchSymbol why g)
+
+-- ---- own events that are no Refers
+
+none_both : (xs ys : List Event) → list_any is_refer xs ≡ false → list_any is_refer ys ≡ false → list_any is_refer (xs ++ ys) ≡ false
+none_both xs ys x y = list_any-append is_refer xs ys ∙ or_from _ _ x y
+
+puts_no_refer : (client : ℕ) (puts : List (Key × Bytes)) → list_any is_refer (map (put_of client) puts) ≡ false
+puts_no_refer client [] = refl
+puts_no_refer client (p ∷ puts) = puts_no_refer client puts
+
+drops_no_refer : (client : ℕ) (puts : List (Key × Bytes)) → list_any is_refer (map (drop_of client) puts) ≡ false
+drops_no_refer client [] = refl
+drops_no_refer client (p ∷ puts) = drops_no_refer client puts
+
+tries_no_refer : (client : ℕ) (symbol : Name) (ts : List (List Event)) → AllByRecursion (IsRefused client symbol false) ts → list_any is_refer (flat_map (λ t. t) ts) ≡ false
+tries_no_refer client symbol [] all = refl
+tries_no_refer client symbol (t ∷ ts) all =
+    none_both t (flat_map (λ t. t) ts) (ap (list_any is_refer) all.0.3 ∙ none_both (map (put_of client) all.0.0) (map (drop_of client) all.0.0) (puts_no_refer client all.0.0) (drops_no_refer client all.0.0)) (tries_no_refer client symbol ts all.1)
+
+part_no_refer : (client : ℕ) (symbol : Name) (m : ℕ) (own : List Event) → IsPart client symbol m own → list_any is_refer own ≡ false
+part_no_refer client symbol m _ no_event = refl
+part_no_refer client symbol m _ (one_put entry body t) = refl
+part_no_refer client symbol m _ (one_drop entry body t one) = refl
+
+-- ---- nor end a command
+
+no_end_both : (xs ys : List Event) → list_any is_end xs ≡ false → list_any is_end ys ≡ false → list_any is_end (xs ++ ys) ≡ false
+no_end_both xs ys x y = list_any-append is_end xs ys ∙ or_from _ _ x y
+
+puts_no_end : (client : ℕ) (symbol : Name) (puts : List (Key × Bytes)) (entry : Key) → IsTry symbol false puts entry → list_any is_end (map (put_of client) puts) ≡ false
+puts_no_end client symbol puts entry t = same client puts ∙ try_harms_nothing client symbol false puts entry t
+  where
+    same : (client : ℕ) (puts : List (Key × Bytes)) → list_any is_end (map (put_of client) puts) ≡ list_any harms (map (put_of client) puts)
+    same client [] = refl
+    same client (p ∷ puts) = ap (λ b. same_kind p.0.kind kinds.Staged || b) (same client puts)
+
+drops_no_end : (client : ℕ) (puts : List (Key × Bytes)) → list_any is_end (map (drop_of client) puts) ≡ false
+drops_no_end client [] = refl
+drops_no_end client (p ∷ puts) = drops_no_end client puts
+
+tries_no_end : (client : ℕ) (symbol : Name) (ts : List (List Event)) → AllByRecursion (IsRefused client symbol false) ts → list_any is_end (flat_map (λ t. t) ts) ≡ false
+tries_no_end client symbol [] all = refl
+tries_no_end client symbol (t ∷ ts) all =
+    no_end_both t (flat_map (λ t. t) ts) (ap (list_any is_end) all.0.3 ∙ no_end_both (map (put_of client) all.0.0) (map (drop_of client) all.0.0) (puts_no_end client symbol all.0.0 all.0.1 all.0.2) (drops_no_end client all.0.0)) (tries_no_end client symbol ts all.1)
+
+part_no_end : (client : ℕ) (symbol : Name) (m : ℕ) (own : List Event) → IsPart client symbol m own → list_any is_end own ≡ false
+part_no_end client symbol m _ no_event = refl
+part_no_end client symbol m _ (one_put entry body t) = puts_no_end client symbol ((entry, body) ∷ []) entry t
+part_no_end client symbol m _ (one_drop entry body t one) = no_end_both (map (put_of client) ((entry, body) ∷ [])) (map (drop_of client) ((entry, body) ∷ [])) (puts_no_end client symbol ((entry, body) ∷ []) entry t) refl
+
+-- so the window has no place of an own Refer
+places_none : (client : ℕ) (sole : Bool) (old new : History) (own : List Event) → Went client sole old new own → list_any is_refer own ≡ false → refer_places client (length old) new ≡ []
+places_none client sole old new own w none = subst (λ h. refer_places client (length old) h ≡ []) (sym w.is) (no_places client old w.more (no_own_refer client w.more own w.own_are none))
+
+-- others' Refers add up
+met_sum : (client : ℕ) (sole : Bool) (symbol : Name) (old mid new : History) (first second whole : List Event) (a : Went client sole old mid first) (b : Went client sole mid new second) (w : Went client sole old new whole)
+    → met_in client symbol w.more ≡ met_in client symbol b.more + met_in client symbol a.more
+met_sum client sole symbol old mid new first second whole a b w =
+    let is : new ≡ (b.more ++ a.more) ++ old = b.is ∙ (ap (λ h. b.more ++ h) a.is ∙ sym (append_assoc b.more a.more old)) in
+    ap (met_in client symbol) (same_front w.more (b.more ++ a.more) old (sym w.is ∙ is)) ∙ met_in-append client symbol b.more a.more
+
+-- a commit, with its Refer
+pub bury_went : (client : ℕ) (sole : Bool) (symbol : Name) (wish : Wish) (old new : History) (done : Buried) → (d : DidBury client sole symbol wish old new done)
+    → Went client sole old new (events.Put client d.entry d.body ∷ events.Refer client symbol d.was d.entry (changes.Removed d.numbers ∷ []) ∷ [])
+bury_went client sole symbol wish old new done d = record {
+  more = referring ∷ d.went.more;
+  is = d.newest ∙ ap (λ h. referring ∷ h) d.went.is;
+  own_are = own_of-append client (referring ∷ []) d.went.more ∙ (λ i. d.went.own_are i ++ own_of-one client referring refl i);
+  alone = λ s. ap (λ l. referring ∷ l) (d.went.alone s);
+  lawful = d.lawful;
+}
+  where
+    referring : Event
+    referring = events.Refer client symbol d.was d.entry (changes.Removed d.numbers ∷ [])
+
+-- ---- the reply
+
+module _ (s : Session) (limit : ℕ) (sole : Bool) (symbol : Name) (wish : Wish) (old new : History) (faulted : Bool) where
+  abbrev client : Client
+  client = record { session = s; limit = limit }
+
+  abbrev window : Window
+  window = record { start = length old; stop = length new; faulted = faulted }
+
+  abbrev plain : ℕ → List ℕ → Outcome → Reply
+  plain place commits outcome = record { place = place; listed = None; commits = commits; left = []; outcome = outcome }
+
+  abbrev legal : Reply → Type 0
+  legal reply = IsLegalSeen new client (command_of symbol wish) reply window
+
+  -- the place of the newest event, which is the Refer of a burial, and the history before it
+  module _ (mid : History) (done : Buried) (d : DidBury s.client sole symbol wish mid new done) where
+    abbrev referring : Event
+    referring = events.Refer s.client symbol d.was d.entry (changes.Removed d.numbers ∷ [])
+
+    end_is : length new ≡ suc (length d.before)
+    end_is = ap length d.newest
+
+    back : length new - 1 ≡ length d.before
+    back = omega (arith, end_is)
+
+    earlier : history_at new (length new - 1) ≡ d.before
+    earlier = ap (history_at new) back ∙ (ap (λ h. history_at h (length d.before)) d.newest ∙ (history_at_later d.before (referring ∷ []) (length d.before) (omega arith) ∙ history_at_end d.before))
+
+    event_is : event_at new (length new) ≡ Some referring
+    event_is = ap (event_at new) end_is ∙ (ap (λ h. event_at h (suc (length d.before))) d.newest ∙ event_at_end referring d.before)
+
+    -- what it makes is what the library answers just before
+    answers : (listed : Library) → answer s listed (library_at new (length new - 1)) (length new - 1) (command_of symbol wish) ≡ Some (record { outcome = outcome_of wish (length d.numbers); marks = changes.Removed d.numbers ∷ [] })
+    answers listed =
+        answer_is s listed (library_at new (length new - 1)) (length new - 1) symbol wish
+        ∙ (ap (λ h. answer_from wish (bury_answer wish (state_of h symbol))) earlier ∙ (ap (answer_from wish) d.answered ∙ ap (λ ms. Some (record { outcome = outcome_of wish (length d.numbers); marks = ms })) (removed_some d.numbers d.filled)))
+      where
+        removed_some : (ns : List ℕ) → IsFilled ns → removed ns ≡ changes.Removed ns ∷ []
+        removed_some [] f = absurd f
+        removed_some (n ∷ ns) f = refl
+
+  module _ (count : ℕ) (mid : History) (few : count < s.tries) (r : DidRefused s.client sole symbol old mid count) where
+    early : length old ≤ length mid
+    early = went_longer s.client sole old mid (flat_map (λ t. t) r.tries) r.went
+
+    -- ---- the commit stands
+    module _ (done : Buried) (d : DidBury s.client sole symbol wish mid new done) where
+      abbrev last : List Event
+      last = events.Put s.client d.entry d.body ∷ referring mid done d ∷ []
+
+      w : Went s.client sole old new (flat_map (λ t. t) r.tries ++ last)
+      w = went_then s.client sole old mid new (flat_map (λ t. t) r.tries) last r.went (bury_went s.client sole symbol wish mid new done d)
+
+      seen_own : own_events new s.client window ≡ flat_map (λ t. t) r.tries ++ last
+      seen_own = own_in_window s.client old new w.more faulted w.is ∙ w.own_are
+
+      met_all : length r.tries ≤ refers_by_others new s.client symbol window
+      met_all =
+          let sum = met_sum s.client sole symbol old mid new (flat_map (λ t. t) r.tries) last (flat_map (λ t. t) r.tries ++ last) r.went (bury_went s.client sole symbol wish mid new done d) w in
+          let here = met_in_window s.client symbol old new w.more faulted w.is in
+          omega (arith, r.counted, r.met, sum, here)
+
+      turn : IsTurn new s window symbol false true AnyMarks (flat_map (λ t. t) r.tries ++ last)
+      turn = done_turn new s window symbol r.tries r.refused met_all (omega (arith, r.counted, few)) ((d.entry, d.body) ∷ []) d.was d.entry (changes.Removed d.numbers ∷ []) d.is_try
+
+      front : Went s.client sole old d.before (flat_map (λ t. t) r.tries ++ events.Put s.client d.entry d.body ∷ [])
+      front = went_then s.client sole old mid d.before (flat_map (λ t. t) r.tries) (events.Put s.client d.entry d.body ∷ []) r.went d.went
+
+      longer : length old ≤ length d.before
+      longer = went_longer s.client sole old d.before (flat_map (λ t. t) r.tries ++ events.Put s.client d.entry d.body ∷ []) front
+
+      places : refer_places s.client (length old) new ≡ length new ∷ []
+      places =
+          ap (refer_places s.client (length old)) d.newest
+          ∙ (one_place s.client old d.before symbol d.was d.entry (changes.Removed d.numbers ∷ []) longer
+          (places_none s.client sole old d.before (flat_map (λ t. t) r.tries ++ events.Put s.client d.entry d.body ∷ []) front (none_both (flat_map (λ t. t) r.tries) (events.Put s.client d.entry d.body ∷ []) (tries_no_refer s.client symbol r.tries r.refused) refl))
+          ∙ ap (λ k. k ∷ []) (sym (end_is mid done d)))
+
+      places_at : refer_places s.client (length old) (history_at new (length new)) ≡ length new ∷ []
+      places_at = ap (refer_places s.client (length old)) (history_at_end new) ∙ places
+
+      bury_facts : SeenFacts new s limit (command_of symbol wish) symbol (plain (length new) (length new ∷ []) (outcome_of wish (length d.numbers))) window
+      bury_facts = record {
+        after = omega (arith, end_is mid done d, longer);
+        before = omega arith;
+        listed = refl;
+        left = refl;
+        events = on_false _ (is_cut (outcome_of wish (length d.numbers))) (not_cut wish (length d.numbers))
+            (subst (λ b. IsTurn new s window symbol false b AnyMarks (own_events new s.client window)) (sym (is_done_with wish (length d.numbers) (length new) (length new ∷ [])))
+            (subst (IsTurn new s window symbol false true AnyMarks) (sym seen_own) turn));
+        commits = subst (λ b. AreCommits b (length new ∷ []) (refer_places s.client (length old) (history_at new (length new)))) (sym (no_fault wish (length d.numbers))) (sym places_at);
+        short = λ c f. absurd (true≢false (sym c ∙ not_cut wish (length d.numbers)));
+        meant = on_false _ (is_store_fault (outcome_of wish (length d.numbers))) (no_fault wish (length d.numbers)) tt;
+        late = on_false _ (is_cut (outcome_of wish (length d.numbers))) (not_cut wish (length d.numbers)) tt;
+        outcome = ok_outcome new client symbol wish (plain (length new) (length new ∷ []) (outcome_of wish (length d.numbers))) window (length d.numbers)
+            (inr (changes.Removed d.numbers, [], symbol, answers mid done d (library_at new (length new)), symbol_is symbol wish, (d.was, d.entry, event_is mid done d), refl));
+      }
+
+      pub bury_is_legal : legal (reply_to (outcome_of wish) (Ok done))
+      bury_is_legal =
+          subst (λ n. legal (plain done.place (commits_of done.commit) (outcome_of wish n))) (sym d.versions)
+          (subst (λ p. legal (plain p (commits_of done.commit) (outcome_of wish (length d.numbers)))) (sym d.place)
+          (subst (λ o. legal (plain (length new) (commits_of o) (outcome_of wish (length d.numbers)))) (sym d.commit)
+          (seen_of new s limit (command_of symbol wish) symbol (plain (length new) (length new ∷ []) (outcome_of wish (length d.numbers))) window (burial_of symbol wish) bury_facts)))
+
+      -- or it stands, and the store failed
+      pub fault_is_legal : (place : ℕ) → StopsAt s.client mid new (record { place = place; why = refusals.StoreFault }) → faulted ≡ true → legal (plain place [] (outcomes.Refused refusals.StoreFault))
+      fault_is_legal place stops fault =
+          let size : length new ≡ length stops.after + length stops.before = ap length stops.split ∙ length-append stops.after stops.before in
+          seen_of new s limit (command_of symbol wish) symbol (plain place [] (outcomes.Refused refusals.StoreFault)) window (burial_of symbol wish) (record {
+            after = omega (arith, early, stops.place, stops.later);
+            before = omega (arith, stops.place, size);
+            listed = refl;
+            left = refl;
+            events = inl (record { more = []; whole = subst (IsTurn new s window symbol false true AnyMarks) (sym (append_none (own_events new s.client window) ∙ seen_own)) turn });
+            commits = inr (length new, places_at);
+            short = λ c f. absurd (true≢false f);
+            meant = subst (AllByRecursion (IsMeantAt new s (command_of symbol wish) (plain place [] (outcomes.Refused refusals.StoreFault)))) (sym places_at) (
+              record {
+                symbol = symbol;
+                list = changes.Removed d.numbers ∷ [];
+                outcome = outcome_of wish (length d.numbers);
+                symbol_is = symbol_is symbol wish;
+                event = (d.was, d.entry, event_is mid done d);
+                answered = answers mid done d (library_at new (length new));
+              },
+              tt,
+            );
+            late = subst (λ p. length (own_events new s.client (record window { start = p })) ≤ 1) (sym stops.place)
+                (subst (λ (es : List Event). length es ≤ 1) (sym (own_in_window s.client stops.before new stops.after faulted stops.split)) stops.few);
+            outcome = fault_outcome wish fault;
+          })
+        where
+          fault_outcome : (v : Wish) → faulted ≡ true → IsLegalOutcome new client (command_of symbol v) (plain place [] (outcomes.Refused refusals.StoreFault)) window (outcomes.Refused refusals.StoreFault)
+          fault_outcome wishes.All f = f
+          fault_outcome (wishes.These numbers) f = f
+          fault_outcome wishes.ButNewest f = f
+
+    -- ---- no event, but refused tries
+    module _ (went : Went s.client sole mid new []) where
+      w_quiet : Went s.client sole old new (flat_map (λ t. t) r.tries)
+      w_quiet = went_as s.client sole old new (flat_map (λ t. t) r.tries ++ []) (flat_map (λ t. t) r.tries) (append_none (flat_map (λ t. t) r.tries)) (went_then s.client sole old mid new (flat_map (λ t. t) r.tries) [] r.went went)
+
+      own_quiet : own_events new s.client window ≡ flat_map (λ t. t) r.tries
+      own_quiet = own_in_window s.client old new w_quiet.more faulted w_quiet.is ∙ w_quiet.own_are
+
+      open_quiet : IsTurn new s window symbol false false AnyMarks (own_events new s.client window)
+      open_quiet =
+          let sum = met_sum s.client sole symbol old mid new (flat_map (λ t. t) r.tries) [] (flat_map (λ t. t) r.tries) r.went went w_quiet in
+          let here = met_in_window s.client symbol old new w_quiet.more faulted w_quiet.is in
+          subst (IsTurn new s window symbol false false AnyMarks) (sym own_quiet)
+          (open_turn new s window symbol r.tries r.refused (omega (arith, r.counted, r.met, sum, here)) (omega (arith, r.counted, few)))
+
+      places_quiet : refer_places s.client (length old) (history_at new (length new)) ≡ []
+      places_quiet = ap (refer_places s.client (length old)) (history_at_end new) ∙ places_none s.client sole old new (flat_map (λ t. t) r.tries) w_quiet (tries_no_refer s.client symbol r.tries r.refused)
+
+      -- the answer at the place, where it has no changes
+      quiet_facts : (place : ℕ) (outcome : Outcome) → IsWithin mid new place → is_cut outcome ≡ false → is_store_fault outcome ≡ false → is_done (plain place [] outcome) ≡ false
+          → IsLegalOutcome new client (command_of symbol wish) (plain place [] outcome) window outcome → legal (plain place [] outcome)
+      quiet_facts place outcome within cut fault undone legal_outcome = seen_of new s limit (command_of symbol wish) symbol (plain place [] outcome) window (burial_of symbol wish) (record {
+        after = omega (arith, early, within.from);
+        before = within.to;
+        listed = refl;
+        left = refl;
+        events = on_false _ (is_cut outcome) cut (subst (λ b. IsTurn new s window symbol false b AnyMarks (own_events new s.client window)) (sym undone) open_quiet);
+        commits = subst (λ b. AreCommits b [] (refer_places s.client (length old) (history_at new (length new)))) (sym fault) (sym places_quiet);
+        short = λ c f. absurd (true≢false (sym c ∙ cut));
+        meant = on_false _ (is_store_fault outcome) fault tt;
+        late = on_false _ (is_cut outcome) cut tt;
+        outcome = legal_outcome;
+      })
+
+      answer_at : (place : ℕ) (result : Result (List ℕ) Refusal) → bury_answer wish (state_of (history_at new place) symbol) ≡ result → answer s (library_at new place) (library_at new place) place (command_of symbol wish) ≡ answer_from wish result
+      answer_at place result e = answer_is s (library_at new place) (library_at new place) place symbol wish ∙ ap (answer_from wish) e
+
+    pub nothing_is_legal : (done : Buried) → DidNothing s.client sole symbol wish mid new done → legal (reply_to (outcome_of wish) (Ok done))
+    nothing_is_legal done d =
+        subst (λ n. legal (plain done.place (commits_of done.commit) (outcome_of wish n))) (sym d.versions)
+        (subst (λ o. legal (plain done.place (commits_of o) (outcome_of wish 0))) (sym d.commit)
+        (quiet_facts d.went done.place (outcome_of wish 0) d.place (not_cut wish 0) (no_fault wish 0) (is_done_with wish 0 done.place [])
+        (ok_outcome new client symbol wish (plain done.place [] (outcome_of wish 0)) window 0 (inl (answer_at d.went done.place (Ok []) d.answered, refl)))))
+
+    pub refuse_is_legal : (place : ℕ) (why : Refusal) → DidRefuse s.client sole symbol wish mid new (record { place = place; why = why }) → legal (plain place [] (outcomes.Refused why))
+    refuse_is_legal place why d = elim (bury_refusals wish (state_of (history_at new place) symbol) why d.answered) [
+      | inl unknown ↦ subst (λ y. legal (plain place [] (outcomes.Refused y))) unknown
+          (quiet_facts d.went place (outcomes.Refused refusals.NoSuchSymbol) d.place refl refl refl
+          (unknown_outcome new client symbol wish (plain place [] (outcomes.Refused refusals.NoSuchSymbol)) window (inl (answer_at d.went place (Err refusals.NoSuchSymbol) (d.answered ∙ ap Err (sym unknown)), refl))))
+      | inr absent ↦ subst (λ y. legal (plain place [] (outcomes.Refused y))) absent.1
+          (quiet_facts d.went place (outcomes.Refused (refusals.NoSuchVersion absent.0)) d.place refl refl refl
+          (absent_outcome new client symbol wish (plain place [] (outcomes.Refused (refusals.NoSuchVersion absent.0))) window absent.0 (inl (answer_at d.went place (Err (refusals.NoSuchVersion absent.0)) (d.answered ∙ ap Err (sym absent.1)), refl))))
+    ]
+
+    -- ---- a call failed
+    module _ (before now : ℕ) (rises : Rose before now → faulted ≡ true) (place : ℕ) (why : Refusal) (d : DidStop s.client sole symbol wish limit before now mid new (record { place = place; why = why })) where
+      w_cut : Went s.client sole old new (flat_map (λ t. t) r.tries ++ d.own)
+      w_cut = went_then s.client sole old mid new (flat_map (λ t. t) r.tries) d.own r.went d.went
+
+      own_cut : own_events new s.client window ≡ flat_map (λ t. t) r.tries ++ d.own
+      own_cut = own_in_window s.client old new w_cut.more faulted w_cut.is ∙ w_cut.own_are
+
+      begun : IsBeginning (IsTurn new s window symbol false true AnyMarks) (own_events new s.client window) ⊎ IsBeginning (IsTurn new s window symbol false false AnyMarks) (own_events new s.client window)
+      begun =
+          let sum = met_sum s.client sole symbol old mid new (flat_map (λ t. t) r.tries) d.own (flat_map (λ t. t) r.tries ++ d.own) r.went d.went w_cut in
+          let here = met_in_window s.client symbol old new w_cut.more faulted w_cut.is in
+          subst (λ es. IsBeginning (IsTurn new s window symbol false true AnyMarks) es ⊎ IsBeginning (IsTurn new s window symbol false false AnyMarks) es) (sym own_cut)
+          (cut_turn new s window symbol r.tries r.refused d.own (met_in s.client symbol d.went.more) (omega (arith, r.counted, few)) (omega (arith, r.counted, r.met, sum, here)) d.part)
+
+      places_cut : refer_places s.client (length old) (history_at new (length new)) ≡ []
+      places_cut = ap (refer_places s.client (length old)) (history_at_end new) ∙ places_none s.client sole old new (flat_map (λ t. t) r.tries ++ d.own) w_cut
+          (none_both (flat_map (λ t. t) r.tries) d.own (tries_no_refer s.client symbol r.tries r.refused) (part_no_refer s.client symbol (met_in s.client symbol d.went.more) d.own d.part))
+
+      no_end : list_any is_end (own_events new s.client window) ≡ false
+      no_end = ap (list_any is_end) own_cut ∙ no_end_both (flat_map (λ t. t) r.tries) d.own (tries_no_end s.client symbol r.tries r.refused) (part_no_end s.client symbol (met_in s.client symbol d.went.more) d.own d.part)
+
+      late_cut : length (own_events new s.client (record window { start = place })) ≤ one_if (is_fault why)
+      late_cut = subst (λ p. length (own_events new s.client (record window { start = p })) ≤ one_if (is_fault why)) (sym d.stops.place)
+          (subst (λ (es : List Event). length es ≤ one_if (is_fault why)) (sym (own_in_window s.client d.stops.before new d.stops.after faulted d.stops.split)) d.stops.few)
+
+      cut_facts : is_cut (outcomes.Refused why) ≡ true → is_store_fault (outcomes.Refused why) ≡ is_fault why → IsLegalOutcome new client (command_of symbol wish) (plain place [] (outcomes.Refused why)) window (outcomes.Refused why)
+          → AreCommits (is_store_fault (outcomes.Refused why)) [] [] → MatchBool (is_store_fault (outcomes.Refused why)) (AllByRecursion (IsMeantAt new s (command_of symbol wish) (plain place [] (outcomes.Refused why))) []) ⊤ → legal (plain place [] (outcomes.Refused why))
+      cut_facts cut fault legal_outcome commits meant =
+          let size : length new ≡ length d.stops.after + length d.stops.before = ap length d.stops.split ∙ length-append d.stops.after d.stops.before in
+          seen_of new s limit (command_of symbol wish) symbol (plain place [] (outcomes.Refused why)) window (burial_of symbol wish) (record {
+            after = omega (arith, early, d.stops.place, d.stops.later);
+            before = omega (arith, d.stops.place, size);
+            listed = refl;
+            left = refl;
+            events = on_true _ (is_cut (outcomes.Refused why)) cut begun;
+            commits = subst (AreCommits (is_store_fault (outcomes.Refused why)) []) (sym places_cut) commits;
+            short = λ c f. no_end;
+            meant = subst (λ ps. MatchBool (is_store_fault (outcomes.Refused why)) (AllByRecursion (IsMeantAt new s (command_of symbol wish) (plain place [] (outcomes.Refused why))) ps) ⊤) (sym places_cut) meant;
+            late = on_true ⊤ (is_cut (outcomes.Refused why)) cut (subst (λ b. length (own_events new s.client (record window { start = place })) ≤ one_if b) (sym fault) late_cut);
+            outcome = legal_outcome;
+          })
+
+    module _ (before now : ℕ) (rises : Rose before now → faulted ≡ true) (place : ℕ) where
+      memory_outcome : (v : Wish) → IsLegalOutcome new client (command_of symbol v) (plain place [] (outcomes.Refused refusals.NoMemory)) window (outcomes.Refused refusals.NoMemory)
+      memory_outcome wishes.All = tt
+      memory_outcome (wishes.These numbers) = tt
+      memory_outcome wishes.ButNewest = tt
+
+      failed_outcome : (v : Wish) → faulted ≡ true → IsLegalOutcome new client (command_of symbol v) (plain place [] (outcomes.Refused refusals.StoreFault)) window (outcomes.Refused refusals.StoreFault)
+      failed_outcome wishes.All f = f
+      failed_outcome (wishes.These numbers) f = f
+      failed_outcome wishes.ButNewest f = f
+
+      spent_outcome : (v : Wish) (count : ℕ) → IsSpent new client (command_of symbol v) count (plain place [] (outcomes.Refused (refusals.Spent count))) window
+          → IsLegalOutcome new client (command_of symbol v) (plain place [] (outcomes.Refused (refusals.Spent count))) window (outcomes.Refused (refusals.Spent count))
+      spent_outcome wishes.All count f = f
+      spent_outcome (wishes.These numbers) count f = f
+      spent_outcome wishes.ButNewest count f = f
+
+      to_make : (v : Wish) (reply : Reply) → reply.listed ≡ None → (q : ℕ) → length old ≤ q → q ≤ place → (numbers : List ℕ) → IsFilled numbers → bury_answer v (state_of (history_at new q) symbol) ≡ Ok numbers
+          → HasToMake new client (command_of symbol v) reply (length old) place
+      to_make v reply listed q from to numbers filled e = by v (q, from, to, λ listing. subst MarksAt (sym (answer_is s listing (library_at new q) q symbol v ∙ ap (answer_from v) e)) (inl (some_marks numbers filled)))
+        where
+          some_marks : (ns : List ℕ) → IsFilled ns → removed ns ≡ [] → ⊥
+          some_marks [] f x = absurd f
+          some_marks (n ∷ ns) f x = cc
+
+          by : (v : Wish) → ((q : ℕ) × (length old ≤ q) × (q ≤ place) × ((listing : Library) → MarksAt (answer s listing (library_at new q) q (command_of symbol v)))) → HasToMake new client (command_of symbol v) reply (length old) place
+          by wishes.All x = (x.0, x.1, x.2, x.3 (library_at new (unwrap_or reply.listed x.0)))
+          by (wishes.These numbers) x = (x.0, x.1, x.2, x.3 (library_at new (unwrap_or reply.listed x.0)))
+          by wishes.ButNewest x = (x.0, x.1, x.2, x.3 (library_at new (unwrap_or reply.listed x.0)))
+
+      pub stop_is_legal : (why : Refusal) → DidStop s.client sole symbol wish limit before now mid new (record { place = place; why = why }) → legal (plain place [] (outcomes.Refused why))
+      stop_is_legal refusals.NoMemory d = cut_facts before now rises place refusals.NoMemory d refl refl (memory_outcome wish) refl tt
+      stop_is_legal refusals.StoreFault d = cut_facts before now rises place refusals.StoreFault d refl refl (failed_outcome wish (rises d.cause)) (inl refl) tt
+      stop_is_legal (refusals.Spent full) d =
+          let busy = d.busy full refl in
+          cut_facts before now rises place (refusals.Spent full) d refl refl (spent_outcome wish full (record {
+            here = d.cause.1;
+            full = d.cause.0.1;
+            busy = inr (to_make wish (plain place [] (outcomes.Refused (refusals.Spent full))) refl busy.place (omega (arith, early, busy.within.from)) busy.before busy.numbers busy.filled busy.answered);
+          })) refl tt
+      stop_is_legal refusals.NoSuchSymbol d = absurd d.cause
+      stop_is_legal (refusals.NoSuchVersion asked) d = absurd d.cause
+      stop_is_legal (refusals.VersionGone version) d = absurd d.cause
+      stop_is_legal (refusals.Moved at) d = absurd d.cause
+      stop_is_legal (refusals.Unsorted row) d = absurd d.cause
+      stop_is_legal (refusals.SchemaDiffers column) d = absurd d.cause
+      stop_is_legal (refusals.AppendBefore last first) d = absurd d.cause
+      stop_is_legal (refusals.OutsideRange row) d = absurd d.cause
+      stop_is_legal refusals.EmptyUpdate d = absurd d.cause
+      stop_is_legal (refusals.NoSuchColumn clause position) d = absurd d.cause
+      stop_is_legal (refusals.TypeMismatch clause) d = absurd d.cause
+      stop_is_legal (refusals.Overflow clause row) d = absurd d.cause
+      stop_is_legal (refusals.GroupOverflow clause group) d = absurd d.cause
+      stop_is_legal (refusals.NotTimeIndexed clause) d = absurd d.cause
+      stop_is_legal refusals.SnapshotExists d = absurd d.cause
+      stop_is_legal refusals.NoSuchSnapshot d = absurd d.cause
+      stop_is_legal refusals.NoStaged d = absurd d.cause
+      stop_is_legal (refusals.StagedOverlap piece) d = absurd d.cause
+      stop_is_legal (refusals.TooLarge what most) d = absurd d.cause
+
+  -- each try was met
+  pub moved_is_legal : (place : ℕ) (r : DidRefused s.client sole symbol old new s.tries) → IsMet s.client symbol (length old) new place → legal (plain place [] (outcomes.Refused (refusals.Moved place)))
+  moved_is_legal place r m =
+      let seen_own : own_events new s.client window ≡ flat_map (λ t. t) r.tries = own_in_window s.client old new r.went.more faulted r.went.is ∙ r.went.own_are in
+      let here = met_in_window s.client symbol old new r.went.more faulted r.went.is in
+      let met_all : length r.tries ≤ refers_by_others new s.client symbol window = omega (arith, r.counted, r.met, here) in
+      seen_of new s limit (command_of symbol wish) symbol (plain place [] (outcomes.Refused (refusals.Moved place))) window (burial_of symbol wish) (record {
+        after = omega (arith, m.added);
+        before = m.within;
+        listed = refl;
+        left = refl;
+        events = subst (IsTurn new s window symbol false false AnyMarks) (sym seen_own) (open_turn new s window symbol r.tries r.refused met_all (omega (arith, r.counted)));
+        commits = sym (ap (refer_places s.client (length old)) (history_at_end new) ∙ places_none s.client sole old new (flat_map (λ t. t) r.tries) r.went (tries_no_refer s.client symbol r.tries r.refused));
+        short = λ c f. absurd (true≢false (sym c));
+        meant = tt;
+        late = tt;
+        outcome = moved_outcome wish (record { here = refl; inside = m.added; event = m.event; at = m.at; refers = m.refers; others = m.others; enough = subst (λ k. k ≤ refers_by_others new s.client symbol window) r.counted met_all });
+      })
+    where
+      moved_outcome : (v : Wish) → IsMoved new s symbol place place window → IsLegalOutcome new client (command_of symbol v) (plain place [] (outcomes.Refused (refusals.Moved place))) window (outcomes.Refused (refusals.Moved place))
+      moved_outcome wishes.All f = (symbol, (refl, refl), f)
+      moved_outcome (wishes.These numbers) f = (symbol, (refl, refl), f)
+      moved_outcome wishes.ButNewest f = (symbol, (refl, refl), f)
+
+-- ---- all tries
+
+pub burial_is_legal : (s : Session) (limit : ℕ) (sole : Bool) (symbol : Name) (wish : Wish) (before now : ℕ) (old new : History) (faulted : Bool) → (Rose before now → faulted ≡ true)
+    → (result : Result Buried Refused) → DidTries s.client sole symbol wish s.tries limit before now old new result
+    → IsLegalSeen new (record { session = s; limit = limit }) (command_of symbol wish) (reply_to (outcome_of wish) result) (record { start = length old; stop = length new; faulted = faulted })
+burial_is_legal s limit sole symbol wish before now old new faulted rises (Ok done) d = elim d.last [
+  | inl c ↦ bury_is_legal s limit sole symbol wish old new faulted d.count d.mid d.few d.refused done c
+  | inr n ↦ nothing_is_legal s limit sole symbol wish old new faulted d.count d.mid d.few d.refused done n
+]
+burial_is_legal s limit sole symbol wish before now old new faulted rises (Err refused) d = elim d [
+  | inl all ↦ subst (λ y. IsLegalSeen new (record { session = s; limit = limit }) (command_of symbol wish) (reply_to (outcome_of wish) (Err (record { place = refused.place; why = y }))) (record { start = length old; stop = length new; faulted = faulted })) (sym all.why)
+      (moved_is_legal s limit sole symbol wish old new faulted refused.place all.all all.met)
+  | inr t ↦ elim t.last [
+    | inl r ↦ refuse_is_legal s limit sole symbol wish old new faulted t.count t.mid t.few t.refused refused.place refused.why r
+    | inr rest ↦ elim rest [
+      | inl stop ↦ stop_is_legal s limit sole symbol wish old new faulted t.count t.mid t.few t.refused before now rises refused.place refused.why stop
+      | inr f ↦ subst (λ y. IsLegalSeen new (record { session = s; limit = limit }) (command_of symbol wish) (reply_to (outcome_of wish) (Err (record { place = refused.place; why = y }))) (record { start = length old; stop = length new; faulted = faulted })) (sym f.why)
+          (fault_is_legal s limit sole symbol wish old new faulted t.count t.mid t.few t.refused f.done f.commit refused.place
+          (subst (λ y. StopsAt s.client t.mid new (record { place = refused.place; why = y })) f.why f.stops) (rises f.rose))
+    ]
+  ]
+]
+
+pub tries_are_legal : (client : ℕ) (sole : Bool) (symbol : Name) (wish : Wish) (most limit before now : ℕ) (old new : History) (result : Result Buried Refused)
+    → DidTries client sole symbol wish most limit before now old new result → IsLegalBurial limit client most (command_of symbol wish) (outcome_of wish) before now old new result
+tries_are_legal client sole symbol wish most limit before now old new result d = λ s faulted client_is tries_are rises. (
+  omega arith,
+  subst (λ h. IsLegalSeen h (record { session = s; limit = limit }) (command_of symbol wish) (reply_to (outcome_of wish) result) (record { start = length old; stop = length new; faulted = faulted })) (sym (history_at_end new))
+      (burial_is_legal s limit sole symbol wish before now old new faulted rises result
+      (subst (λ c. DidTries c sole symbol wish s.tries limit before now old new result) (sym client_is)
+      (subst (λ t. DidTries client sole symbol wish t limit before now old new result) (sym tries_are) d))),
+)
+
+-- ---- how the history went on
+
+all_filtered : (client : ℕ) (more : History) → AllByRecursion (λ (e : Event). author e ≡ client) (filter (λ e. nat_eq (author e) client) more)
+all_filtered client [] = tt
+all_filtered client (e ∷ more) =
+    elim (nat_eq (author e) client) as (λ b. nat_eq (author e) client ≡ b → AllByRecursion (λ (e : Event). author e ≡ client) (cond b (e ∷ filter (λ e. nat_eq (author e) client) more) (filter (λ e. nat_eq (author e) client) more))) [
+      | true ↦ λ on. (eqb-true (author e) client on, all_filtered client more)
+      | false ↦ λ off. all_filtered client more
+    ] refl
+
+pub went_goes_on : (client : ℕ) (sole : Bool) (old new : History) (own : List Event) → Went client sole old new own → GoesOn client sole old new
+went_goes_on client sole old new own w = record {
+  more = w.more;
+  is = w.is;
+  alone = λ s. subst (AllByRecursion (λ (e : Event). author e ≡ client)) (sym (w.alone s ∙ (ap reverse (sym w.own_are) ∙ reverse-reverse (filter (λ e. nat_eq (author e) client) w.more)))) (all_filtered client w.more);
+  lawful = w.lawful;
+}
+
+pub goes_on : (client : ℕ) (sole : Bool) (symbol : Name) (wish : Wish) (most limit before now : ℕ) (old new : History) (r : Result Buried Refused)
+    → DidTries client sole symbol wish most limit before now old new r → GoesOn client sole old new
+goes_on client sole symbol wish most limit before now old new (Ok done) d = elim d.last [
+  | inl c ↦ went_goes_on client sole old new _ (went_then client sole old d.mid new _ _ d.refused.went (bury_went client sole symbol wish d.mid new done c))
+  | inr n ↦ went_goes_on client sole old new _ (went_then client sole old d.mid new _ _ d.refused.went n.went)
+]
+goes_on client sole symbol wish most limit before now old new (Err refused) d = elim d [
+  | inl all ↦ went_goes_on client sole old new _ all.all.went
+  | inr t ↦ elim t.last [
+    | inl r ↦ went_goes_on client sole old new _ (went_then client sole old t.mid new _ _ t.refused.went r.went)
+    | inr rest ↦ elim rest [
+      | inl stop ↦ went_goes_on client sole old new _ (went_then client sole old t.mid new _ _ t.refused.went stop.went)
+      | inr f ↦ went_goes_on client sole old new _ (went_then client sole old t.mid new _ _ t.refused.went (bury_went client sole symbol wish t.mid new f.done f.commit))
+    ]
+  ]
+]

@@ -1,0 +1,9 @@
+pub mod StateLemmas
+pub mod BuryLemmas
+pub mod AttemptLemmas
+pub mod TriesLemmas
+pub mod TurnLemmas
+pub mod WindowLemmas
+pub mod SeenLemmas
+pub mod LegalBurials
+pub mod ReclaimLemmas
