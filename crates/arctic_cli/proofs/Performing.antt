@@ -11,7 +11,10 @@ use Rattle.bucket_core.specs.History.{History, author, event_at, history_at}
 use Rattle.expr_clause.specs.declared.command.Command.{Command}
 use Rattle.expr_clause.specs.declared.command.Command.TheVariants as commands
 use Rattle.reply_model.specs.declared.reply.Reply.{Reply}
-use Rattle.reply_model.specs.Windows.{Window, Client}
+use Rattle.reply_model.specs.Windows.{Window, Client, is_cut}
+use Rattle.reply_model.specs.Blocks.{Cutting}
+use Rattle.reply_model.specs.Standing.{is_served, IsStep, RunsGrow}
+use Rattle.store_model.specs.Law.{IsLawful}
 use Rattle.reply_model.specs.Legal.{IsLegalSeen, IsLegalReply, LegalFrom}
 use Rattle.reply_model.specs.Runs.{Talk, Covers, AllCovered, is_covered, end_of}
 use Rattle.reply_model.proofs.Later.{history_at_later}
@@ -140,14 +143,23 @@ covered_more client cs ds rs qs ws w from more h covered own start stop n e afte
 
 -- ---- steps
 
+-- what holds of all holds of those before the last, and of the last
+all-front : {A : Type 0} (P : A → Type 0) (xs : List A) (x : A) → AllByRecursion P (xs ++ x ∷ []) → AllByRecursion P xs
+all-front P [] x all = tt
+all-front P (y ∷ xs) x all = (all.0, all-front P xs x all.1)
+
+all-last : {A : Type 0} (P : A → Type 0) (xs : List A) (x : A) → AllByRecursion P (xs ++ x ∷ []) → P x
+all-last P [] x all = all.0
+all-last P (y ∷ xs) x all = all-last P xs x all.1
+
 -- the window of what was added
 abbrev added : History → History → Window
 added mid new = record { start = length mid; stop = length new; faulted = false }
 
 -- one command more, whose events were added to the history
-one_more : (client : Client) (cs : List Command) (rs : List Reply) (c : Command) (r : Reply) (old mid new : History) → IsCarriedOut client cs rs old mid → GoesOn client.session.client true mid new →
-    IsLegalReply new client c r (added mid new) → IsCarriedOut client (cs ++ c ∷ []) (rs ++ r ∷ []) old new
-one_more client cs rs c r old mid new x g legal = record {
+one_more : (cutting : Cutting) (grow : RunsGrow) (client : Client) (cs : List Command) (rs : List Reply) (c : Command) (r : Reply) (old mid new : History) → IsCarriedOut cutting client cs rs old mid → GoesOn client.session.client true mid new →
+    IsLegalReply new client c r (added mid new) → (IsLawful mid → is_served c ≡ true → is_cut r.outcome ≡ false → IsStep cutting client.session c r mid new) → IsCarriedOut cutting client (cs ++ c ∷ []) (rs ++ r ∷ []) old new
+one_more cutting grow client cs rs c r old mid new x g legal stands = record {
   more = g.more ++ x.more;
   goes_on = g.is ∙ (ap (λ (h : History). g.more ++ h) x.goes_on ∙ sym (append_assoc g.more x.more old));
   lawful = λ l. g.lawful (x.lawful l);
@@ -158,14 +170,15 @@ one_more client cs rs c r old mid new x g legal = record {
   covered = subst (λ (h : History). AllCovered h (length old) (talk_of client (cs ++ c ∷ []) (rs ++ r ∷ []) (x.windows ++ added mid new ∷ []) ∷ [])) (sym g.is)
       (covered_more client cs (cs ++ c ∷ []) rs (rs ++ r ∷ []) x.windows (added mid new) (length old) g.more mid x.covered (g.alone refl) refl (ap (λ (h : History). length h) g.is));
   no_fault = all-push (λ (w : Window). w.faulted ≡ false) x.windows (added mid new) x.no_fault refl;
+  alone = λ l s n. grow.one_more cutting client.session cs rs c r old mid new (x.alone l (all-front _ cs c s) (all-front _ rs r n)) (stands (x.lawful l) (all-last _ cs c s) (all-last _ rs r n));
 }
   where
     longer : length old ≤ length mid
     longer = let size : length mid ≡ length (x.more ++ old) = ap (λ (h : History). length h) x.goes_on in omega (arith, size, length-append x.more old)
 
 -- no commands
-pub none_yet : (client : Client) (old : History) → IsCarriedOut client [] [] old old
-none_yet client old = record {
+pub none_yet : (cutting : Cutting) (grow : RunsGrow) (client : Client) (old : History) → IsCarriedOut cutting client [] [] old old
+none_yet cutting grow client old = record {
   more = [];
   goes_on = refl;
   lawful = λ l. l;
@@ -173,6 +186,7 @@ none_yet client old = record {
   legal = tt;
   covered = λ n e after before at. absurd (omega (arith, after, before));
   no_fault = tt;
+  alone = λ l s n. grow.none cutting client.session old;
 }
 
 -- a client by equal settings, number and limit
@@ -180,27 +194,27 @@ pub same_client : (frames : List RawFrame) (s t : Settings) (m n k l : ℕ) → 
 same_client frames s t m n k l e f g = ap (λ (x : Settings). client_of frames x m k) e ∙ (ap (λ (x : ℕ). client_of frames t x k) f ∙ ap (λ (x : ℕ). client_of frames t n x) g)
 
 -- one command more, unless a call of the store failed
-pub step_on : (client : Client) (cs : List Command) (rs : List Reply) (c : Command) (r : Reply) (old mid new : History) (f0 f1 f2 : ℕ) (sole : Bool) → sole ≡ true → f0 ≤ f1 → f1 ≤ f2 →
-    IsCarriedOut client cs rs old mid ⊎ Rose f0 f1 → GoesOn client.session.client sole mid new → IsLegalIn client f1 f2 mid new c r → IsCarriedOut client (cs ++ c ∷ []) (rs ++ r ∷ []) old new ⊎ Rose f0 f2
-step_on client cs rs c r old mid new f0 f1 f2 sole alone le more (inr rose) g legal = let later : Rose f0 f2 = omega (arith, rose, more) in inr later
-step_on client cs rs c r old mid new f0 f1 f2 sole alone le more (inl x) g legal = of (nat_le (min (f1 + 1) (2 ^ 64 - 1)) f2) refl
+pub step_on : (cutting : Cutting) (grow : RunsGrow) (client : Client) (cs : List Command) (rs : List Reply) (c : Command) (r : Reply) (old mid new : History) (f0 f1 f2 : ℕ) (sole : Bool) → sole ≡ true → f0 ≤ f1 → f1 ≤ f2 →
+    IsCarriedOut cutting client cs rs old mid ⊎ Rose f0 f1 → GoesOn client.session.client sole mid new → IsLegalIn client f1 f2 mid new c r → (IsLawful mid → sole ≡ true → is_served c ≡ true → is_cut r.outcome ≡ false → IsStep cutting client.session c r mid new) → IsCarriedOut cutting client (cs ++ c ∷ []) (rs ++ r ∷ []) old new ⊎ Rose f0 f2
+step_on cutting grow client cs rs c r old mid new f0 f1 f2 sole alone le more (inr rose) g legal stands = let later : Rose f0 f2 = omega (arith, rose, more) in inr later
+step_on cutting grow client cs rs c r old mid new f0 f1 f2 sole alone le more (inl x) g legal stands = of (nat_le (min (f1 + 1) (2 ^ 64 - 1)) f2) refl
   where
-    of : (b : Bool) → nat_le (min (f1 + 1) (2 ^ 64 - 1)) f2 ≡ b → IsCarriedOut client (cs ++ c ∷ []) (rs ++ r ∷ []) old new ⊎ Rose f0 f2
+    of : (b : Bool) → nat_le (min (f1 + 1) (2 ^ 64 - 1)) f2 ≡ b → IsCarriedOut cutting client (cs ++ c ∷ []) (rs ++ r ∷ []) old new ⊎ Rose f0 f2
     of true is =
         let rose : Rose f1 f2 = leb-true (min (f1 + 1) (2 ^ 64 - 1)) f2 is in
         let later : Rose f0 f2 = omega (arith, rose, le) in
         inr later
     of false is =
         let calm : Rose f1 f2 → ⊥ = λ rose. true≢false (sym (le-leb (min (f1 + 1) (2 ^ 64 - 1)) f2 rose) ∙ is) in
-        inl (one_more client cs rs c r old mid new x (subst (λ (b : Bool). GoesOn client.session.client b mid new) alone g) (legal false (λ rose. absurd (calm rose))))
+        inl (one_more cutting grow client cs rs c r old mid new x (subst (λ (b : Bool). GoesOn client.session.client b mid new) alone g) (legal false (λ rose. absurd (calm rose))) (λ l. stands l alone))
 
 -- the commands up to the next place
-pub step_at : (client : Client) (list : List Command) (i : ℕ) (rs : List Reply) (c : Command) (r : Reply) (old mid new : History) (f0 f1 f2 : ℕ) (sole : Bool) → i < length list → c ≡ get_or list i c → sole ≡ true → f0 ≤ f1 → f1 ≤ f2 →
-    IsCarriedOut client (take i list) rs old mid ⊎ Rose f0 f1 → GoesOn client.session.client sole mid new → IsLegalIn client f1 f2 mid new c r → IsCarriedOut client (take (i + 1) list) (rs ++ r ∷ []) old new ⊎ Rose f0 f2
-step_at client list i rs c r old mid new f0 f1 f2 sole lt is alone le more x g legal =
+pub step_at : (cutting : Cutting) (grow : RunsGrow) (client : Client) (list : List Command) (i : ℕ) (rs : List Reply) (c : Command) (r : Reply) (old mid new : History) (f0 f1 f2 : ℕ) (sole : Bool) → i < length list → c ≡ get_or list i c → sole ≡ true → f0 ≤ f1 → f1 ≤ f2 →
+    IsCarriedOut cutting client (take i list) rs old mid ⊎ Rose f0 f1 → GoesOn client.session.client sole mid new → IsLegalIn client f1 f2 mid new c r → (IsLawful mid → sole ≡ true → is_served c ≡ true → is_cut r.outcome ≡ false → IsStep cutting client.session c r mid new) → IsCarriedOut cutting client (take (i + 1) list) (rs ++ r ∷ []) old new ⊎ Rose f0 f2
+step_at cutting grow client list i rs c r old mid new f0 f1 f2 sole lt is alone le more x g legal stands =
     let next : take (i + 1) list ≡ take i list ++ c ∷ [] = take_more list i c lt ∙ ap (λ (d : Command). take i list ++ d ∷ []) (sym is) in
-    subst (λ (cs : List Command). IsCarriedOut client cs (rs ++ r ∷ []) old new ⊎ Rose f0 f2) (sym next) (step_on client (take i list) rs c r old mid new f0 f1 f2 sole alone le more x g legal)
+    subst (λ (cs : List Command). IsCarriedOut cutting client cs (rs ++ r ∷ []) old new ⊎ Rose f0 f2) (sym next) (step_on cutting grow client (take i list) rs c r old mid new f0 f1 f2 sole alone le more x g legal stands)
 
 -- all commands
-pub step_all : (client : Client) (list : List Command) (i : ℕ) (rs : List Reply) (old new : History) (f0 f1 : ℕ) → length list ≤ i → IsCarriedOut client (take i list) rs old new ⊎ Rose f0 f1 → IsCarriedOut client list rs old new ⊎ Rose f0 f1
-step_all client list i rs old new f0 f1 le x = subst (λ (cs : List Command). IsCarriedOut client cs rs old new ⊎ Rose f0 f1) (take_all i list le) x
+pub step_all : (cutting : Cutting) (client : Client) (list : List Command) (i : ℕ) (rs : List Reply) (old new : History) (f0 f1 : ℕ) → length list ≤ i → IsCarriedOut cutting client (take i list) rs old new ⊎ Rose f0 f1 → IsCarriedOut cutting client list rs old new ⊎ Rose f0 f1
+step_all cutting client list i rs old new f0 f1 le x = subst (λ (cs : List Command). IsCarriedOut cutting client cs rs old new ⊎ Rose f0 f1) (take_all i list le) x

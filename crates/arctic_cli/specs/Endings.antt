@@ -71,7 +71,7 @@ pub record Performs (start : Start) (job : Job) (run : Run) (new : History) : Ty
   pub moment : ℤ
   pub told : IsReading start.reading moment
   pub replies : List Reply
-  pub carried_out : IsCarriedOut (client_of start job moment) job.commands replies start.history new
+  pub carried_out : IsCarriedOut job.cutting (client_of start job moment) job.commands replies start.history new
   pub run_is : run ≡ run_of replies (length new)
 
 -- the run that is due by what was prepared: that of the job, or a stop, which leaves the history as it was
