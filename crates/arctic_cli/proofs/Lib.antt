@@ -8,3 +8,5 @@ pub mod Loading
 pub mod Performing
 pub mod Running
 pub mod Ended
+pub mod Told
+pub mod Alone

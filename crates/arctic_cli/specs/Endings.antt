@@ -6,8 +6,9 @@
 --     AllWritten, RunEnds     how the lines of a run came to be written, or not
 --     JobEnds, Ends           the endings of a job, and all endings
 --     IsTranscript, StopsByUsage, StopsByScript, StopsByFetch, StopsByPut, WantsMemory, StopsByFile      the ending of each status
+--     IsUnhindered            nothing hinders a run of one client alone
 --     IsRun                   exactly the status and the output of a run
-use Rattle.std.specs.Prelude.{◌≡◌, ◌⊎◌, ◌≤◌, ℕ, ℤ, List, [], ◌++◌, length, take, Option, Some, None, Result, Ok, Err}
+use Rattle.std.specs.Prelude.{◌≡◌, ◌⊎◌, ◌<◌, ◌≤◌, ℕ, ℤ, List, [], ◌++◌, length, take, Option, Some, None, Result, Ok, Err}
 use Rattle.std.specs.List.{concat}
 use Rattle.base_types.specs.Faults.{Rose}
 use Rattle.frame_core.specs.Texts.{Text}
@@ -21,9 +22,9 @@ use Rattle.program_edge.specs.declared.sink.SinkErr.TheVariants as sinks
 use Rattle.arctic_cli.specs.declared.stop.Stop.{Stop}
 use Rattle.arctic_cli.specs.declared.stop.Stop.TheVariants as stops
 use Rattle.arctic_cli.specs.CommandLine.{plain_words_of, first_set}
-use Rattle.arctic_cli.specs.Program.{Job, stop_line, Run, run_of, stopped}
+use Rattle.arctic_cli.specs.Program.{Shelf, Job, prepared, stop_line, Run, run_of, stopped}
 use Rattle.arctic_cli.specs.Causes.{IsBadScript, IsUnreadable, IsBadFile, IsPrepared, Prepares}
-use Rattle.arctic_cli.specs.Performing.{IsCarriedOut}
+use Rattle.arctic_cli.specs.Performing.{AreServed, IsCarriedOut}
 
 -- ---- the output
 
@@ -156,6 +157,19 @@ WantsMemory start shelf_faults shelf_now before after new =
     IsTranscript start before after 6 new ⊎ StopsByPut start shelf_faults shelf_now before after new ⊎ Halted before after start.history new
 
 -- ---- completeness
+
+-- nothing hinders a run of one client alone: shelf, output and clock tell what they hold; the store is empty and of client 1; neither
+-- shelf nor output failed; the limit was not reached; and what is shown of one client alone is shown of each command
+pub record IsUnhindered (start : Start) (shelf_faults shelf_now faults now : ℕ) (held : Shelf) (told : Text) (moment : ℤ) (before : Option Text) (new : History) : Type 0 where
+  pub tells : start.holds ≡ Some held
+  pub written : before ≡ Some told
+  pub reading : start.reading ≡ Some moment
+  pub empty : start.history ≡ []
+  pub first : start.client ≡ 1
+  pub shelf_works : Rose shelf_faults shelf_now → ⊥
+  pub output_works : Rose faults now → ⊥
+  pub room : length new < start.limit
+  pub served : (job : Job) → prepared held start.words ≡ Ok job → AreServed job.commands
 
 -- the status and the output are those of the run, if there is one
 abbrev pub IsRun : Option Run → Text → Option Text → ℕ → Type 0

@@ -1,4 +1,4 @@
-ghost use Rattle.std.specs.Prelude.{◌≡◌, ◌≤◌, ℤ, List, Option, IsOk, IsErrOf, length, map, string_bytes};
+ghost use Rattle.std.specs.Prelude.{◌≡◌, ◌≤◌, ◌⊎◌, ℤ, List, Option, IsOk, IsErrOf, length, map, string_bytes};
 ghost use Rattle.std.specs.List.{list_any};
 ghost use Rattle.base_types.specs.Faults.{Rose};
 ghost use Rattle.frame_core.specs.Texts.{Text};
@@ -7,8 +7,8 @@ ghost use Rattle.program_edge.specs.Clocks.{IsReading};
 ghost use Rattle.reply_model.specs.declared.reply.Reply.{Reply as Told};
 ghost use Rattle.reply_model.specs.Windows.{is_refused};
 ghost use Rattle.arctic_cli.specs.CommandLine.{IsTries};
-ghost use Rattle.arctic_cli.specs.Program.{wants_memory, replies_status, run_of, stop_status, stopped};
-ghost use Rattle.arctic_cli.specs.Endings.{RunEnds, JobEnds, Ends, start_of, IsTranscript, StopsByUsage, StopsByScript, StopsByFetch, StopsByPut, WantsMemory, StopsByFile};
+ghost use Rattle.arctic_cli.specs.Program.{Shelf as Files, run_alone, wants_memory, replies_status, run_of, stop_status, stopped};
+ghost use Rattle.arctic_cli.specs.Endings.{RunEnds, JobEnds, Ends, start_of, IsTranscript, StopsByUsage, StopsByScript, StopsByFetch, StopsByPut, WantsMemory, StopsByFile, IsUnhindered, IsRun};
 ghost use Rattle.arctic_cli.specs.Performing.{AreNamed};
 ghost use Rattle.arctic_cli.specs.Preparing.{job_in};
 
@@ -22,7 +22,7 @@ use bucket_core::{Bucket, PlainBucket};
 use frame_core::Refusal;
 use library_api::{Library, Settings};
 use program_edge::{Clock, Shelf, Sink, SinkErr};
-use reply_model::{Outcome, Reply};
+use reply_model::{Outcome, Reply, runs_alone_are_sole};
 use std::alloc::Global;
 use std::sync::Wait;
 use version_chain::StoreLaw;
@@ -211,7 +211,11 @@ pub fn run<R: Wait, F: Shelf, S: Sink, C: Clock>(
     ensures statuses { result.status ≤ 7 }
     ensures client { ⟦<PlainBucket<StoreLaw> as Bucket<StoreLaw>>⟧.number result.bucket ≡ ⟦<PlainBucket<StoreLaw> as Bucket<StoreLaw>>⟧.number bucket }
     ensures limit { ⟦<PlainBucket<StoreLaw> as Bucket<StoreLaw>>⟧.limit result.bucket ≡ ⟦<PlainBucket<StoreLaw> as Bucket<StoreLaw>>⟧.limit bucket }
+
+    // Where nothing hinders one client alone, there is no other answer than this run, or want of memory.
+    ensures complete { (held : Files) (told : Text) (moment : ℤ) → IsUnhindered (start_of (map string_bytes words.now) (F.holds shelf.old) (C.reading clock.old) (⟦<PlainBucket<StoreLaw> as Bucket<StoreLaw>>⟧.limit bucket) (⟦<PlainBucket<StoreLaw> as Bucket<StoreLaw>>⟧.number bucket) (⟦<PlainBucket<StoreLaw> as Bucket<StoreLaw>>⟧.seen bucket)) (F.faults shelf.old) (F.faults shelf.new) (S.faults out.old) (S.faults out.new) held told moment (S.written out.old) (⟦<PlainBucket<StoreLaw> as Bucket<StoreLaw>>⟧.seen result.bucket) → (result.status ≡ 6) ⊎ IsRun (run_alone moment held (map string_bytes words.now)) told (S.written out.new) result.status }
 {
     let moment = clock.now();
+    runs_alone_are_sole();
     run_words(rt, alloc, words, shelf, out, moment, bucket)
 }
