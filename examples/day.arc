@@ -1,5 +1,5 @@
 load t t.csv int,int
 first
-write S t
+write S t at=50
 read S
 read X

@@ -1,5 +1,5 @@
 -- Fields that are added to a line behind commas, and the columns that they come from.
-use Rattle.std.proofs.Common.{◌≡◌, ℕ, zero, suc, ◌+◌, ◌<◌, ◌≤◌, ◌⊎◌, ℤ, Bool, true, List, [], ◌∷◌, ◌++◌, length, get_or, take, map, Option, Some, None, refl, sym, ap, ◌∙◌, subst, inl, inr, append_assoc, arith}
+use Rattle.std.proofs.Common.{◌≡◌, ℕ, zero, suc, ◌+◌, ◌<◌, ◌≤◌, ◌⊎◌, ℤ, Bool, true, false, List, [], ◌∷◌, ◌++◌, length, get_or, take, map, Option, Some, None, refl, sym, ap, ◌∙◌, subst, inl, inr, append_assoc, arith}
 use Rattle.std.specs.Prelude.{slice_get, option_map, option_and_then, codes}
 use Rattle.std.specs.List.{flat_map, join_with_byte, AllByRecursion, AllZip}
 use Rattle.std.proofs.lemmas.List.{append-nil, take_more, take_all, length-map}
@@ -10,8 +10,7 @@ use Rattle.std.specs.Fmt.{signed_decimal}
 use Rattle.frame_core.specs.declared.cell.Cell.{Cell}
 use Rattle.frame_core.specs.Schemas.{Head}
 use Rattle.frame_core.specs.Frames.{Row, Frame, IsFrame, FitsColumns, stamp_at, cell_at}
-use Rattle.arctic_cli.specs.FrameText.{behind_commas, ended, record_text, cell_text, with_index, header_fields, row_fields}
-use Rattle.arctic_cli.specs.Views.{ColumnCells, IsColumnOf}
+use Rattle.arctic_cli.specs.FrameText.{behind_commas, comma_before, further_fields, ended, record_text, cell_text, index_text, with_index}
 
 -- the fields of a record are the first, and the others behind commas
 pub join-commas : (field : Text) (fields : List Text) → join_with_byte 44 (field ∷ fields) ≡ field ++ behind_commas fields
@@ -37,16 +36,29 @@ commas-more old line comma now fields i field is so_far one two =
 pub commas-all : (old line : Text) (fields : List Text) (i : ℕ) → length fields ≤ i → line ≡ old ++ behind_commas (take i fields) → line ≡ old ++ behind_commas fields
 commas-all old line fields i le so_far = so_far ∙ ap (λ (fs : List Text). old ++ behind_commas fs) (take_all i fields le)
 
--- an element of a list with one more behind it
-pub slice_get-push : {A : Type 0} (xs : List A) (x : A) (i : ℕ) (y : A) → slice_get (xs ++ x ∷ []) i ≡ Some y → (slice_get xs i ≡ Some y) ⊎ ((i ≡ length xs) × (y ≡ x))
-slice_get-push [] x zero y is = let same : y ≡ x = cc in inr (refl, same)
-slice_get-push [] x (suc i) y is = absurd cc
-slice_get-push (z ∷ xs) x zero y is = inl is
-slice_get-push (z ∷ xs) x (suc i) y is = behind (slice_get-push xs x i y is)
+-- one field more, in a record that something may stand before
+pub further-more : (stands : Bool) (old line comma now : Text) (fields : List Text) (i : ℕ) (field : Text) → slice_get fields i ≡ Some field →
+    line ≡ old ++ further_fields stands (take i fields) → comma ≡ line ++ comma_before stands i → now ≡ comma ++ field → now ≡ old ++ further_fields stands (take (i + 1) fields)
+further-more true old line comma now fields zero field is so_far one two = commas-more old line comma now fields zero field is so_far one two
+further-more true old line comma now fields (suc i) field is so_far one two = commas-more old line comma now fields (suc i) field is so_far one two
+further-more false old line comma now [] zero field is so_far one two = absurd cc
+further-more false old line comma now (f ∷ fields) zero field is so_far one two =
+    let same : f ≡ field = cc in
+    two ∙ (ap (λ (t : Text). t ++ field) (one ∙ (append-nil line ∙ (so_far ∙ append-nil old))) ∙ ap (λ (t : Text). old ++ t) (sym same))
+further-more false old line comma now [] (suc i) field is so_far one two = absurd cc
+further-more false old line comma now (f ∷ fields) (suc i) field is so_far one two =
+    commas-more (old ++ f) line comma now fields i field is
+    (so_far ∙ (ap (λ (t : Text). old ++ t) (join-commas f (take i fields)) ∙ sym (append_assoc old f (behind_commas (take i fields)))))
+    one two
+    ∙ (append_assoc old f (behind_commas (take (i + 1) fields)) ∙ (ap (λ (t : Text). old ++ t) (sym (join-commas f (take (i + 1) fields)))
+    ∙ ap (λ (n : ℕ). old ++ join_with_byte 44 (take n (f ∷ fields))) (sym more)))
   where
-    behind : (slice_get xs i ≡ Some y) ⊎ ((i ≡ length xs) × (y ≡ x)) → (slice_get xs i ≡ Some y) ⊎ ((suc i ≡ suc (length xs)) × (y ≡ x))
-    behind (inl e) = inl e
-    behind (inr p) = inr (ap (λ (n : ℕ). suc n) p.0, p.1)
+    more : suc i + 1 ≡ suc (i + 1)
+    more = omega arith
+
+-- all fields
+pub further-all : (stands : Bool) (old line : Text) (fields : List Text) (i : ℕ) → length fields ≤ i → line ≡ old ++ further_fields stands (take i fields) → line ≡ old ++ further_fields stands fields
+further-all stands old line fields i le so_far = so_far ∙ ap (λ (fs : List Text). old ++ further_fields stands fs) (take_all i fields le)
 
 -- ---- places
 
@@ -72,19 +84,14 @@ all-got P (y ∷ xs) (suc i) x all is = all-got P xs i x all.1 is
 -- ---- the lines of a frame
 
 -- the line of a record that was added to a line
-pub record-made : (line one two now : Text) (field : Text) (fields : List Text) → one ≡ line ++ field → two ≡ one ++ behind_commas fields → now ≡ ended two → now ≡ line ++ record_text (field ∷ fields)
+pub record-made : (timed : Bool) (line one two now : Text) (index : Text) (fields : List Text) → one ≡ line ++ index_text timed index → two ≡ one ++ further_fields timed fields → now ≡ ended two →
+    now ≡ line ++ record_text (with_index timed index fields)
 unfolding record_text
-record-made line one two now field fields p q r =
-    r ∙ (ap (λ (t : Text). t ++ 10 ∷ []) (q ∙ (ap (λ (t : Text). t ++ behind_commas fields) p ∙ append_assoc line field (behind_commas fields)))
-    ∙ (append_assoc line (field ++ behind_commas fields) (10 ∷ []) ∙ ap (λ (t : Text). line ++ (t ++ 10 ∷ [])) (sym (join-commas field fields))))
-
--- the header of a timed frame
-pub header-timed : (f : Frame) → f.schema.timed ≡ true → header_fields f ≡ codes "time" ∷ map (λ (c : Head). c.0) f.schema.columns
-header-timed f timed = ap (λ b. with_index b (codes "time") (map (λ (c : Head). c.0) f.schema.columns)) timed
-
--- a row of a timed frame
-pub row-timed : (timed : Bool) (r : Row) → timed ≡ true → row_fields timed r ≡ signed_decimal r.stamp ∷ map cell_text r.cells
-row-timed timed r is = ap (λ b. with_index b (signed_decimal r.stamp) (map cell_text r.cells)) is
+record-made true line one two now index fields p q r =
+    r ∙ (ap (λ (t : Text). t ++ 10 ∷ []) (q ∙ (ap (λ (t : Text). t ++ behind_commas fields) p ∙ append_assoc line index (behind_commas fields)))
+    ∙ (append_assoc line (index ++ behind_commas fields) (10 ∷ []) ∙ ap (λ (t : Text). line ++ (t ++ 10 ∷ [])) (sym (join-commas index fields))))
+record-made false line one two now index fields p q r =
+    r ∙ (ap (λ (t : Text). t ++ 10 ∷ []) (q ∙ ap (λ (t : Text). t ++ join_with_byte 44 fields) (p ∙ append-nil line)) ∙ append_assoc line (join_with_byte 44 fields) (10 ∷ []))
 
 -- the stamp of a row
 pub stamp-of : (f : Frame) (row : ℕ) (r : Row) (stamp : ℤ) → slice_get f.rows row ≡ Some r → stamp_at f row ≡ Some stamp → stamp ≡ r.stamp
@@ -94,11 +101,10 @@ stamp-of f row r stamp is at = same (sym at ∙ ap (λ o. option_map (λ (q : Ro
     same e = cc
 
 -- the field of a cell, by its column
-pub cell-field : (f : Frame) (row place : ℕ) (r : Row) (column : ColumnCells) (cell : Cell) → slice_get f.rows row ≡ Some r → IsColumnOf f place column → slice_get column.1 row ≡ Some cell →
-    slice_get (map cell_text r.cells) place ≡ Some (cell_text cell)
-cell-field f row place r column cell is of at =
+pub cell-field : (f : Frame) (row place : ℕ) (r : Row) (cell : Cell) → slice_get f.rows row ≡ Some r → cell_at f row place ≡ Some cell → slice_get (map cell_text r.cells) place ≡ Some (cell_text cell)
+cell-field f row place r cell is at =
     slice_get-mapped cell_text r.cells place ∙ ap (λ o. option_map cell_text o)
-    (sym (ap (λ o. option_and_then (λ (q : Row). slice_get q.cells place) o) is) ∙ (of.at row ∙ at))
+    (sym (ap (λ o. option_and_then (λ (q : Row). slice_get q.cells place) o) is) ∙ at)
 
 as-wide : (R : Head → Cell → Type 0) (heads : List Head) (cells : List Cell) → AllZip R heads cells → length heads ≡ length cells
 as-wide R [] [] all = refl

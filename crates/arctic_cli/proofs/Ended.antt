@@ -1,23 +1,26 @@
 -- What each status of a run tells.
-use Rattle.std.proofs.Common.{◌≡◌, ℕ, ◌<◌, ◌≤◌, ◌⊎◌, Bool, true, false, cond, List, [], ◌∷◌, ◌++◌, Option, Some, None, Result, Ok, Err, refl, sym, ap, ◌∙◌, subst, inl, inr, arith}
+use Rattle.std.proofs.Common.{◌≡◌, ℕ, ◌≤◌, ◌⊎◌, Bool, true, false, cond, List, ◌∷◌, ◌++◌, Option, Some, None, Result, Ok, Err, refl, sym, ap, ◌∙◌, subst, inl, inr, arith}
 use Rattle.std.specs.List.{concat, list_any}
 use Rattle.std.proofs.lemmas.List.{append-nil}
 use Rattle.base_types.specs.Faults.{Rose}
 use Rattle.frame_core.specs.Texts.{Text}
-use Rattle.frame_core.specs.Frames.{Frame}
 use Rattle.bucket_core.specs.History.{History}
-use Rattle.script_lang.specs.declared.command.Command.{Command}
+use Rattle.reply_model.specs.declared.reply.Reply.{Reply}
+use Rattle.reply_model.specs.Windows.{is_refused}
 use Rattle.arctic_cli.specs.declared.stop.Stop.{Stop}
 use Rattle.arctic_cli.specs.declared.stop.Stop.TheVariants as stops
-use Rattle.arctic_cli.specs.Replies.{Reply, answers}
-use Rattle.arctic_cli.specs.Program.{Shelf, Run, stop_status, stop_line, is_refused, replies_status, setting_of, performed, stopped, run_from, run_alone, prepared}
+use Rattle.arctic_cli.specs.Program.{Job, Run, run_of, stop_status, stop_line, wants_memory, replies_status, stopped}
 use Rattle.arctic_cli.specs.Causes.{StopsBy, Prepares}
-use Rattle.arctic_cli.specs.Endings.{Wrote, Start, IsDue, AllWritten, RunEnds, Ends, IsTranscript, IsStop, StopsByUsage, StopsByScript, StopsByFetch, StopsByFile, StopsByPut, WantsMemory, IsRun, Halted, AddsPuts}
-use Rattle.arctic_cli.proofs.Told.{prepares-told}
+use Rattle.arctic_cli.specs.Endings.{Wrote, Start, Performs, IsDue, Due, AllWritten, RunEnds, Ends, IsTranscript, IsStop, StopsByUsage, StopsByScript, StopsByFetch, StopsByFile, StopsByPut, WantsMemory, Halted}
 
--- the replies' status is 0 or 1
-status-few : (replies : List Reply) → replies_status replies ≤ 1
-status-few replies = elim (list_any is_refused replies) as (λ b. cond b 1 0 ≤ 1) [ true ↦ omega arith | false ↦ omega arith ]
+-- the status of replies is 0, 1 or 6
+status-kinds : (replies : List Reply) → (replies_status replies ≤ 1) ⊎ (replies_status replies ≡ 6)
+status-kinds replies = of (list_any (λ (r : Reply). wants_memory r.outcome) replies) (list_any (λ (r : Reply). is_refused r.outcome) replies)
+  where
+    of : (m b : Bool) → (cond {A = ℕ} m 6 (cond b 1 0) ≤ 1) ⊎ (◌≡◌ {A = ℕ} (cond m 6 (cond b 1 0)) 6)
+    of true b = inr refl
+    of false true = inl (omega arith)
+    of false false = inl (omega arith)
 
 -- the run of a transcript
 pub record Told (start : Start) (w0 w1 : Option Text) (status : ℕ) (new : History) : Type 0 where
@@ -39,33 +42,38 @@ pub data Way (start : Start) (f0 f1 g0 g1 : ℕ) (w0 w1 : Option Text) (status :
   refused : status ≡ 5 → Rose g0 g1 → StopsByPut start f0 f1 w0 w1 new → Way start f0 f1 g0 g1 w0 w1 status new
   wanted : status ≡ 6 → WantsMemory start f0 f1 w0 w1 new → Way start f0 f1 g0 g1 w0 w1 status new
 
+-- all was written of the replies' transcript
+transcript-written : (start : Start) (f0 f1 g0 g1 : ℕ) (w0 w1 : Option Text) (status : ℕ) (new : History) → (t : IsTranscript start w0 w1 status new) → Way start f0 f1 g0 g1 w0 w1 status new
+transcript-written start f0 f1 g0 g1 w0 w1 status new t = of (status-kinds t.performs.replies)
+  where
+    same : status ≡ replies_status t.performs.replies
+    same = t.written.status_is ∙ ap (λ (r : Run). r.status) t.performs.run_is
+
+    of : (replies_status t.performs.replies ≤ 1) ⊎ (replies_status t.performs.replies ≡ 6) → Way start f0 f1 g0 g1 w0 w1 status new
+    of (inl few) = told (record { few = omega (arith, same, few); transcript = t })
+    of (inr six) = wanted (same ∙ six) (inl (subst (λ (n : ℕ). IsTranscript start w0 w1 n new) (same ∙ six) t))
+
 -- all was written
-way-written : (start : Start) (f0 f1 g0 g1 : ℕ) (w0 w1 : Option Text) (status : ℕ) (new : History) (plan : Result (List Command × List Frame) Stop) →
-    Prepares start.holds f0 f1 start.words plan → AllWritten (run_from start.limit start.client start.history plan) w0 w1 status new → Way start f0 f1 g0 g1 w0 w1 status new
-way-written start f0 f1 g0 g1 w0 w1 status new (Ok x) p w = told (record {
-  few = subst (λ (n : ℕ). n ≤ 1) (sym w.status_is) (status-few (answers (setting_of start.limit start.client x.1) start.history x.0));
-  transcript = record { commands = x.0; frames = x.1; prepared = p; written = w };
-})
-way-written start f0 f1 g0 g1 w0 w1 status new (Err s) p w = stopped_by (record {
+way-written : (start : Start) (f0 f1 g0 g1 : ℕ) (w0 w1 : Option Text) (status : ℕ) (new : History) (plan : Result Job Stop) (run : Run) →
+    Prepares start.holds f0 f1 start.words plan → IsDue start plan run new → AllWritten run w0 w1 status → Way start f0 f1 g0 g1 w0 w1 status new
+way-written start f0 f1 g0 g1 w0 w1 status new (Ok job) run p due w = transcript-written start f0 f1 g0 g1 w0 w1 status new (record { job = job; prepared = p; run = run; performs = due; written = w })
+way-written start f0 f1 g0 g1 w0 w1 status new (Err s) run p due w = stopped_by (record {
   stop = s;
-  status_is = w.status_is;
+  status_is = w.status_is ∙ ap (λ (r : Run). r.status) due.0;
   why = p;
-  output = subst (λ (t : Text). Wrote w0 w1 t) (append-nil (stop_line s)) w.output;
-  unchanged = w.history_is;
+  output = subst (λ (t : Text). Wrote w0 w1 t) (ap (λ (r : Run). concat r.lines) due.0 ∙ append-nil (stop_line s)) w.output;
+  unchanged = due.1;
 })
 
-way-due : (start : Start) (f0 f1 g0 g1 : ℕ) (w0 w1 : Option Text) (status : ℕ) (new : History) (run : Run) → IsDue start f0 f1 run →
-    RunEnds run start.client g0 g1 w0 w1 status start.history new → Way start f0 f1 g0 g1 w0 w1 status new
-way-due start f0 f1 g0 g1 w0 w1 status new run due (inl written) =
-    way-written start f0 f1 g0 g1 w0 w1 status new due.plan due.prepares (subst (λ (r : Run). AllWritten r w0 w1 status new) due.run_is written)
-way-due start f0 f1 g0 g1 w0 w1 status new run due (inr (inl p)) = refused p.0 p.1 (run, due, p.2)
-way-due start f0 f1 g0 g1 w0 w1 status new run due (inr (inr (inl p))) = wanted p.0 (inl (run, due, p.1))
-way-due start f0 f1 g0 g1 w0 w1 status new run due (inr (inr (inr p))) = wanted p.0 (inr p.1)
+way-due : (start : Start) (f0 f1 g0 g1 : ℕ) (w0 w1 : Option Text) (status : ℕ) (new : History) (due : Due start f0 f1 new) → RunEnds due.run g0 g1 w0 w1 status → Way start f0 f1 g0 g1 w0 w1 status new
+way-due start f0 f1 g0 g1 w0 w1 status new due (inl written) = way-written start f0 f1 g0 g1 w0 w1 status new due.plan due.run due.prepares due.is_due written
+way-due start f0 f1 g0 g1 w0 w1 status new due (inr (inl p)) = refused p.0 p.1 (due, p.2)
+way-due start f0 f1 g0 g1 w0 w1 status new due (inr (inr p)) = wanted p.0 (inr (inl (due, p.1)))
 
 -- how a run ended
 pub way : (start : Start) (f0 f1 g0 g1 : ℕ) (w0 w1 : Option Text) (status : ℕ) (new : History) → Ends start f0 f1 g0 g1 w0 w1 status new → Way start f0 f1 g0 g1 w0 w1 status new
-way start f0 f1 g0 g1 w0 w1 status new (inl e) = way-due start f0 f1 g0 g1 w0 w1 status new e.0 e.1 e.2
-way start f0 f1 g0 g1 w0 w1 status new (inr e) = wanted e.0 (inr e.1)
+way start f0 f1 g0 g1 w0 w1 status new (inl e) = way-due start f0 f1 g0 g1 w0 w1 status new e.0 e.1
+way start f0 f1 g0 g1 w0 w1 status new (inr e) = wanted e.0 (inr (inr e.1))
 
 -- ---- the statuses
 
@@ -159,29 +167,3 @@ status-way start f0 f1 g0 g1 w0 w1 status new (told t) = omega (arith, t.few)
 status-way start f0 f1 g0 g1 w0 w1 status new (stopped_by s) = (stop-other s.stop status s.status_is).3
 status-way start f0 f1 g0 g1 w0 w1 status new (refused e rose p) = omega (arith, e)
 status-way start f0 f1 g0 g1 w0 w1 status new (wanted e p) = omega (arith, e)
-
--- ---- completeness
-
-exact-written : (start : Start) (held : Shelf) (f0 f1 : ℕ) (before : Text) (w1 : Option Text) (status : ℕ) (new : History) (plan : Result (List Command × List Frame) Stop) →
-    start.holds ≡ Some held → (Rose f0 f1 → ⊥) → Prepares start.holds f0 f1 start.words plan → AllWritten (run_from start.limit start.client start.history plan) (Some before) w1 status new →
-    IsRun (run_alone start.limit start.client start.history held start.words) before w1 status new
-exact-written start held f0 f1 before w1 status new plan tells calm p w =
-    let made : prepared held start.words ≡ plan = prepares-told held f0 f1 start.words plan calm (subst (λ h. Prepares h f0 f1 start.words plan) tells p) in
-    subst (λ (x : Result (List Command × List Frame) Stop). IsRun (run_from start.limit start.client start.history x) before w1 status new) (sym made)
-    (record { status_is = w.status_is; output = w.output; history_is = w.history_is })
-
-exact-due : (start : Start) (held : Shelf) (f0 f1 g0 g1 : ℕ) (before : Text) (w1 : Option Text) (status : ℕ) (new : History) (run : Run) →
-    start.holds ≡ Some held → (Rose f0 f1 → ⊥) → (Rose g0 g1 → ⊥) → IsDue start f0 f1 run → RunEnds run start.client g0 g1 (Some before) w1 status start.history new →
-    (status ≡ 6) ⊎ IsRun (run_alone start.limit start.client start.history held start.words) before w1 status new
-exact-due start held f0 f1 g0 g1 before w1 status new run tells calm still due (inl w) =
-    inr (exact-written start held f0 f1 before w1 status new due.plan tells calm due.prepares (subst (λ (r : Run). AllWritten r (Some before) w1 status new) due.run_is w))
-exact-due start held f0 f1 g0 g1 before w1 status new run tells calm still due (inr (inl p)) = absurd (still p.1)
-exact-due start held f0 f1 g0 g1 before w1 status new run tells calm still due (inr (inr (inl p))) = inl p.0
-exact-due start held f0 f1 g0 g1 before w1 status new run tells calm still due (inr (inr (inr p))) = inl p.0
-
--- where shelf and sink tell and neither fails, the run is exactly that of one thread, or memory was wanted
-pub exact : (start : Start) (held : Shelf) (f0 f1 g0 g1 : ℕ) (before : Text) (w0 w1 : Option Text) (status : ℕ) (new : History) → start.holds ≡ Some held → w0 ≡ Some before →
-    (Rose f0 f1 → ⊥) → (Rose g0 g1 → ⊥) → Ends start f0 f1 g0 g1 w0 w1 status new → (status ≡ 6) ⊎ IsRun (run_alone start.limit start.client start.history held start.words) before w1 status new
-exact start held f0 f1 g0 g1 before w0 w1 status new tells wrote calm still (inl e) =
-    exact-due start held f0 f1 g0 g1 before w1 status new e.0 tells calm still e.1 (subst (λ (w : Option Text). RunEnds e.0 start.client g0 g1 w w1 status start.history new) wrote e.2)
-exact start held f0 f1 g0 g1 before w0 w1 status new tells wrote calm still (inr e) = inl e.0

@@ -1,10 +1,12 @@
 pub mod Lines
 pub mod Commas
-pub mod Loading
 pub mod Prints
-pub mod Answering
 pub mod Shown
-pub mod Told
-pub mod Ended
-pub mod Finishing
+pub mod Digits
+pub mod WordPairs
+pub mod Loading
+pub mod Performing
 pub mod Running
+pub mod Ended
+pub mod Told
+pub mod Alone

@@ -1,9 +1,11 @@
 -- Loads that are read one after another.
-use Rattle.std.proofs.Common.{◌≡◌, ℕ, suc, ◌+◌, ◌-◌, ◌^◌, ◌<◌, ◌≤◌, List, [], ◌∷◌, ◌++◌, Err, length, get_or, take, drop, refl, sym, ap, ◌∙◌, subst, inl, inr, arith, add-one, drop-cons}
+use Rattle.std.proofs.Common.{◌≡◌, ℕ, suc, ◌+◌, ◌-◌, ◌^◌, ◌<◌, ◌≤◌, List, [], ◌∷◌, ◌++◌, Err, length, map, get_or, take, drop, refl, sym, ap, ◌∙◌, subst, inl, inr, arith, add-one, drop-cons}
 use Rattle.std.specs.List.{AllZip, AllByRecursion}
 use Rattle.std.proofs.lemmas.List.{take-append-drop, take_more}
+use mathlib.Core.List.{map-append}
 use Rattle.base_types.specs.Faults.{Rose}
-use Rattle.frame_core.specs.Frames.{Frame}
+use Rattle.frame_core.specs.RawFrames.{Table, table_of}
+use Rattle.frame_core.specs.declared.raw.RawFrame.{RawFrame}
 use Rattle.frame_core.specs.Texts.{Text}
 use Rattle.program_edge.specs.Shelves.{Held}
 use Rattle.script_lang.specs.declared.load.Load.{Load}
@@ -12,8 +14,12 @@ use Rattle.arctic_cli.specs.declared.stop.Stop.{Stop}
 use Rattle.arctic_cli.specs.declared.stop.Stop.TheVariants as stops
 use Rattle.arctic_cli.specs.declared.stop.Halt.{Halt}
 use Rattle.arctic_cli.specs.declared.stop.Halt.TheVariants as halts
-use Rattle.arctic_cli.specs.Causes.{HeldAs, NotFetched, FindsScript, GivesFrame, ReachesLoad, StopsBy}
-use Rattle.arctic_cli.specs.Preparing.{LoadHalts, FailsAt, LoadsHalt, PlanIs}
+use Rattle.arctic_cli.specs.CommandLine.{Words}
+use Rattle.arctic_cli.specs.Program.{job_of}
+use Rattle.arctic_cli.specs.declared.words.Options.{Options}
+use Rattle.arctic_cli.specs.Causes.{HeldAs, NotFetched, FindsScript, GivesTable, ReachesLoad, IsPrepared, StopsBy}
+use Rattle.arctic_cli.proofs.Prints.{rose-later}
+use Rattle.arctic_cli.specs.Preparing.{FindsJob, LoadHalts, FailsAt, LoadsHalt, PlanIs}
 
 -- one pair more
 pub allzip-push : {A B : Type 0} (R : A → B → Type 0) (xs : List A) (ys : List B) (x : A) (y : B) → AllZip R xs ys → R x y → AllZip R (xs ++ x ∷ []) (ys ++ y ∷ [])
@@ -31,10 +37,6 @@ all-push P (a ∷ xs) x all p = (all.0, all-push P xs x all.1 p)
 pub around : {A : Type 0} (xs : List A) (i : ℕ) (d : A) → i < length xs → xs ≡ take i xs ++ get_or xs i d ∷ drop (i + 1) xs
 around xs i d lt = sym (take-append-drop i xs) ∙ ap (λ (t : List _). take i xs ++ t) (drop-cons xs i d lt ∙ ap (λ (n : ℕ). get_or xs i d ∷ drop n xs) (sym (add-one i)))
 
--- a fault that came later came
-pub rose-later : (before later now : ℕ) → before ≤ later → Rose later now → Rose before now
-rose-later before later now le rose = omega arith
-
 missed-later : (holds : Held) (before later now : ℕ) (name : Text) → before ≤ later → NotFetched holds later now name → NotFetched holds before now name
 missed-later holds before later now name le (inl rose) = inl (rose-later before later now le rose)
 missed-later holds before later now name le (inr missing) = inr missing
@@ -47,8 +49,8 @@ halts-later holds before later now load (halts.Stop stops.Usage) le why = absurd
 halts-later holds before later now load (halts.Stop stops.BadScript) le why = absurd why
 
 -- the load at the place i halts, and those before it are good
-pub fails_at : (holds : Held) (before later now : ℕ) (loads : List Load) (i : ℕ) (load : Load) (frames : List Frame) (halt : Halt) → i < length loads → load ≡ get_or loads i load →
-    before ≤ later → AllZip (GivesFrame holds) (take i loads) frames → LoadHalts holds later now load halt → LoadsHalt holds before now loads halt
+pub fails_at : (holds : Held) (before later now : ℕ) (loads : List Load) (i : ℕ) (load : Load) (frames : List Table) (halt : Halt) → i < length loads → load ≡ get_or loads i load →
+    before ≤ later → AllZip (GivesTable holds) (take i loads) frames → LoadHalts holds later now load halt → LoadsHalt holds before now loads halt
 fails_at holds before later now loads i load frames halts.NoMemory lt is le all why = tt
 fails_at holds before later now loads i load frames (halts.Stop s) lt is le all why = record {
   load = load;
@@ -61,14 +63,15 @@ fails_at holds before later now loads i load frames (halts.Stop s) lt is le all 
 }
 
 -- one good load more
-pub loaded-more : (R : Load → Frame → Type 0) (loads : List Load) (i : ℕ) (load : Load) (frames grown : List Frame) (frame : Frame) → i < length loads → load ≡ get_or loads i load →
-    AllZip R (take i loads) frames → R load frame → grown ≡ frames ++ frame ∷ [] → AllZip R (take (i + 1) loads) grown
+pub loaded-more : (R : Load → Table → Type 0) (loads : List Load) (i : ℕ) (load : Load) (frames grown : List RawFrame) (frame : RawFrame) → i < length loads → load ≡ get_or loads i load →
+    AllZip R (take i loads) (map table_of frames) → R load (table_of frame) → grown ≡ frames ++ frame ∷ [] → AllZip R (take (i + 1) loads) (map table_of grown)
 loaded-more R loads i load frames grown frame lt is all one made =
     let more : take (i + 1) loads ≡ take i loads ++ load ∷ [] = take_more loads i load lt ∙ ap (λ (l : Load). take i loads ++ l ∷ []) (sym is) in
-    subst (λ (ys : List Frame). AllZip R (take (i + 1) loads) ys) (sym made) (subst (λ (xs : List Load). AllZip R xs (frames ++ frame ∷ [])) (sym more) (allzip-push R (take i loads) frames load frame all one))
+    let tables : map table_of grown ≡ map table_of frames ++ table_of frame ∷ [] = ap (map table_of) made ∙ map-append table_of frames (frame ∷ []) in
+    subst (λ (ys : List Table). AllZip R (take (i + 1) loads) ys) (sym tables) (subst (λ (xs : List Load). AllZip R xs (map table_of frames ++ table_of frame ∷ [])) (sym more) (allzip-push R (take i loads) (map table_of frames) load (table_of frame) all one))
 
 -- as many frames as loads
-pub as-many : (R : Load → Frame → Type 0) (loads : List Load) (frames : List Frame) → AllZip R loads frames → length loads ≡ length frames
+pub as-many : (R : Load → Table → Type 0) (loads : List Load) (frames : List Table) → AllZip R loads frames → length loads ≡ length frames
 as-many R [] [] all = refl
 as-many R [] (f ∷ frames) all = absurd all
 as-many R (l ∷ loads) [] all = absurd all
@@ -100,3 +103,16 @@ loads_stop holds before later now words script (halts.Stop s) le found why = of 
     }
     of stops.Usage load fails reached = absurd fails
     of stops.BadScript load fails reached = absurd fails
+
+-- ---- the job
+
+-- the job of a script that the words name, of their options and of the raw frames of its loads
+pub prepared_job : (holds : Held) (words : List Text) (script : Script) (options : Options) (frames : List Table) → FindsJob holds words script options → AllZip (GivesTable holds) script.loads frames →
+    IsPrepared holds words (record { cutting = record { rows = options.cutting.rows; columns = options.cutting.cols }; tries = options.tries; commands = script.first; frames = frames })
+prepared_job holds words script options frames x loaded = record {
+  script = script;
+  found = x.found;
+  frames = frames;
+  loaded = loaded;
+  job_is = sym (ap (λ (s : Words). job_of s script frames) x.says);
+}

@@ -11,7 +11,10 @@ use Rattle.program_edge.specs.Sinks.{PutAdds}
 use Rattle.program_edge.specs.declared.sink.SinkErr.{SinkErr}
 use Rattle.program_edge.specs.declared.sink.SinkErr.TheVariants as sinks
 use Rattle.arctic_cli.specs.Endings.{Wrote, WrotePart, Printed}
-use Rattle.arctic_cli.proofs.Loading.{rose-later}
+
+-- a fault that came later came
+pub rose-later : (before later now : ℕ) → before ≤ later → Rose later now → Rose before now
+rose-later before later now le rose = omega arith
 
 -- ---- fronts of texts
 

@@ -2,23 +2,22 @@
 --     HeldAs, IsMissing       what is held under a name, where the shelf tells
 --     NotFetched              why a fetch gave nothing
 --     FindsScript             the words name a script that the shelf holds
---     GivesFrame, ReachesLoad     the frame of a load, and a load before which all others are good
+--     GivesTable, ReachesLoad     the raw frame of a load, and a load before which all others are good
 --     IsBadScript, IsUnreadable, IsBadFile      why a run stops
---     IsPrepared, Prepares    the commands and the frames, or why the run stops
+--     IsPrepared, Prepares    the job of the words, or why the run stops
 use Rattle.std.specs.Prelude.{◌≡◌, ◌⊎◌, ℕ, ⊤, List, ◌∷◌, ◌++◌, Option, Some, None, Result, Ok, Err}
 use Rattle.std.specs.List.{AllZip}
 use Rattle.base_types.specs.Faults.{Rose}
 use Rattle.frame_core.specs.Texts.{Text}
-use Rattle.frame_core.specs.Frames.{Frame}
+use Rattle.frame_core.specs.RawFrames.{Table}
 use Rattle.program_edge.specs.Shelves.{Held}
-use Rattle.script_lang.specs.declared.command.Command.{Command}
 use Rattle.script_lang.specs.declared.load.Load.{Load}
 use Rattle.script_lang.specs.declared.script.Script.{Script}
-use Rattle.script_lang.specs.Scripts.{plain_script_of}
+use Rattle.arctic_cli.specs.Jobs.{script_in}
 use Rattle.arctic_cli.specs.declared.stop.Stop.{Stop}
 use Rattle.arctic_cli.specs.declared.stop.Stop.TheVariants as stops
 use Rattle.arctic_cli.specs.CommandLine.{Words, plain_words_of, first_set}
-use Rattle.arctic_cli.specs.Program.{frame_in_file}
+use Rattle.arctic_cli.specs.Program.{Job, job_of, table_in_file}
 
 -- ---- the shelf
 
@@ -44,13 +43,13 @@ pub record FindsScript (holds : Held) (words : List Text) (script : Script) : Ty
   pub words_are : plain_words_of first_set words ≡ Some said
   pub bytes : Text
   pub held : HeldAs holds said.word bytes
-  pub script_is : plain_script_of bytes ≡ Some script
+  pub script_is : script_in bytes ≡ Some script
 
--- the shelf holds the file of a load, which is that of a frame
-pub record GivesFrame (holds : Held) (load : Load) (frame : Frame) : Type 0 where
+-- the shelf holds the file of a load, which is that of a raw frame
+pub record GivesTable (holds : Held) (load : Load) (table : Table) : Type 0 where
   pub bytes : Text
   pub held : HeldAs holds load.file bytes
-  pub frame_is : frame_in_file load bytes ≡ Some frame
+  pub table_is : table_in_file load bytes ≡ Some table
 
 -- a load of the script, before which all others are good
 pub record ReachesLoad (holds : Held) (words : List Text) (load : Load) : Type 0 where
@@ -59,8 +58,8 @@ pub record ReachesLoad (holds : Held) (words : List Text) (load : Load) : Type 0
   pub earlier : List Load
   pub later : List Load
   pub loads_are : script.loads ≡ earlier ++ load ∷ later
-  pub frames : List Frame
-  pub loaded : AllZip (GivesFrame holds) earlier frames
+  pub frames : List Table
+  pub loaded : AllZip (GivesTable holds) earlier frames
 
 -- ---- why a run stops
 
@@ -70,7 +69,7 @@ pub record IsBadScript (holds : Held) (words : List Text) : Type 0 where
   pub words_are : plain_words_of first_set words ≡ Some said
   pub bytes : Text
   pub held : HeldAs holds said.word bytes
-  pub script_bad : plain_script_of bytes ≡ None
+  pub script_bad : script_in bytes ≡ None
 
 -- the script's name
 pub record NamesScript (words : List Text) (name : Text) : Type 0 where
@@ -89,12 +88,12 @@ pub record IsUnreadable (holds : Held) (before now : ℕ) (words : List Text) (n
   pub wanted : NamesScript words name ⊎ NamesLoad holds words name
   pub missed : NotFetched holds before now name
 
--- the file of a load, before which all others are good, is outside its form or gives no frame
+-- the file of a load, before which all others are good, is outside its form
 pub record IsBadFile (holds : Held) (words : List Text) (name : Text) : Type 0 where
   pub named : NamesLoad holds words name
   pub bytes : Text
   pub held : HeldAs holds name bytes
-  pub file_bad : frame_in_file named.load bytes ≡ None
+  pub file_bad : table_in_file named.load bytes ≡ None
 
 -- why a run stops
 abbrev pub StopsBy : Held → ℕ → ℕ → List Text → Stop → Type 0
@@ -105,14 +104,15 @@ StopsBy holds before now words (stops.BadFile name) = IsBadFile holds words name
 
 -- ---- what is prepared
 
--- the commands of the script and the frames of its loads
-pub record IsPrepared (holds : Held) (words : List Text) (commands : List Command) (frames : List Frame) : Type 0 where
+-- the job of the words, of their script and of the raw frames of its loads
+pub record IsPrepared (holds : Held) (words : List Text) (job : Job) : Type 0 where
   pub script : Script
   pub found : FindsScript holds words script
-  pub commands_are : commands ≡ script.first
-  pub loaded : AllZip (GivesFrame holds) script.loads frames
+  pub frames : List Table
+  pub loaded : AllZip (GivesTable holds) script.loads frames
+  pub job_is : job ≡ job_of found.said script frames
 
--- the commands and the frames, or why the run stops
-abbrev pub Prepares : Held → ℕ → ℕ → List Text → Result (List Command × List Frame) Stop → Type 0
-Prepares holds before now words (Ok x) = IsPrepared holds words x.0 x.1
+-- the job, or why the run stops
+abbrev pub Prepares : Held → ℕ → ℕ → List Text → Result Job Stop → Type 0
+Prepares holds before now words (Ok job) = IsPrepared holds words job
 Prepares holds before now words (Err s) = StopsBy holds before now words s

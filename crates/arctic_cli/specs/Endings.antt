@@ -1,28 +1,30 @@
 -- How a run ends.
 --     Wrote, WrotePart        what was added to the output, where it tells
---     Printed                 what printing a text did
+--     Printed, Prints         what printing a text did
 --     Start                   what a run begins with
---     IsDue                   a run that the words, the shelf and the history make due
---     AllWritten, PutRefused, AddsPuts, Halted      how the end came about
---     RunEnds, Ends           all endings
---     IsRun                   exactly the status, the output and the history of a run
+--     Performs, IsDue         a run that the job of the words makes due, and the history that it leaves
+--     AllWritten, RunEnds     how the lines of a run came to be written, or not
+--     JobEnds, Ends           the endings of a job, and all endings
 --     IsTranscript, StopsByUsage, StopsByScript, StopsByFetch, StopsByPut, WantsMemory, StopsByFile      the ending of each status
-use Rattle.std.specs.Prelude.{◌≡◌, ◌⊎◌, ◌≤◌, ℕ, ⊤, List, [], ◌∷◌, ◌++◌, take, Option, Some, None, Result, Ok, Err}
+--     IsUnhindered            nothing hinders a run of one client alone
+--     IsRun                   exactly the status and the output of a run
+use Rattle.std.specs.Prelude.{◌≡◌, ◌⊎◌, ◌<◌, ◌≤◌, ℕ, ℤ, List, [], ◌++◌, length, take, Option, Some, None, Result, Ok, Err}
 use Rattle.std.specs.List.{concat}
 use Rattle.base_types.specs.Faults.{Rose}
 use Rattle.frame_core.specs.Texts.{Text}
-use Rattle.frame_core.specs.Frames.{Frame}
 use Rattle.bucket_core.specs.History.{History}
-use Rattle.plain_store.specs.Puts.{AllBy}
+use Rattle.reply_model.specs.declared.reply.Reply.{Reply}
+use Rattle.reply_model.specs.Windows.{Client}
 use Rattle.program_edge.specs.Shelves.{Held}
+use Rattle.program_edge.specs.Clocks.{IsReading}
 use Rattle.program_edge.specs.declared.sink.SinkErr.{SinkErr}
 use Rattle.program_edge.specs.declared.sink.SinkErr.TheVariants as sinks
-use Rattle.script_lang.specs.declared.command.Command.{Command}
 use Rattle.arctic_cli.specs.declared.stop.Stop.{Stop}
 use Rattle.arctic_cli.specs.declared.stop.Stop.TheVariants as stops
 use Rattle.arctic_cli.specs.CommandLine.{plain_words_of, first_set}
-use Rattle.arctic_cli.specs.Program.{stop_line, Run, run_from, performed, setting_of}
+use Rattle.arctic_cli.specs.Program.{Shelf, Job, prepared, stop_line, Run, run_of, stopped}
 use Rattle.arctic_cli.specs.Causes.{IsBadScript, IsUnreadable, IsBadFile, IsPrepared, Prepares}
+use Rattle.arctic_cli.specs.Performing.{AreServed, IsCarriedOut}
 
 -- ---- the output
 
@@ -42,68 +44,85 @@ Printed before after faults now text (Ok done) = Wrote before after text × (fau
 Printed before after faults now text (Err sinks.NoMemory) = WrotePart before after text × (faults ≤ now)
 Printed before after faults now text (Err sinks.Failed) = WrotePart before after text × Rose faults now
 
+-- what printing a text did to an output, by what is told of it
+abbrev pub Prints : {S : Type 0} → (S → Option Text) → (S → ℕ) → S → S → Text → Result (Unit {0}) SinkErr → Type 0
+Prints written faults old new text result = Printed (written old) (written new) (faults old) (faults new) text result
+
 -- ---- the whole run
 
--- the words, what the shelf holds, the store's limit and client, and its history
+-- the words, what the shelf holds, the clock's reading, the store's limit and client, and its history
 pub record Start : Type 0 where
   pub words : List Text
   pub holds : Held
+  pub reading : Option ℤ
   pub limit : ℕ
   pub client : ℕ
   pub history : History
 
 -- what a run begins with
-abbrev pub start_of : List Text → Held → ℕ → ℕ → History → Start
-start_of words holds limit client history = record { words = words; holds = holds; limit = limit; client = client; history = history }
+abbrev pub start_of : List Text → Held → Option ℤ → ℕ → ℕ → History → Start
+start_of words holds reading limit client history = record { words = words; holds = holds; reading = reading; limit = limit; client = client; history = history }
 
--- a run that is due: what was prepared of the words and the shelf, whose faults are counted, decides it
-pub record IsDue (start : Start) (before now : ℕ) (run : Run) : Type 0 where
-  pub plan : Result (List Command × List Frame) Stop
-  pub prepares : Prepares start.holds before now start.words plan
-  pub run_is : run ≡ run_from start.limit start.client start.history plan
+-- the store's client, with the frames and the tries of a job and with a moment
+abbrev pub client_of : Start → Job → ℤ → Client
+client_of start job moment = record { session = record { frames = job.frames; moment = moment; tries = job.tries; client = start.client }; limit = start.limit }
 
--- all lines of a due run were written
-pub record AllWritten (run : Run) (before after : Option Text) (status : ℕ) (new : History) : Type 0 where
+-- the commands of a job were carried out at the clock's reading, and the run is that of their replies
+pub record Performs (start : Start) (job : Job) (run : Run) (new : History) : Type 0 where
+  pub moment : ℤ
+  pub told : IsReading start.reading moment
+  pub replies : List Reply
+  pub carried_out : IsCarriedOut job.cutting (client_of start job moment) job.commands replies start.history new
+  pub run_is : run ≡ run_of replies (length new)
+
+-- the run that is due by what was prepared: that of the job, or a stop, which leaves the history as it was
+abbrev pub IsDue : Start → Result Job Stop → Run → History → Type 0
+IsDue start (Ok job) run new = Performs start job run new
+IsDue start (Err s) run new = (run ≡ stopped s) × (new ≡ start.history)
+
+-- all lines of a run were written
+pub record AllWritten (run : Run) (before after : Option Text) (status : ℕ) : Type 0 where
   pub status_is : status ≡ run.status
   pub output : Wrote before after (concat run.lines)
-  pub history_is : new ≡ run.history
 
--- a put was refused, and nothing more was put
-pub record PutRefused (run : Run) (before after : Option Text) (new : History) : Type 0 where
-  pub output : WrotePart before after (concat run.lines)
-  pub history_is : new ≡ run.history
+-- a run ended by writing all its lines, or by a refused put, after which nothing more was put
+abbrev pub RunEnds : Run → ℕ → ℕ → Option Text → Option Text → ℕ → Type 0
+RunEnds run faults now before after status =
+    AllWritten run before after status
+    ⊎ ((status ≡ 5) × Rose faults now × WrotePart before after (concat run.lines)) ⊎ ((status ≡ 6) × WrotePart before after (concat run.lines))
 
--- the history went on by own Puts, of which there may be none
-pub record AddsPuts (client : ℕ) (old new : History) : Type 0 where
-  pub own : History
-  pub is : new ≡ own ++ old
-  pub by_client : AllBy client own
-
--- memory was wanted before anything was put
-pub record Halted (client : ℕ) (before after : Option Text) (old new : History) : Type 0 where
+-- memory was wanted before the first command and before anything was put
+pub record Halted (before after : Option Text) (old new : History) : Type 0 where
   pub output : Wrote before after []
-  pub adds : AddsPuts client old new
+  pub unchanged : new ≡ old
 
--- a due run ended by writing all, by a refused put, or by want of memory
-abbrev pub RunEnds : Run → ℕ → ℕ → ℕ → Option Text → Option Text → ℕ → History → History → Type 0
-RunEnds run client faults now before after status old new =
-    AllWritten run before after status new ⊎ ((status ≡ 5) × Rose faults now × PutRefused run before after new)
-    ⊎ ((status ≡ 6) × PutRefused run before after new) ⊎ ((status ≡ 6) × Halted client before after old new)
+-- the commands of a job were carried out and the run of their replies ended so, or memory was wanted before the first
+abbrev pub JobEnds : Start → Job → ℕ → ℕ → Option Text → Option Text → ℕ → History → Type 0
+JobEnds start job faults now before after status new =
+    ((run : Run) × Performs start job run new × RunEnds run faults now before after status) ⊎ ((status ≡ 6) × Halted before after start.history new)
 
--- some due run ended so, or memory was wanted before it was known
+-- a run that is due, by what was prepared of the words and the shelf, whose faults are counted
+pub record Due (start : Start) (before now : ℕ) (new : History) : Type 0 where
+  pub plan : Result Job Stop
+  pub prepares : Prepares start.holds before now start.words plan
+  pub run : Run
+  pub is_due : IsDue start plan run new
+
+-- a run that is due ended so, or memory was wanted before it
 abbrev pub Ends : Start → ℕ → ℕ → ℕ → ℕ → Option Text → Option Text → ℕ → History → Type 0
 Ends start shelf_faults shelf_now faults now before after status new =
-    ((run : Run) × IsDue start shelf_faults shelf_now run × RunEnds run start.client faults now before after status start.history new)
-    ⊎ ((status ≡ 6) × Halted start.client before after start.history new)
+    ((due : Due start shelf_faults shelf_now new) × RunEnds due.run faults now before after status)
+    ⊎ ((status ≡ 6) × Halted before after start.history new)
 
 -- ---- each status
 
--- the commands of a good script were performed over the frames of good files, as one thread would; all was written
+-- the commands of a good script were carried out over the files of its loads, and the transcript of their replies was written
 pub record IsTranscript (start : Start) (before after : Option Text) (status : ℕ) (new : History) : Type 0 where
-  pub commands : List Command
-  pub frames : List Frame
-  pub prepared : IsPrepared start.holds start.words commands frames
-  pub written : AllWritten (performed (setting_of start.limit start.client frames) start.history commands) before after status new
+  pub job : Job
+  pub prepared : IsPrepared start.holds start.words job
+  pub run : Run
+  pub performs : Performs start job run new
+  pub written : AllWritten run before after status
 
 -- the run stopped for this reason: its line alone was written, and the history is as it was
 pub record IsStop (stop : Stop) (reason : Type 0) (before after : Option Text) (old new : History) : Type 0 where
@@ -124,22 +143,35 @@ abbrev pub StopsByFetch : Start → ℕ → ℕ → Option Text → Option Text 
 StopsByFetch start shelf_faults shelf_now before after new =
     (name : Text) × IsStop (stops.Unreadable name) (IsUnreadable start.holds shelf_faults shelf_now start.words name) before after start.history new
 
--- a loaded file is outside its form, or gives no frame; its name is printed
+-- a loaded file is outside its form; its name is printed
 abbrev pub StopsByFile : Start → Option Text → Option Text → History → Type 0
 StopsByFile start before after new = (name : Text) × IsStop (stops.BadFile name) (IsBadFile start.holds start.words name) before after start.history new
 
--- the sink refused a put: what was written is a front of what was due
+-- a put was refused: what was written is a front of what was due
 abbrev pub StopsByPut : Start → ℕ → ℕ → Option Text → Option Text → History → Type 0
-StopsByPut start shelf_faults shelf_now before after new = (run : Run) × IsDue start shelf_faults shelf_now run × PutRefused run before after new
+StopsByPut start shelf_faults shelf_now before after new = (due : Due start shelf_faults shelf_now new) × WrotePart before after (concat due.run.lines)
 
--- memory was wanted: nothing was written, or a front of what was due
+-- memory was wanted: in a command, whose transcript was written; while a line was printed; or before the first command
 abbrev pub WantsMemory : Start → ℕ → ℕ → Option Text → Option Text → History → Type 0
-WantsMemory start shelf_faults shelf_now before after new = StopsByPut start shelf_faults shelf_now before after new ⊎ Halted start.client before after start.history new
+WantsMemory start shelf_faults shelf_now before after new =
+    IsTranscript start before after 6 new ⊎ StopsByPut start shelf_faults shelf_now before after new ⊎ Halted before after start.history new
 
 -- ---- completeness
 
--- the status, the output and the history are those of the run
-pub record IsRun (run : Run) (told : Text) (after : Option Text) (status : ℕ) (new : History) : Type 0 where
-  pub status_is : status ≡ run.status
-  pub output : after ≡ Some (told ++ concat run.lines)
-  pub history_is : new ≡ run.history
+-- nothing hinders a run of one client alone: shelf, output and clock tell what they hold; the store is empty and of client 1; neither
+-- shelf nor output failed; the limit was not reached; and what is shown of one client alone is shown of each command
+pub record IsUnhindered (start : Start) (shelf_faults shelf_now faults now : ℕ) (held : Shelf) (told : Text) (moment : ℤ) (before : Option Text) (new : History) : Type 0 where
+  pub tells : start.holds ≡ Some held
+  pub written : before ≡ Some told
+  pub reading : start.reading ≡ Some moment
+  pub empty : start.history ≡ []
+  pub first : start.client ≡ 1
+  pub shelf_works : Rose shelf_faults shelf_now → ⊥
+  pub output_works : Rose faults now → ⊥
+  pub room : length new < start.limit
+  pub served : (job : Job) → prepared held start.words ≡ Ok job → AreServed job.commands
+
+-- the status and the output are those of the run, if there is one
+abbrev pub IsRun : Option Run → Text → Option Text → ℕ → Type 0
+IsRun None told after status = ⊥
+IsRun (Some run) told after status = (status ≡ run.status) × (after ≡ Some (told ++ concat run.lines))

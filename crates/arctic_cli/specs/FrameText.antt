@@ -1,9 +1,10 @@
 -- How a frame is printed: a header and its rows, each as a record of fields.
---     behind_commas, record_text      fields behind commas; the line of a record: its fields between commas
+--     behind_commas, further_fields      fields behind commas; fields with a comma between each two
+--     record_text             the line of a record: its fields between commas
 --     cell_text               the field of a cell
 --     header_fields, row_fields      the fields of the header and of a row
 --     frame_lines             the lines of a frame
-use Rattle.std.specs.Prelude.{Bool, true, false, if◌then◌else◌, List, [], ◌∷◌, ◌++◌, map, codes}
+use Rattle.std.specs.Prelude.{ℕ, zero, suc, Bool, true, false, if◌then◌else◌, List, [], ◌∷◌, ◌++◌, map, codes}
 use Rattle.std.specs.List.{join_with_byte, flat_map}
 use Rattle.std.specs.Fmt.{signed_decimal}
 use Rattle.frame_core.specs.declared.cell.Cell.{Cell}
@@ -20,6 +21,16 @@ ended line = line ++ 10 ∷ []
 abbrev pub behind_commas : List Text → Text
 behind_commas = flat_map (λ field. 44 ∷ field)
 
+-- the comma before the field of a place, counted from 0; before the first one only where something stands before it
+abbrev pub comma_before : Bool → ℕ → Text
+comma_before stands zero = if stands then 44 ∷ [] else []
+comma_before stands (suc place) = 44 ∷ []
+
+-- the fields between commas, or each behind a comma where something stands before them
+abbrev pub further_fields : Bool → List Text → Text
+further_fields true fields = behind_commas fields
+further_fields false fields = join_with_byte 44 fields
+
 -- the line of a record: its fields between commas
 unfoldable pub record_text : List Text → Text
 record_text fields = ended (join_with_byte 44 fields)
@@ -30,6 +41,10 @@ cell_text (cells.Int n) = signed_decimal n
 cell_text (cells.Flag b) = if b then codes "True" else codes "False"
 cell_text (cells.Text t) = t
 cell_text (cells.Stamp n) = signed_decimal n
+
+-- the field of the index, where there is one
+abbrev pub index_text : Bool → Text → Text
+index_text timed field = if timed then field else []
 
 -- the fields with one for the index before them, where there is an index
 abbrev pub with_index : Bool → Text → List Text → List Text

@@ -1,10 +1,9 @@
 pub mod CommandLine
 pub mod FrameText
-pub mod Replies
 pub mod Transcript
+pub mod Jobs
 pub mod Program
 pub mod Causes
-pub mod Endings
 pub mod Performing
-pub mod Views
+pub mod Endings
 pub mod Preparing

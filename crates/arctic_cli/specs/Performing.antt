@@ -1,56 +1,45 @@
--- What performing commands leaves.
---     ShowsOutcome, Shows     a reply that keeps the segment of a frame shows a reply with the frame
---     refuses, kept_status    whether an outcome is a refusal, and the status of replies
+-- What carrying out commands leaves.
 --     AreNamed                the frames that commands name are there
---     IsAnswer, Answers, AnswersAll      the replies are those of one thread, and so is the history
-use Rattle.std.specs.Prelude.{◌≡◌, ℕ, Bool, true, false, if◌then◌else◌, List, Ok}
-use Rattle.std.specs.List.{AllZip, AllByRecursion, list_any}
-use Rattle.std.specs.Arc.{arc_value}
-use Rattle.segment_bytes.specs.Segments.{segment_of}
+--     talk_of                 the commands of one client, its replies and windows
+--     AreServed, AreUncut     when the replies are those of one client alone
+--     IsCarriedOut            the replies are legal in the history that goes on from an older one
+use Rattle.std.specs.Prelude.{◌≡◌, ℕ, true, false, List, [], ◌∷◌, ◌++◌, length}
+use Rattle.std.specs.List.{AllByRecursion}
 use Rattle.bucket_core.specs.History.{History}
-use Rattle.script_lang.specs.declared.command.Command.{Command}
-use Rattle.script_lang.specs.Scripts.{IsLoaded}
-use Rattle.arctic_cli.specs.declared.reply.Outcome.{Outcome as Kept}
-use Rattle.arctic_cli.specs.declared.reply.Outcome.TheVariants as kept
-use Rattle.arctic_cli.specs.declared.reply.Reply.{Reply as KeptReply}
-use Rattle.arctic_cli.specs.Replies.{Outcome, Committed, Whole, Refused, Reply, Setting, answer, after, answers, after_all}
+use Rattle.store_model.specs.Law.{IsLawful}
+use Rattle.expr_clause.specs.declared.command.Command.{Command}
+use Rattle.reply_model.specs.declared.reply.Reply.{Reply}
+use Rattle.reply_model.specs.Windows.{Window, Client, is_cut}
+use Rattle.reply_model.specs.Runs.{Talk, IsLegalTalk, HasNoFault, AllCovered}
+use Rattle.reply_model.specs.Blocks.{Cutting}
+use Rattle.reply_model.specs.Standing.{is_served, RunsAlone}
+use Rattle.arctic_cli.specs.Jobs.{IsPlaced}
 
--- the segment that is kept spells the frame; all else is the same
-abbrev pub ShowsOutcome : Kept → Outcome → Type 0
-ShowsOutcome (kept.Committed version) (Committed v) = version ≡ v
-ShowsOutcome (kept.Whole version body) (Whole v frame) = (version ≡ v) × (segment_of (arc_value body) ≡ Ok frame)
-ShowsOutcome (kept.Refused why) (Refused because) = why ≡ because
-ShowsOutcome _ _ = ⊥
-
--- a reply that keeps the segment of a frame shows a reply with the frame
-pub record Shows (reply : KeptReply) (told : Reply) : Type 0 where
-  pub place : reply.place ≡ told.place
-  pub outcome : ShowsOutcome reply.outcome told.outcome
-
--- whether an outcome is a refusal
-abbrev pub refuses : Kept → Bool
-refuses (kept.Committed version) = false
-refuses (kept.Whole version body) = false
-refuses (kept.Refused why) = true
-
--- 1 where a reply is a refusal, and else 0
-abbrev pub kept_status : List KeptReply → ℕ
-kept_status replies = if list_any (λ (r : KeptReply). refuses r.outcome) replies then 1 else 0
-
--- the frames that the commands name are among so many
+-- the library carries out the commands, and the frames that they name are among so many
 abbrev pub AreNamed : ℕ → List Command → Type 0
-AreNamed count = AllByRecursion (IsLoaded count)
+AreNamed count = AllByRecursion (IsPlaced count)
 
--- the reply shows the one that is told, and the history is this one
-pub record IsAnswer (told : Reply) (history : History) (reply : KeptReply) (new : History) : Type 0 where
-  pub shows : Shows reply told
-  pub history_is : new ≡ history
+-- the commands of one client, with its replies and windows
+abbrev pub talk_of : Client → List Command → List Reply → List Window → Talk
+talk_of client commands replies windows = record { client = client; commands = commands; replies = replies; windows = windows }
 
--- the reply to a command is that of one thread, and so is the history
-abbrev pub Answers : Setting → History → Command → KeptReply → History → Type 0
-Answers s old c reply new = IsAnswer (answer s old c) (after s old c) reply new
+-- what is shown of one client alone is shown of each of these commands
+abbrev pub AreServed : List Command → Type 0
+AreServed = AllByRecursion (λ c. is_served c ≡ true)
 
--- the replies to commands are those of one thread, and so is the history
-pub record AnswersAll (s : Setting) (old : History) (list : List Command) (replies : List KeptReply) (new : History) : Type 0 where
-  pub shows : AllZip Shows replies (answers s old list)
-  pub history_is : new ≡ after_all s old list
+-- none of the replies is want of memory, a failure or a full store
+abbrev pub AreUncut : List Reply → Type 0
+AreUncut = AllByRecursion (λ (r : Reply). is_cut r.outcome ≡ false)
+
+-- the history goes on lawfully from an older one; there is a reply and a window for each command, in order, and each reply is legal for
+-- its window; each added event lies in a window; no call of the store failed; and where all commands are served and no reply is cut, the
+-- replies are those of this client alone
+pub record IsCarriedOut (cutting : Cutting) (client : Client) (commands : List Command) (replies : List Reply) (old new : History) : Type 0 where
+  pub more : History
+  pub goes_on : new ≡ more ++ old
+  pub lawful : IsLawful old → IsLawful new
+  pub windows : List Window
+  pub legal : IsLegalTalk new (length old) (talk_of client commands replies windows)
+  pub covered : AllCovered new (length old) (talk_of client commands replies windows ∷ [])
+  pub no_fault : HasNoFault (talk_of client commands replies windows)
+  pub alone : IsLawful old → AreServed commands → AreUncut replies → RunsAlone cutting client.session commands replies old new

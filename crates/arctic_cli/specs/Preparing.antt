@@ -1,21 +1,25 @@
 -- What the steps of preparing a run answer; they halt by a stop or by want of memory.
 --     FetchHalts, LoadHalts       why the file of a name gave no bytes, and that of a load no frame
 --     FailsAt, LoadsHalt      the load at which loading halted, before which all are good
---     ScriptHalts, PlanIs         why there is no script; the plan, or why there is none
-use Rattle.std.specs.Prelude.{◌≡◌, ℕ, ⊤, List, ◌∷◌, ◌++◌, Some, None, Result, Ok, Err}
-use Rattle.std.specs.List.{AllZip, AllByRecursion}
+--     ScriptHalts             why there is no script
+--     said, FindsJob          what the words say; the script that they name, and their options
+--     job_in, PlanIs          the job of a plan; the plan of the words, or why there is none
+use Rattle.std.specs.Prelude.{◌≡◌, ℕ, ⊤, List, ◌∷◌, ◌++◌, map, Some, None, Result, Ok, Err}
+use Rattle.std.specs.List.{AllZip}
 use Rattle.frame_core.specs.Texts.{Text}
-use Rattle.frame_core.specs.Frames.{Frame}
-use Rattle.frame_core.specs.Limits.{IsStorable}
+use Rattle.frame_core.specs.RawFrames.{Table, table_of}
 use Rattle.program_edge.specs.Shelves.{Held}
 use Rattle.script_lang.specs.declared.load.Load.{Load}
+use Rattle.script_lang.specs.declared.script.Script.{Script}
 use Rattle.arctic_cli.specs.declared.stop.Stop.{Stop}
 use Rattle.arctic_cli.specs.declared.stop.Stop.TheVariants as stops
 use Rattle.arctic_cli.specs.declared.stop.Halt.{Halt}
 use Rattle.arctic_cli.specs.declared.stop.Halt.TheVariants as halts
 use Rattle.arctic_cli.specs.declared.prepare.Plan.{Plan}
-use Rattle.arctic_cli.specs.Program.{frame_in_file}
-use Rattle.arctic_cli.specs.Causes.{HeldAs, NotFetched, GivesFrame, IsPrepared, StopsBy}
+use Rattle.arctic_cli.specs.declared.words.Options.{Options}
+use Rattle.arctic_cli.specs.CommandLine.{run, Words}
+use Rattle.arctic_cli.specs.Program.{Job, table_in_file}
+use Rattle.arctic_cli.specs.Causes.{HeldAs, NotFetched, FindsScript, GivesTable, IsPrepared, StopsBy}
 
 -- a file of this name gave no bytes
 abbrev pub FetchHalts : Held → ℕ → ℕ → Text → Halt → Type 0
@@ -27,7 +31,7 @@ FetchHalts holds before now name (halts.Stop _) = ⊥
 pub record HoldsBadFile (holds : Held) (load : Load) : Type 0 where
   pub bytes : Text
   pub held : HeldAs holds load.file bytes
-  pub file_bad : frame_in_file load bytes ≡ None
+  pub file_bad : table_in_file load bytes ≡ None
 
 -- a load gave no frame
 abbrev pub LoadHalts : Held → ℕ → ℕ → Load → Halt → Type 0
@@ -42,8 +46,8 @@ pub record FailsAt (holds : Held) (before now : ℕ) (loads : List Load) (halt :
   pub earlier : List Load
   pub later : List Load
   pub loads_are : loads ≡ earlier ++ load ∷ later
-  pub frames : List Frame
-  pub loaded : AllZip (GivesFrame holds) earlier frames
+  pub frames : List Table
+  pub loaded : AllZip (GivesTable holds) earlier frames
   pub fails : LoadHalts holds before now load halt
 
 -- the loads gave no frames
@@ -56,12 +60,21 @@ abbrev pub ScriptHalts : Held → ℕ → ℕ → List Text → Halt → Type 0
 ScriptHalts holds before now words halts.NoMemory = ⊤
 ScriptHalts holds before now words (halts.Stop s) = StopsBy holds before now words s
 
--- frames that may be stored
-abbrev pub AreStorable : List Frame → Type 0
-AreStorable = AllByRecursion IsStorable
+-- what the words say, by the script's name and the options
+abbrev pub said : Text → Options → Words
+said name options = record { verb = run; word = name; rows = options.cutting.rows; cols = options.cutting.cols; tries = options.tries }
+
+-- the script that the words name, and the options that they say
+pub record FindsJob (holds : Held) (words : List Text) (script : Script) (options : Options) : Type 0 where
+  pub found : FindsScript holds words script
+  pub says : found.said ≡ said found.said.word options
+
+-- the job of a plan
+abbrev pub job_in : Plan → Job
+job_in plan = record { cutting = record { rows = plan.options.cutting.rows; columns = plan.options.cutting.cols }; tries = plan.options.tries; commands = plan.commands; frames = map table_of plan.frames }
 
 -- the plan of the words, or why there is none
 abbrev pub PlanIs : Held → ℕ → ℕ → List Text → Result Plan Halt → Type 0
-PlanIs holds before now words (Ok plan) = IsPrepared holds words plan.commands plan.frames
+PlanIs holds before now words (Ok plan) = IsPrepared holds words (job_in plan)
 PlanIs holds before now words (Err halts.NoMemory) = ⊤
 PlanIs holds before now words (Err (halts.Stop s)) = StopsBy holds before now words s

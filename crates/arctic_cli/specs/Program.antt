@@ -1,26 +1,31 @@
--- The whole run of one client.
+-- What a run is to do, and what it gives.
 --     stop_status, stop_line  the status and the line of a run that ends before its first command
 --     Shelf                   the bytes of a file that the shelf holds
---     frame_in_file           the frame of a loaded file
---     prepared                the commands and the frames, or why the run stops
---     Run, run_alone          the status, the lines that are put, each by a put of its own, and the history in the end
-use Rattle.std.specs.Prelude.{ℕ, Bool, true, false, if◌then◌else◌, List, [], ◌∷◌, ◌++◌, length, Option, Some, None, Result, Ok, Err, codes}
+--     Job, job_of             what a run is to do
+--     prepared                the job of the words, or why the run stops
+--     replies_status          the status of replies
+--     Run, run_of, stopped    a status, and the lines that are put, each by a put of its own
+--     run_alone               the run of one client alone, from the empty history
+use Rattle.std.specs.Prelude.{ℕ, ℤ, Bool, true, false, if◌then◌else◌, List, [], ◌∷◌, ◌++◌, Option, Some, None, option_map, Result, Ok, Err, codes}
 use Rattle.std.specs.List.{list_any}
 use Rattle.frame_core.specs.Texts.{Text}
-use Rattle.frame_core.specs.Frames.{Frame}
-use Rattle.frame_core.specs.RawFrames.{Table, frame_of_table}
-use Rattle.bucket_core.specs.History.{History}
-use Rattle.script_lang.specs.declared.command.Command.{Command}
+use Rattle.frame_core.specs.declared.refusal.Refusal.TheVariants as refusals
+use Rattle.frame_core.specs.RawFrames.{Table}
+use Rattle.expr_clause.specs.declared.command.Command.{Command}
+use Rattle.reply_model.specs.declared.outcome.Outcome.{Outcome}
+use Rattle.reply_model.specs.declared.outcome.Outcome.TheVariants as outcomes
+use Rattle.reply_model.specs.declared.reply.Reply.{Reply}
+use Rattle.reply_model.specs.Windows.{is_refused}
+use Rattle.reply_model.specs.Blocks.{Cutting}
+use Rattle.reply_model.specs.Sole.{SoleRun, sole}
 use Rattle.script_lang.specs.declared.load.Load.{Load}
 use Rattle.script_lang.specs.declared.script.Script.{Script}
-use Rattle.script_lang.specs.Fronts.{◌>>=◌}
 use Rattle.script_lang.specs.PlainFiles.{plain_table_of}
-use Rattle.script_lang.specs.Scripts.{plain_script_of}
+use Rattle.arctic_cli.specs.Jobs.{script_in}
 use Rattle.arctic_cli.specs.declared.stop.Stop.{Stop}
 use Rattle.arctic_cli.specs.declared.stop.Stop.TheVariants as stops
-use Rattle.arctic_cli.specs.CommandLine.{Allowed, Words, plain_words_of, first_set}
+use Rattle.arctic_cli.specs.CommandLine.{Words, plain_words_of, first_set}
 use Rattle.arctic_cli.specs.FrameText.{ended}
-use Rattle.arctic_cli.specs.Replies.{Outcome, Committed, Whole, Refused, Reply, Setting, answers, after_all}
 use Rattle.arctic_cli.specs.Transcript.{transcript}
 
 -- the status of a stop
@@ -41,16 +46,22 @@ stop_text (stops.BadFile file) = file
 unfoldable pub stop_line : Stop → Text
 stop_line s = ended (codes "arctic: " ++ stop_text s)
 
--- ---- the script and its frames
+-- ---- the job
 
 -- the bytes of a file that the shelf holds
 abbrev pub Shelf : Type 0
 Shelf = Text → Option Text
 
--- the value of an answer, if there is one
-abbrev pub ok_of : {A E : Type 0} → Result A E → Option A
-ok_of (Ok a) = Some a
-ok_of (Err e) = None
+-- how frames are cut, how often a commit is tried, the commands, and the frames that they name, not tested
+pub record Job : Type 0 where
+  pub cutting : Cutting
+  pub tries : ℕ
+  pub commands : List Command
+  pub frames : List Table
+
+-- the job of what the words say, of a script and of the files that it loads
+abbrev pub job_of : Words → Script → List Table → Job
+job_of said script frames = record { cutting = record { rows = said.rows; columns = said.cols }; tries = said.tries; commands = script.first; frames = frames }
 
 -- the value, or the stop where there is none
 abbrev pub or_stop : {A : Type 0} → Stop → Option A → Result A Stop
@@ -63,66 +74,61 @@ abbrev pub ◌then◌ : {A B : Type 0} → Result A Stop → (A → Result B Sto
 (Ok a) then f = f a
 (Err s) then f = Err s
 
--- the frame of a loaded file
-abbrev pub frame_in_file : Load → Text → Option Frame
-frame_in_file l bytes = plain_table_of l.types bytes >>= λ table. ok_of (frame_of_table table)
+-- the raw frame of a loaded file
+abbrev pub table_in_file : Load → Text → Option Table
+table_in_file l bytes = plain_table_of l.types bytes
 
 -- the bytes of a file
 abbrev pub fetched : Shelf → Text → Result Text Stop
 fetched shelf name = or_stop (stops.Unreadable name) (shelf name)
 
--- the frame of one load
-abbrev pub loaded : Shelf → Load → Result Frame Stop
-loaded shelf l = fetched shelf l.file then λ bytes. or_stop (stops.BadFile l.file) (frame_in_file l bytes)
+-- the raw frame of one load
+abbrev pub loaded : Shelf → Load → Result Table Stop
+loaded shelf l = fetched shelf l.file then λ bytes. or_stop (stops.BadFile l.file) (table_in_file l bytes)
 
--- the frames of the loads, fetched and read one after another
-abbrev pub all_loaded : Shelf → List Load → Result (List Frame) Stop
+-- the raw frames of the loads, fetched and read one after another
+abbrev pub all_loaded : Shelf → List Load → Result (List Table) Stop
 all_loaded shelf [] = Ok []
 all_loaded shelf (l ∷ loads) = loaded shelf l then λ frame. all_loaded shelf loads then λ frames. Ok (frame ∷ frames)
 
--- the commands and the frames of these words
-abbrev pub prepared : Shelf → List Text → Result (List Command × List Frame) Stop
+-- the job of these words
+abbrev pub prepared : Shelf → List Text → Result Job Stop
 prepared shelf words =
-    or_stop stops.Usage (plain_words_of first_set words) then λ w. fetched shelf w.word then λ bytes. or_stop stops.BadScript (plain_script_of bytes) then λ script.
-    all_loaded shelf script.loads then λ frames. Ok (script.first, frames)
+    or_stop stops.Usage (plain_words_of first_set words) then λ said. fetched shelf said.word then λ bytes. or_stop stops.BadScript (script_in bytes) then λ script.
+    all_loaded shelf script.loads then λ frames. Ok (job_of said script frames)
 
 -- ---- the run
 
--- whether a reply is a refusal
-abbrev pub is_refused : Reply → Bool
-is_refused r = elim r.outcome [ Committed version ↦ false | Whole version frame ↦ false | Refused why ↦ true ]
+-- want of memory
+abbrev pub wants_memory : Outcome → Bool
+wants_memory (outcomes.Refused refusals.NoMemory) = true
+wants_memory _ = false
 
--- the status of these replies
+-- the status of replies: 6 where one is want of memory, else 1 where one is a refusal, else 0
 abbrev pub replies_status : List Reply → ℕ
-replies_status replies = if list_any is_refused replies then 1 else 0
+replies_status replies =
+    if list_any (λ (r : Reply). wants_memory r.outcome) replies then 6
+    else if list_any (λ (r : Reply). is_refused r.outcome) replies then 1
+    else 0
 
--- a status, lines and a history
+-- a status and lines
 pub record Run : Type 0 where
   pub status : ℕ
   pub lines : List Text
-  pub history : History
 
--- the run of these commands in a setting
-abbrev pub performed : Setting → History → List Command → Run
-performed s h commands = record {
-  status = replies_status (answers s h commands);
-  lines = transcript (answers s h commands) (length (after_all s h commands));
-  history = after_all s h commands;
-}
+-- the run of these replies, where the history ends at this place
+abbrev pub run_of : List Reply → ℕ → Run
+run_of replies end = record { status = replies_status replies; lines = transcript replies end }
 
--- the setting of a store's limit and client, and of these frames
-abbrev pub setting_of : ℕ → ℕ → List Frame → Setting
-setting_of limit client frames = record { client = client; limit = limit; frames = frames }
+-- the run of a stop
+abbrev pub stopped : Stop → Run
+stopped s = record { status = stop_status s; lines = stop_line s ∷ [] }
 
--- the run of a stop, which leaves the history as it was
-abbrev pub stopped : History → Stop → Run
-stopped h s = record { status = stop_status s; lines = stop_line s ∷ []; history = h }
+-- the run of a job, or of a stop, of client 1 alone from the empty history: there is none where no frame has a command's number
+abbrev pub run_from : ℤ → Result Job Stop → Option Run
+run_from moment (Ok job) = option_map (λ (r : SoleRun). run_of r.first r.events) (sole job.cutting job.frames moment job.commands [] [])
+run_from moment (Err s) = Some (stopped s)
 
--- the run of what was prepared
-abbrev pub run_from : ℕ → ℕ → History → Result (List Command × List Frame) Stop → Run
-run_from limit client h (Ok x) = performed (setting_of limit client x.1) h x.0
-run_from limit client h (Err s) = stopped h s
-
--- the whole run over a shelf, for the client of a store with this limit and this history
-abbrev pub run_alone : ℕ → ℕ → History → Shelf → List Text → Run
-run_alone limit client h shelf words = run_from limit client h (prepared shelf words)
+-- the whole run over a shelf
+abbrev pub run_alone : ℤ → Shelf → List Text → Option Run
+run_alone moment shelf words = run_from moment (prepared shelf words)

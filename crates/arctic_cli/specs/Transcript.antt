@@ -1,9 +1,11 @@
 -- What a run prints.
 --     outcome_text            what is said of an outcome on the line of its reply
+--     version_line, symbol_line, lines_after      the lines that follow the line of a reply
 --     reply_line, reply_lines     the line of a reply, and the lines that follow it
 --     part_lines, end_line    the lines of a part's replies, and of the end
 --     transcript              the lines of all replies, and of the end; each is one put of the sink
-use Rattle.std.specs.Prelude.{ℕ, suc, List, [], ◌∷◌, ◌++◌, length, codes}
+use Rattle.std.specs.Prelude.{ℕ, suc, Bool, if◌then◌else◌, List, [], ◌∷◌, ◌++◌, map, length, Option, Some, None, codes}
+use Rattle.std.specs.List.{flat_map, join_with_byte}
 use Rattle.std.specs.Fmt.{decimal, signed_decimal}
 use Rattle.frame_core.specs.declared.refusal.Asked.{Asked}
 use Rattle.frame_core.specs.declared.refusal.Asked.TheVariants as asks
@@ -12,8 +14,14 @@ use Rattle.frame_core.specs.declared.refusal.Extent.TheVariants as extents
 use Rattle.frame_core.specs.declared.refusal.Refusal.{Refusal}
 use Rattle.frame_core.specs.declared.refusal.Refusal.TheVariants as refusals
 use Rattle.frame_core.specs.Texts.{Text}
+use Rattle.key_kind.specs.Names.{Name}
+use Rattle.reply_model.specs.declared.outcome.HeldAt.{HeldAt}
+use Rattle.reply_model.specs.declared.outcome.VersionRow.{VersionRow}
+use Rattle.reply_model.specs.declared.outcome.SymbolRow.{SymbolRow}
+use Rattle.reply_model.specs.declared.outcome.Outcome.{Outcome}
+use Rattle.reply_model.specs.declared.outcome.Outcome.TheVariants as outcomes
+use Rattle.reply_model.specs.declared.reply.Reply.{Reply}
 use Rattle.arctic_cli.specs.FrameText.{ended, frame_lines}
-use Rattle.arctic_cli.specs.Replies.{Outcome, Committed, Whole, Refused, Reply}
 
 -- ---- parts of lines
 
@@ -89,23 +97,69 @@ refusal_fields _ = []
 
 -- ---- outcomes
 
+-- a symbol that a snapshot holds: its version, and the place of the hold
+unfoldable pub held_text : HeldAt → Text
+held_text h = codes " " ++ h.symbol ++ codes ":" ++ version_text h.version ++ place_text h.place
+
 -- what is said of an outcome on the line of its reply
 unfoldable pub outcome_text : Outcome → Text
-outcome_text (Committed version) = codes "ok " ++ version_text version
-outcome_text (Whole version frame) = codes "ok " ++ version_text version ++ field (codes "rows") (length frame.rows)
-outcome_text (Refused why) = codes "err " ++ refusal_name why ++ refusal_fields why
+outcome_text (outcomes.Committed version) = codes "ok " ++ version_text version
+outcome_text outcomes.Staged = codes "ok staged"
+outcome_text (outcomes.Finalized version pieces) = codes "ok " ++ version_text version ++ field (codes "pieces") pieces
+outcome_text (outcomes.Discarded pieces) = codes "ok discarded" ++ field (codes "pieces") pieces
+outcome_text (outcomes.Deleted versions) = codes "ok deleted" ++ field (codes "versions") versions
+outcome_text (outcomes.Pruned versions) = codes "ok pruned" ++ field (codes "versions") versions
+outcome_text (outcomes.Freed tiles indexes staged) = codes "ok freed" ++ field (codes "data") tiles ++ field (codes "index") indexes ++ field (codes "staged") staged
+outcome_text (outcomes.Kept held) = codes "ok kept" ++ flat_map held_text held
+outcome_text outcomes.Unkept = codes "ok unkept"
+outcome_text (outcomes.Whole version frame) = codes "ok " ++ version_text version ++ field (codes "rows") (length frame.rows)
+outcome_text (outcomes.Versions rows) = codes "ok" ++ field (codes "versions") (length rows)
+outcome_text (outcomes.Symbols rows) = codes "ok" ++ field (codes "symbols") (length rows)
+outcome_text (outcomes.Snapshots names) = codes "ok" ++ field (codes "snapshots") (length names)
+outcome_text (outcomes.Keys tiles indexes versions refs staged) =
+    codes "ok" ++ field (codes "data") tiles ++ field (codes "index") indexes ++ field (codes "version") versions ++ field (codes "ref") refs ++ field (codes "staged") staged
+outcome_text (outcomes.Refused why) = codes "err " ++ refusal_name why ++ refusal_fields why
+
+-- whether a version is live
+abbrev pub life_text : Bool → Text
+life_text live = if live then codes " live" else codes " buried"
+
+-- the line of a version
+unfoldable pub version_line : VersionRow → Text
+version_line r = ended (version_text r.version ++ codes " at=" ++ signed_decimal r.stamp ++ life_text r.live ++ field (codes "holds") r.holds)
+
+-- a symbol's latest live version, or `-` where there is none
+unfoldable pub newest_text : Option ℕ → Text
+newest_text None = codes " -"
+newest_text (Some n) = codes " " ++ version_text n
+
+-- the line of a symbol
+unfoldable pub symbol_line : SymbolRow → Text
+symbol_line r = ended (r.symbol ++ newest_text r.newest ++ place_text r.place)
 
 -- the lines that follow the line of a reply
 abbrev pub lines_after : Outcome → List Text
-lines_after (Committed version) = []
-lines_after (Whole version frame) = frame_lines frame
-lines_after (Refused why) = []
+lines_after (outcomes.Whole version frame) = frame_lines frame
+lines_after (outcomes.Versions rows) = map version_line rows
+lines_after (outcomes.Symbols rows) = map symbol_line rows
+lines_after (outcomes.Snapshots names) = map ended names
+lines_after _ = []
 
 -- ---- replies
 
+-- the place of the list that a command went by, where it made one
+unfoldable pub listed_text : Option ℕ → Text
+listed_text None = []
+listed_text (Some place) = codes " listed=" ++ place_text place
+
+-- the symbols of which a hold was left, between commas, where there are any
+unfoldable pub left_text : List Name → Text
+left_text [] = []
+left_text (symbol ∷ more) = codes " left=" ++ join_with_byte 44 (symbol ∷ more)
+
 -- the line of a reply, to the k-th command of whoever speaks
 unfoldable pub reply_line : Text → ℕ → Reply → Text
-reply_line who k r = ended (who ++ codes "." ++ decimal k ++ codes " " ++ place_text r.place ++ codes " " ++ outcome_text r.outcome)
+reply_line who k r = ended (who ++ codes "." ++ decimal k ++ codes " " ++ place_text r.place ++ codes " " ++ outcome_text r.outcome ++ listed_text r.listed ++ left_text r.left)
 
 -- the line of a reply and the lines that follow it
 abbrev pub reply_lines : Text → ℕ → Reply → List Text

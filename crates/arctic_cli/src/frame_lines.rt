@@ -1,16 +1,14 @@
-//! The lines of a frame, read from its segment.
+//! The lines of a frame, each added to the end of a line.
 
-ghost use Rattle.std.specs.Prelude.{◌≡◌, ◌++◌, ◌<◌, ◌∷◌, length, map, slice_get, Some, IfOk, OnOk, codes};
+ghost use Rattle.std.specs.Prelude.{◌≡◌, ◌++◌, ◌<◌, length, map, slice_get, Some, IfOk, OnOk, codes};
+ghost use Rattle.std.specs.Fmt.{signed_decimal};
 ghost use Rattle.frame_core.specs.Frames.{Row, cell_of};
 ghost use Rattle.frame_core.specs.Schemas.{Head};
-ghost use Rattle.frame_core.specs.Limits.{IsStorable};
-ghost use Rattle.arctic_cli.specs.FrameText.{cell_text, record_text, header_fields, row_fields, behind_commas};
-ghost use Rattle.arctic_cli.specs.Views.{AreColumnsOf};
+ghost use Rattle.arctic_cli.specs.FrameText.{index_text, further_fields, cell_text, record_text, header_fields, row_fields};
 
-use crate::line::{push_end, push_int, push_text};
+use crate::line::{push_comma, push_end, push_int, push_text};
 use base_types::NoMemory;
-use frame_core::CellRef;
-use segment_bytes::{ColumnView, SegView};
+use frame_core::{CellRef, Frame};
 use std::alloc::Global;
 
 /// Adds the field of a cell.
@@ -26,82 +24,78 @@ fn push_cell(line: &mut Vec<u8>, cell: CellRef<'_>) -> Result<(), NoMemory>
     }
 }
 
-/// Adds the names of the columns, each behind a comma.
-fn push_names(line: &mut Vec<u8>, view: &SegView<'_>) -> Result<(), NoMemory>
-    ensures { OnOk result (line.new.items ≡ line.old.items ++ behind_commas (map (λ (c : Head). c.0) view.now.schema.columns)) }
+/// Adds the names of the columns. In a timed frame something stands before them.
+fn push_names(line: &mut Vec<u8>, frame: &Frame) -> Result<(), NoMemory>
+    ensures { OnOk result (line.new.items ≡ line.old.items ++ further_fields frame.now.schema.timed (map (λ (c : Head). c.0) frame.now.schema.columns)) }
 {
-    for place in 0..view.cols() {
-        push_text(line, ",")?;
-        push_text(line, view.name(place))?;
+    let timed = frame.schema().timed();
+    for (place, head) in frame.schema().columns().iter().enumerate() {
+        push_comma(line, timed, place)?;
+        push_text(line, head.0.text())?;
     }
     Ok(())
 }
 
-/// Adds the header of a timed frame.
-#[tactic(auto, unfolding(crate::specs::FrameText::record_text))]
-fn push_header(line: &mut Vec<u8>, view: &SegView<'_>) -> Result<(), NoMemory>
-    ensures { OnOk result (line.new.items ≡ line.old.items ++ record_text (header_fields view.now)) }
+/// Adds the cells of a row, counted from 0. In a timed frame something stands before them.
+fn push_cells(line: &mut Vec<u8>, frame: &Frame, row: u64) -> Result<(), NoMemory>
+    requires { row < length frame.now.rows }
+    ensures { (r : Row) → slice_get frame.now.rows row ≡ Some r → OnOk result (line.new.items ≡ line.old.items ++ further_fields frame.now.schema.timed (map cell_text r.cells)) }
 {
-    let _rows = view.rows();
-    push_text(line, "time")?;
-    push_names(line, view)?;
+    let timed = frame.schema().timed();
+    for column in 0..frame.schema().len() {
+        push_comma(line, timed, column)?;
+        push_cell(line, frame.cell(row, column as u64))?;
+    }
+    Ok(())
+}
+
+/// Adds the name of the index, where there is one.
+fn push_index_name(line: &mut Vec<u8>, timed: bool) -> Result<(), NoMemory>
+    ensures { OnOk result (line.new.items ≡ line.old.items ++ index_text timed (codes "time")) }
+{
+    if timed {
+        push_text(line, "time")
+    } else {
+        Ok(())
+    }
+}
+
+/// Adds the header.
+fn push_header(line: &mut Vec<u8>, frame: &Frame) -> Result<(), NoMemory>
+    ensures { OnOk result (line.new.items ≡ line.old.items ++ record_text (header_fields frame.now)) }
+{
+    push_index_name(line, frame.schema().timed())?;
+    push_names(line, frame)?;
     push_end(line)
 }
 
-/// The header of a timed frame.
-pub fn header_line(alloc: Global, view: &SegView<'_>) -> Result<Vec<u8>, NoMemory>
-    ensures { IfOk result (λ line. line.items ≡ record_text (header_fields view.now)) }
+/// The header of a frame.
+pub fn header_line(alloc: Global, frame: &Frame) -> Result<Vec<u8>, NoMemory>
+    ensures { IfOk result (λ line. line.items ≡ record_text (header_fields frame.now)) }
 {
     let mut line = Vec::new(alloc);
-    push_header(&mut line, view)?;
+    push_header(&mut line, frame)?;
     Ok(line)
 }
 
-/// The columns of a frame, each found once.
-pub fn columns_of<'a>(alloc: Global, view: &SegView<'a>) -> Result<Vec<ColumnView<'a>>, NoMemory>
-    ensures { IfOk result (λ columns. AreColumnsOf view.now columns.items) }
+/// Adds the stamp of a row, counted from 0, where the frame is timed.
+fn push_stamp(line: &mut Vec<u8>, frame: &Frame, row: u64) -> Result<(), NoMemory>
+    requires { row < length frame.now.rows }
+    ensures { (r : Row) → slice_get frame.now.rows row ≡ Some r → OnOk result (line.new.items ≡ line.old.items ++ index_text frame.now.schema.timed (signed_decimal r.stamp)) }
 {
-    let count = view.cols();
-    let mut columns = Vec::with_capacity(alloc, count as usize)?;
-    for place in 0..count {
-        columns.push(view.column(place))?;
+    if frame.schema().timed() {
+        push_int(line, frame.stamp(row))
+    } else {
+        Ok(())
     }
-    Ok(columns)
 }
 
-/// Adds the cells of a row, each behind a comma.
-fn push_cells(
-    line: &mut Vec<u8>,
-    view: &SegView<'_>,
-    columns: &[ColumnView<'_>],
-    row: u64,
-) -> Result<(), NoMemory>
-    requires columns { AreColumnsOf view.now columns.now }
-    requires row { row < length view.now.rows }
-    ensures { (r : Row) → slice_get view.now.rows row ≡ Some r → OnOk result (line.new.items ≡ line.old.items ++ behind_commas (map cell_text r.cells)) }
+/// Adds a row, counted from 0.
+pub fn push_row(line: &mut Vec<u8>, frame: &Frame, row: u64) -> Result<(), NoMemory>
+    requires { row < length frame.now.rows }
+    ensures { (r : Row) → slice_get frame.now.rows row ≡ Some r → OnOk result (line.new.items ≡ line.old.items ++ record_text (row_fields frame.now.schema.timed r)) }
 {
-    let _rows = view.rows();
-    for column in columns {
-        push_text(line, ",")?;
-        push_cell(line, column.cell(row))?;
-    }
-    Ok(())
-}
-
-/// Adds a row of a timed frame.
-#[tactic(auto, unfolding(crate::specs::FrameText::record_text))]
-pub fn push_row(
-    line: &mut Vec<u8>,
-    view: &SegView<'_>,
-    columns: &[ColumnView<'_>],
-    row: u64,
-) -> Result<(), NoMemory>
-    requires columns { AreColumnsOf view.now columns.now }
-    requires row { row < length view.now.rows }
-    ensures { (r : Row) → slice_get view.now.rows row ≡ Some r → OnOk result (line.new.items ≡ line.old.items ++ record_text (row_fields view.now.schema.timed r)) }
-{
-    let _rows = view.rows();
-    push_int(line, view.stamp(row))?;
-    push_cells(line, view, columns, row)?;
+    push_stamp(line, frame, row)?;
+    push_cells(line, frame, row)?;
     push_end(line)
 }

@@ -2,7 +2,7 @@
 
 ghost use Rattle.std.specs.Prelude.{◌≡◌, ◌++◌, ◌∷◌, [], OnOk, decimal, codes};
 ghost use Rattle.std.specs.Fmt.{signed_decimal};
-ghost use Rattle.arctic_cli.specs.FrameText.{ended};
+ghost use Rattle.arctic_cli.specs.FrameText.{ended, comma_before};
 ghost use Rattle.arctic_cli.specs.Transcript.{field, version_text, place_text, asked_text, extent_text, refusal_name, refusal_fields};
 
 use base_types::NoMemory;
@@ -14,6 +14,17 @@ pub fn push_text(line: &mut Vec<u8>, text: &str) -> Result<(), NoMemory>
     ensures { OnOk result (line.new.items ≡ line.old.items ++ text.now) }
 {
     Ok(line.extend_from_slice(text.as_bytes())?)
+}
+
+/// Adds the comma before the field of a place, counted from 0; before the first one only where something stands before it.
+pub fn push_comma(line: &mut Vec<u8>, stands: bool, place: usize) -> Result<(), NoMemory>
+    ensures { OnOk result (line.new.items ≡ line.old.items ++ comma_before stands place) }
+{
+    if stands || place > 0 {
+        push_text(line, ",")
+    } else {
+        Ok(())
+    }
 }
 
 /// Adds the end of the line.

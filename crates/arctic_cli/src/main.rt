@@ -3,10 +3,10 @@
 
 mod frame_lines;
 mod line;
+mod outcome_text;
 mod perform;
 mod prepare;
 mod print;
-mod reply;
 mod reply_line;
 mod run;
 mod stop;

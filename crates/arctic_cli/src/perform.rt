@@ -1,137 +1,42 @@
-ghost use Rattle.std.specs.Prelude.{◌≡◌, ◌≢◌, ◌⊎◌, true, length, Some, IfOk};
+ghost use Rattle.std.specs.Prelude.{◌≡◌, ◌⊎◌, true, length, IfOk, OnErr};
 ghost use Rattle.base_types.specs.Faults.{Rose};
 ghost use Rattle.bucket_core.specs.Calls.{IsSteady};
-ghost use Rattle.frame_core.specs.Limits.{IsStorable};
-ghost use Rattle.plain_store.specs.Puts.{AllBy};
-ghost use Rattle.script_lang.specs.Scripts.{IsLoaded};
-ghost use Rattle.arctic_cli.specs.Replies.{write_answer, after_write, read_answer};
-ghost use Rattle.arctic_cli.specs.Program.{setting_of};
-ghost use Rattle.arctic_cli.specs.Endings.{AddsPuts};
-ghost use Rattle.arctic_cli.specs.Preparing.{AreStorable};
-ghost use Rattle.arctic_cli.specs.Performing.{AreNamed, IsAnswer, Answers, AnswersAll};
+ghost use Rattle.library_api.specs.Steps.{client_of, run_cutting};
+ghost use Rattle.arctic_cli.specs.Performing.{AreNamed, IsCarriedOut};
 
-use crate::reply::{Outcome, Reply};
-use base_types::{Items, NoMemory};
+use base_types::NoMemory;
 use bucket_core::Bucket;
-use frame_core::{Frame, Refusal, Refused};
-use key_kind::Symbol;
-use plain_store::{PutLaw, read_newest, write_frame};
-use script_lang::Command;
+use expr_clause::Command;
+use frame_core::RawFrame;
+use library_api::Library;
+use reply_model::{Reply, runs_alone_are_sole};
 use std::alloc::Global;
 use std::sync::Wait;
+use version_chain::StoreLaw;
 
-/// Replies, seen as a list.
-pub type Replies = Items<Reply>;
-
-/// The reply of a refused command; want of memory is none.
-fn refused(refused: Refused) -> Result<Reply, NoMemory>
-    ensures reply { IfOk result (λ reply. reply ≡ record { place = refused.place; outcome = Outcome.Refused refused.why }) }
-    ensures other { IfOk result (λ reply. refused.why ≢ Refusal.NoMemory) }
-{
-    let Refused { place, why } = refused;
-    match why {
-        Refusal::NoMemory => Err(NoMemory),
-        _ => Ok(Reply {
-            place,
-            outcome: Outcome::Refused { why },
-        }),
-    }
-}
-
-/// Writes a frame.
-fn answer_write<R: Wait, B: Bucket<PutLaw>>(
+/// Carries out the commands, one after another. The memory for all replies is taken before the first command, and no error comes
+/// after it; a command that wants memory has a reply that says so.
+pub fn perform<R: Wait, B: Bucket<StoreLaw>>(
     rt: &R,
     alloc: Global,
-    bucket: &mut B,
-    symbol: &Symbol,
-    frame: &Frame,
-) -> Result<Reply, NoMemory>
-    requires sole { B.sole bucket.old ≡ true }
-    requires own { AllBy (B.number bucket.old) (B.seen bucket.old) }
-    requires storable { IsStorable frame.now }
-    // The reply and the history are those of one thread, unless the store failed.
-    ensures answers { IfOk result (λ reply. IsAnswer (write_answer (B.limit bucket.old) (B.seen bucket.old) symbol.now) (after_write (B.limit bucket.old) (B.number bucket.old) (B.seen bucket.old) symbol.now (Some frame.now)) reply (B.seen bucket.new) ⊎ Rose (B.faults bucket.old) (B.faults bucket.new)) }
-    ensures adds { AddsPuts (B.number bucket.old) (B.seen bucket.old) (B.seen bucket.new) }
-    ensures steady { IsSteady B.number B.limit B.faults B.sole bucket.old bucket.new }
-{
-    match write_frame(rt, alloc, bucket, symbol, frame) {
-        Ok(written) => Ok(Reply {
-            place: written.place,
-            outcome: Outcome::Committed {
-                version: written.version,
-            },
-        }),
-        Err(error) => refused(error),
-    }
-}
-
-/// Reads the newest frame.
-fn answer_read<R: Wait, B: Bucket<PutLaw>>(
-    rt: &R,
-    bucket: &mut B,
-    symbol: &Symbol,
-) -> Result<Reply, NoMemory>
-    requires sole { B.sole bucket.old ≡ true }
-    requires own { AllBy (B.number bucket.old) (B.seen bucket.old) }
-    ensures answers { IfOk result (λ reply. IsAnswer (read_answer (B.seen bucket.old) symbol.now) (B.seen bucket.old) reply (B.seen bucket.new) ⊎ Rose (B.faults bucket.old) (B.faults bucket.new)) }
-    ensures same { B.seen bucket.new ≡ B.seen bucket.old }
-    ensures steady { IsSteady B.number B.limit B.faults B.sole bucket.old bucket.new }
-{
-    match read_newest(rt, bucket, symbol) {
-        Ok(stored) => Ok(Reply {
-            place: stored.place,
-            outcome: Outcome::Whole {
-                version: stored.version,
-                body: stored.body,
-            },
-        }),
-        Err(error) => refused(error),
-    }
-}
-
-/// Performs one command.
-fn perform_one<R: Wait, B: Bucket<PutLaw>>(
-    rt: &R,
-    alloc: Global,
-    bucket: &mut B,
-    frames: &[Frame],
-    command: &Command,
-) -> Result<Reply, NoMemory>
-    requires sole { B.sole bucket.old ≡ true }
-    requires own { AllBy (B.number bucket.old) (B.seen bucket.old) }
-    requires storable { AreStorable frames.now }
-    requires named { IsLoaded (length frames.now) command.now }
-    ensures answers { IfOk result (λ reply. Answers (setting_of (B.limit bucket.old) (B.number bucket.old) frames.now) (B.seen bucket.old) command.now reply (B.seen bucket.new) ⊎ Rose (B.faults bucket.old) (B.faults bucket.new)) }
-    ensures adds { AddsPuts (B.number bucket.old) (B.seen bucket.old) (B.seen bucket.new) }
-    ensures steady { IsSteady B.number B.limit B.faults B.sole bucket.old bucket.new }
-{
-    match command {
-        Command::Write { symbol, frame } => {
-            answer_write(rt, alloc, bucket, symbol, &frames[*frame as usize])
-        }
-        Command::Read { symbol } => answer_read(rt, bucket, symbol),
-    }
-}
-
-/// Performs the commands, one after another. It stops where memory is wanted.
-pub fn perform<R: Wait, B: Bucket<PutLaw>>(
-    rt: &R,
-    alloc: Global,
-    bucket: &mut B,
-    frames: &[Frame],
+    library: &mut Library<B>,
     commands: &[Command],
-) -> Result<Replies, NoMemory>
-    requires sole { B.sole bucket.old ≡ true }
-    requires own { AllBy (B.number bucket.old) (B.seen bucket.old) }
-    requires storable { AreStorable frames.now }
+    frames: &[RawFrame],
+) -> Result<Vec<Reply>, NoMemory>
+    requires sole { B.sole library.old.bucket ≡ true }
     requires named { AreNamed (length frames.now) commands.now }
-    ensures answers { IfOk result (λ replies. AnswersAll (setting_of (B.limit bucket.old) (B.number bucket.old) frames.now) (B.seen bucket.old) commands.now replies (B.seen bucket.new) ⊎ Rose (B.faults bucket.old) (B.faults bucket.new)) }
-    ensures adds { AddsPuts (B.number bucket.old) (B.seen bucket.old) (B.seen bucket.new) }
-    ensures steady { IsSteady B.number B.limit B.faults B.sole bucket.old bucket.new }
+    // The replies are legal, unless a call of the store failed.
+    ensures carried_out { IfOk result (λ replies. IsCarriedOut (run_cutting library.old.settings.cutting) (client_of frames.now library.old.settings (B.number library.old.bucket) (B.limit library.old.bucket)) commands.now replies.items (B.seen library.old.bucket) (B.seen library.new.bucket) ⊎ Rose (B.faults library.old.bucket) (B.faults library.new.bucket)) }
+    ensures memory { OnErr result (library.new ≡ library.old) }
+    ensures steady { IsSteady B.number B.limit B.faults B.sole library.old.bucket library.new.bucket }
 {
-    let mut replies = Items::new(alloc);
+    runs_alone_are_sole();
+    let mut replies = Vec::with_capacity(alloc, commands.len())?;
     for command in commands {
-        replies.push(perform_one(rt, alloc, bucket, frames, command)?)?;
+        let reply = library.step(rt, alloc, command, frames);
+        let Ok(()) = replies.push(reply) else {
+            unreachable!();
+        };
     }
     Ok(replies)
 }

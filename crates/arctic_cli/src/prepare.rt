@@ -1,28 +1,33 @@
-ghost use Rattle.std.specs.Prelude.{◌≡◌, ◌≤◌, length, map, string_bytes, IfOk, IfErr, IfSome};
-ghost use Rattle.std.specs.List.{AllZip};
-ghost use Rattle.frame_core.specs.Limits.{IsStorable};
-ghost use Rattle.arctic_cli.specs.Program.{frame_in_file};
-ghost use Rattle.arctic_cli.specs.Causes.{HeldAs, FindsScript, GivesFrame};
-ghost use Rattle.arctic_cli.specs.Preparing.{FetchHalts, LoadHalts, LoadsHalt, ScriptHalts, AreStorable, PlanIs};
+ghost use Rattle.std.specs.Prelude.{◌≡◌, ◌≤◌, length, map, string_bytes, IfOk, IfErr};
+ghost use Rattle.std.specs.List.{AllZip, list_all};
+ghost use Rattle.frame_core.specs.RawFrames.{table_of};
+ghost use Rattle.script_lang.specs.Answers.{GivesScript};
+ghost use Rattle.library_api.specs.Steps.{is_carried_out};
+ghost use Rattle.arctic_cli.specs.Jobs.{script_in, ArePlaced};
+ghost use Rattle.arctic_cli.specs.CommandLine.{IsTries};
+ghost use Rattle.arctic_cli.specs.Causes.{HeldAs, GivesTable};
+ghost use Rattle.arctic_cli.specs.Preparing.{FetchHalts, LoadHalts, LoadsHalt, ScriptHalts, FindsJob, PlanIs};
 ghost use Rattle.arctic_cli.specs.Performing.{AreNamed};
-ghost use Rattle.script_lang.specs.Scripts.{AreLoaded};
 
 use crate::stop::{Halt, Stop};
-use crate::words::script_word;
+use crate::words::{Options, read_words};
 use base_types::{Items, Keep, Text};
-use frame_core::{Frame, Refusal};
+use expr_clause::Command;
+use frame_core::RawFrame;
+use library_api::is_carried_out;
 use program_edge::{Shelf, ShelfErr};
 use script_lang::{Commands, CsvFault, Load, Script, ScriptFault, read_frame, read_script};
 use std::alloc::Global;
 
-/// Frames, seen as a list.
-pub type Frames = Items<Frame>;
+/// Raw frames, seen as a list.
+pub type RawFrames = Items<RawFrame>;
 
-/// What a run is to do: commands, and the frames that they name by their places.
+/// What a run is to do: how, the commands, and the raw frames that they name by their places.
 #[derive(Drop)]
 pub struct Plan {
+    pub options: Options,
     pub commands: Commands,
-    pub frames: Frames,
+    pub frames: RawFrames,
 }
 
 /// The bytes of a file.
@@ -40,62 +45,68 @@ fn fetch_file<F: Shelf>(alloc: Global, shelf: &mut F, name: &str) -> Result<Vec<
     }
 }
 
-/// The script that the words name.
-fn find_script<F: Shelf>(alloc: Global, words: &[String], shelf: &mut F) -> Result<Script, Halt>
-    ensures found { IfOk result (FindsScript (F.holds shelf.old) (map string_bytes words.now)) }
-    ensures placed { IfOk result AreLoaded }
+/// The script that the words name, and the options that they say.
+fn find_script<F: Shelf>(
+    alloc: Global,
+    words: &[String],
+    shelf: &mut F,
+) -> Result<(Script, Options), Halt>
+    ensures found { IfOk result (λ x. FindsJob (F.holds shelf.old) (map string_bytes words.now) x.0 x.1) }
+    ensures placed { IfOk result (λ x. ArePlaced x.0) }
+    ensures tries { IfOk result (λ x. IsTries x.1.tries) }
     ensures halts { IfErr result (ScriptHalts (F.holds shelf.old) (F.faults shelf.old) (F.faults shelf.new) (map string_bytes words.now)) }
     ensures same { F.holds shelf.new ≡ F.holds shelf.old }
     ensures never_falls { F.faults shelf.old ≤ F.faults shelf.new }
 {
-    let Some(name) = script_word(words) else {
+    let Some((name, options)) = read_words(words) else {
         return Err(Halt::Stop(Stop::Usage));
     };
     let bytes = fetch_file(alloc, shelf, name)?;
-    match read_script(alloc, bytes.as_slice()) {
-        Ok(script) => Ok(script),
+    match carried_script(alloc, bytes.as_slice()) {
+        Ok(script) => Ok((script, options)),
         Err(ScriptFault::BadScript) => Err(Halt::Stop(Stop::BadScript)),
         Err(ScriptFault::NoMemory) => Err(Halt::NoMemory),
     }
 }
 
-/// The frame of a file, if it is one.
-fn frame_of(alloc: Global, load: &Load, bytes: &[u8]) -> Result<Option<Frame>, Halt>
-    ensures frame { IfOk result (λ frame. frame ≡ frame_in_file load.now bytes.now) }
-    ensures storable { IfOk result (λ frame. IfSome frame IsStorable) }
-    ensures memory { IfErr result (λ halt. halt ≡ Halt.NoMemory) }
+/// The script of some bytes, if the library carries out each of its commands.
+fn carried_script(alloc: Global, bytes: &[u8]) -> Result<Script, ScriptFault>
+    ensures script { GivesScript (λ script. script) result (script_in bytes.now) }
+    ensures placed { IfOk result ArePlaced }
 {
-    let raw = match read_frame(alloc, load.types.items(), bytes) {
-        Ok(raw) => raw,
-        Err(CsvFault::BadCsv) => return Ok(None),
-        Err(CsvFault::NoMemory) => return Err(Halt::NoMemory),
-    };
-    match Frame::make(alloc, &raw) {
-        Ok(frame) => Ok(Some(frame)),
-        Err(Refusal::NoMemory) => Err(Halt::NoMemory),
-        Err(_) => Ok(None),
+    let script = read_script(alloc, bytes)?;
+    if all_carried_out(script.first.items()) {
+        Ok(script)
+    } else {
+        Err(ScriptFault::BadScript)
     }
 }
 
-/// The frame of a load.
-fn load_frame<F: Shelf>(alloc: Global, shelf: &mut F, load: &Load) -> Result<Frame, Halt>
-    ensures loaded { IfOk result (GivesFrame (F.holds shelf.old) load.now) }
-    ensures storable { IfOk result IsStorable }
+/// Whether the library carries out each of these commands.
+fn all_carried_out(commands: &[Command]) -> bool
+    ensures { result ≡ list_all is_carried_out commands.now }
+{
+    commands.iter().all(|command| is_carried_out(command))
+}
+
+/// The raw frame of a load.
+fn load_frame<F: Shelf>(alloc: Global, shelf: &mut F, load: &Load) -> Result<RawFrame, Halt>
+    ensures loaded { IfOk result (λ raw. GivesTable (F.holds shelf.old) load.now (table_of raw)) }
     ensures halts { IfErr result (LoadHalts (F.holds shelf.old) (F.faults shelf.old) (F.faults shelf.new) load.now) }
     ensures same { F.holds shelf.new ≡ F.holds shelf.old }
     ensures never_falls { F.faults shelf.old ≤ F.faults shelf.new }
 {
     let bytes = fetch_file(alloc, shelf, load.file.text())?;
-    match frame_of(alloc, load, bytes.as_slice())? {
-        Some(frame) => Ok(frame),
-        None => Err(Halt::Stop(Stop::BadFile(load.file.copy(alloc)?))),
+    match read_frame(alloc, load.types.items(), bytes.as_slice()) {
+        Ok(raw) => Ok(raw),
+        Err(CsvFault::BadCsv) => Err(Halt::Stop(Stop::BadFile(load.file.copy(alloc)?))),
+        Err(CsvFault::NoMemory) => Err(Halt::NoMemory),
     }
 }
 
-/// The frames of the loads, fetched and read one after another.
-fn load_frames<F: Shelf>(alloc: Global, shelf: &mut F, loads: &[Load]) -> Result<Frames, Halt>
-    ensures loaded { IfOk result (AllZip (GivesFrame (F.holds shelf.old)) loads.now) }
-    ensures storable { IfOk result AreStorable }
+/// The raw frames of the loads, fetched and read one after another.
+fn load_frames<F: Shelf>(alloc: Global, shelf: &mut F, loads: &[Load]) -> Result<RawFrames, Halt>
+    ensures loaded { IfOk result (λ frames. AllZip (GivesTable (F.holds shelf.old)) loads.now (map table_of frames)) }
     ensures halts { IfErr result (LoadsHalt (F.holds shelf.old) (F.faults shelf.old) (F.faults shelf.new) loads.now) }
     ensures same { F.holds shelf.new ≡ F.holds shelf.old }
     ensures never_falls { F.faults shelf.old ≤ F.faults shelf.new }
@@ -110,17 +121,18 @@ fn load_frames<F: Shelf>(alloc: Global, shelf: &mut F, loads: &[Load]) -> Result
     Ok(frames)
 }
 
-/// Fetches and reads the script that the words name, and then each loaded file in order.
+/// Reads the words, fetches and reads the script that they name, and then each loaded file in order.
 pub fn prepare<F: Shelf>(alloc: Global, words: &[String], shelf: &mut F) -> Result<Plan, Halt>
     ensures plan { PlanIs (F.holds shelf.old) (F.faults shelf.old) (F.faults shelf.new) (map string_bytes words.now) result }
-    ensures storable { IfOk result (λ plan. AreStorable plan.frames) }
+    ensures tries { IfOk result (λ plan. IsTries plan.options.tries) }
     ensures placed { IfOk result (λ plan. AreNamed (length plan.frames) plan.commands) }
     ensures same { F.holds shelf.new ≡ F.holds shelf.old }
     ensures never_falls { F.faults shelf.old ≤ F.faults shelf.new }
 {
-    let script = find_script(alloc, words, shelf)?;
+    let (script, options) = find_script(alloc, words, shelf)?;
     match load_frames(alloc, shelf, script.loads.items()) {
         Ok(frames) => Ok(Plan {
+            options,
             commands: script.first,
             frames,
         }),

@@ -1,36 +1,35 @@
 //! What is put to the output: each line by a put of its own.
 
 ghost use Rattle.std.specs.Prelude.{◌≡◌, ◌<◌, ◌++◌, ℕ, List, Some, codes, length, map, slice_get, IfOk, OnOk};
-ghost use Rattle.std.specs.List.{AllZip, concat};
+ghost use Rattle.std.specs.List.{concat};
 ghost use Rattle.frame_core.specs.Frames.{Row};
-ghost use Rattle.arctic_cli.specs.FrameText.{record_text, row_fields, frame_lines};
-ghost use Rattle.arctic_cli.specs.Replies.{Reply as Told, Whole};
-ghost use Rattle.arctic_cli.specs.Transcript.{reply_lines, part_lines, transcript};
+ghost use Rattle.arctic_cli.specs.FrameText.{ended, record_text, row_fields, frame_lines};
+ghost use Rattle.arctic_cli.specs.Transcript.{version_line, symbol_line, lines_after, reply_lines, part_lines, transcript};
 ghost use Rattle.arctic_cli.specs.Program.{stop_text, stop_line};
-ghost use Rattle.arctic_cli.specs.Endings.{Printed};
-ghost use Rattle.arctic_cli.specs.Performing.{Shows};
-ghost use Rattle.arctic_cli.specs.Views.{AreColumnsOf};
+ghost use Rattle.arctic_cli.specs.Endings.{Prints};
 
-use crate::frame_lines::{columns_of, header_line, push_row};
+use crate::frame_lines::{header_line, push_row};
 use crate::line::{push_end, push_text};
-use crate::reply::{Outcome, Reply};
-use crate::reply_line::{committed_line, end_line, refused_line, whole_line};
+use crate::outcome_text::{symbol_line, version_line};
+use crate::reply_line::{end_line, reply_line};
 use crate::stop::Stop;
 use base_types::NoMemory;
+use frame_core::Frame;
+use key_kind::SnapName;
 use program_edge::{Sink, SinkErr};
-use segment_bytes::{ColumnView, SegView, view};
+use reply_model::{Outcome, Reply, SymbolRow, VersionRow};
 use std::alloc::Global;
 
 /// Puts one line.
 fn put_line<S: Sink>(out: &mut S, line: &[u8]) -> Result<(), SinkErr>
-    ensures { Printed (S.written out.old) (S.written out.new) (S.faults out.old) (S.faults out.new) line.now result }
+    ensures { Prints S.written S.faults out.old out.new line.now result }
 {
     out.put(line)
 }
 
 /// Puts a line that was made, where there was memory for it.
 fn put_made<S: Sink>(out: &mut S, line: Result<Vec<u8>, NoMemory>) -> Result<(), SinkErr>
-    ensures { (text : List ℕ) → IfOk line (λ made. made.items ≡ text) → Printed (S.written out.old) (S.written out.new) (S.faults out.old) (S.faults out.new) text result }
+    ensures { (text : List ℕ) → IfOk line (λ made. made.items ≡ text) → Prints S.written S.faults out.old out.new text result }
 {
     match line {
         Ok(line) => out.put(line.as_slice()),
@@ -38,95 +37,114 @@ fn put_made<S: Sink>(out: &mut S, line: Result<Vec<u8>, NoMemory>) -> Result<(),
     }
 }
 
-/// Puts a row. The line is used again for each.
-fn put_row<S: Sink>(
-    out: &mut S,
-    line: &mut Vec<u8>,
-    view: &SegView<'_>,
-    columns: &[ColumnView<'_>],
-    row: u64,
-) -> Result<(), SinkErr>
-    requires columns { AreColumnsOf view.now columns.now }
-    requires row { row < length view.now.rows }
-    ensures { (r : Row) → slice_get view.now.rows row ≡ Some r → Printed (S.written out.old) (S.written out.new) (S.faults out.old) (S.faults out.new) (record_text (row_fields view.now.schema.timed r)) result }
+/// Puts a row, counted from 0. The line is used again for each.
+fn put_row<S: Sink>(out: &mut S, line: &mut Vec<u8>, frame: &Frame, row: u64) -> Result<(), SinkErr>
+    requires { row < length frame.now.rows }
+    ensures { (r : Row) → slice_get frame.now.rows row ≡ Some r → Prints S.written S.faults out.old out.new (record_text (row_fields frame.now.schema.timed r)) result }
 {
     line.clear();
-    match push_row(line, view, columns, row) {
+    match push_row(line, frame, row) {
         Ok(()) => put_line(out, line.as_slice()),
         Err(NoMemory) => Err(SinkErr::NoMemory),
     }
 }
 
 /// Puts the rows of a frame.
-fn print_rows<S: Sink>(
-    alloc: Global,
-    out: &mut S,
-    view: &SegView<'_>,
-    columns: &[ColumnView<'_>],
-) -> Result<(), SinkErr>
-    requires { AreColumnsOf view.now columns.now }
-    ensures { Printed (S.written out.old) (S.written out.new) (S.faults out.old) (S.faults out.new) (concat (map (λ (r : Row). record_text (row_fields view.now.schema.timed r)) view.now.rows)) result }
+fn print_rows<S: Sink>(alloc: Global, out: &mut S, frame: &Frame) -> Result<(), SinkErr>
+    ensures { Prints S.written S.faults out.old out.new (concat (map (λ (r : Row). record_text (row_fields frame.now.schema.timed r)) frame.now.rows)) result }
 {
     let mut line = Vec::new(alloc);
-    for row in 0..view.rows() {
-        put_row(out, &mut line, view, columns, row)?;
+    for row in 0..frame.rows() {
+        put_row(out, &mut line, frame, row)?;
     }
     Ok(())
 }
 
 /// Puts a frame: its header and its rows.
-fn print_frame<S: Sink>(alloc: Global, out: &mut S, view: &SegView<'_>) -> Result<(), SinkErr>
-    ensures { Printed (S.written out.old) (S.written out.new) (S.faults out.old) (S.faults out.new) (concat (frame_lines view.now)) result }
+fn print_frame<S: Sink>(alloc: Global, out: &mut S, frame: &Frame) -> Result<(), SinkErr>
+    ensures { Prints S.written S.faults out.old out.new (concat (frame_lines frame.now)) result }
 {
-    put_made(out, header_line(alloc, view))?;
-    match columns_of(alloc, view) {
-        Ok(columns) => print_rows(alloc, out, view, &columns),
-        Err(NoMemory) => Err(SinkErr::NoMemory),
+    put_made(out, header_line(alloc, frame))?;
+    print_rows(alloc, out, frame)
+}
+
+/// Puts the lines of versions.
+fn print_versions<S: Sink>(alloc: Global, out: &mut S, rows: &[VersionRow]) -> Result<(), SinkErr>
+    ensures { Prints S.written S.faults out.old out.new (concat (map version_line rows.now)) result }
+{
+    for row in rows {
+        put_made(out, version_line(alloc, row))?;
+    }
+    Ok(())
+}
+
+/// Puts the lines of symbols.
+fn print_symbols<S: Sink>(alloc: Global, out: &mut S, rows: &[SymbolRow]) -> Result<(), SinkErr>
+    ensures { Prints S.written S.faults out.old out.new (concat (map symbol_line rows.now)) result }
+{
+    for row in rows {
+        put_made(out, symbol_line(alloc, row))?;
+    }
+    Ok(())
+}
+
+/// The line of a name.
+fn name_line(alloc: Global, name: &str) -> Result<Vec<u8>, NoMemory>
+    ensures { IfOk result (λ line. line.items ≡ ended name.now) }
+{
+    let mut line = Vec::from_slice(alloc, name.as_bytes())?;
+    push_end(&mut line)?;
+    Ok(line)
+}
+
+/// Puts the lines of names.
+fn print_names<S: Sink>(alloc: Global, out: &mut S, names: &[SnapName]) -> Result<(), SinkErr>
+    ensures { Prints S.written S.faults out.old out.new (concat (map ended names.now)) result }
+{
+    for name in names {
+        put_made(out, name_line(alloc, name.name().text()))?;
+    }
+    Ok(())
+}
+
+/// Puts the lines that follow the line of a reply.
+fn print_after<S: Sink>(alloc: Global, out: &mut S, outcome: &Outcome) -> Result<(), SinkErr>
+    ensures { Prints S.written S.faults out.old out.new (concat (lines_after outcome.now)) result }
+{
+    match outcome {
+        Outcome::Whole { frame, .. } => print_frame(alloc, out, frame),
+        Outcome::Versions { rows } => print_versions(alloc, out, rows.items()),
+        Outcome::Symbols { rows } => print_symbols(alloc, out, rows.items()),
+        Outcome::Snapshots { names } => print_names(alloc, out, names.items()),
+        _ => Ok(()),
     }
 }
 
-/// Puts the reply of a read: its line, and the frame.
-fn print_whole<S: Sink>(
-    alloc: Global,
-    out: &mut S,
-    number: u64,
-    place: u64,
-    version: u64,
-    view: &SegView<'_>,
-) -> Result<(), SinkErr>
-    ensures { Printed (S.written out.old) (S.written out.new) (S.faults out.old) (S.faults out.new) (concat (reply_lines (codes "first") number (record { place = place; outcome = Whole version view.now }))) result }
-{
-    put_made(out, whole_line(alloc, number, place, version, view.rows()))?;
-    print_frame(alloc, out, view)
-}
-
-/// Puts a reply, the one of this number.
+/// Puts a reply, to the command of this number of whoever speaks.
 fn print_reply<S: Sink>(
     alloc: Global,
     out: &mut S,
+    who: &str,
     number: u64,
     reply: &Reply,
 ) -> Result<(), SinkErr>
-    ensures { (told : Told) → Shows reply.now told → Printed (S.written out.old) (S.written out.new) (S.faults out.old) (S.faults out.new) (concat (reply_lines (codes "first") number told)) result }
+    ensures { Prints S.written S.faults out.old out.new (concat (reply_lines who.now number reply.now)) result }
 {
-    match &reply.outcome {
-        Outcome::Committed { version } => {
-            put_made(out, committed_line(alloc, number, reply.place, *version))
-        }
-        Outcome::Whole { version, body } => match view(body.bytes()) {
-            Ok(view) => print_whole(alloc, out, number, reply.place, *version, &view),
-            Err(_) => Ok(()),
-        },
-        Outcome::Refused { why } => put_made(out, refused_line(alloc, number, reply.place, *why)),
-    }
+    put_made(out, reply_line(alloc, who, number, reply))?;
+    print_after(alloc, out, &reply.outcome)
 }
 
-/// Puts the replies, numbered from 1.
-fn print_replies<S: Sink>(alloc: Global, out: &mut S, replies: &[Reply]) -> Result<(), SinkErr>
-    ensures { (told : List Told) → AllZip Shows replies.now told → Printed (S.written out.old) (S.written out.new) (S.faults out.old) (S.faults out.new) (concat (part_lines (codes "first") 1 told)) result }
+/// Puts the replies to whoever speaks, numbered from 1.
+fn print_replies<S: Sink>(
+    alloc: Global,
+    out: &mut S,
+    who: &str,
+    replies: &[Reply],
+) -> Result<(), SinkErr>
+    ensures { Prints S.written S.faults out.old out.new (concat (part_lines who.now 1 replies.now)) result }
 {
     for (place, reply) in replies.iter().enumerate() {
-        print_reply(alloc, out, place as u64 + 1, reply)?;
+        print_reply(alloc, out, who, place as u64 + 1, reply)?;
     }
     Ok(())
 }
@@ -138,9 +156,9 @@ pub fn print_transcript<S: Sink>(
     replies: &[Reply],
     end: u64,
 ) -> Result<(), SinkErr>
-    ensures { (told : List Told) → AllZip Shows replies.now told → Printed (S.written out.old) (S.written out.new) (S.faults out.old) (S.faults out.new) (concat (transcript told end)) result }
+    ensures { Prints S.written S.faults out.old out.new (concat (transcript replies.now end)) result }
 {
-    print_replies(alloc, out, replies)?;
+    print_replies(alloc, out, "first", replies)?;
     put_made(out, end_line(alloc, end))
 }
 
@@ -182,7 +200,7 @@ fn make_stop_line(alloc: Global, stop: &Stop) -> Result<Vec<u8>, NoMemory>
 
 /// Puts the line of a stop.
 pub fn print_stop<S: Sink>(alloc: Global, out: &mut S, stop: &Stop) -> Result<(), SinkErr>
-    ensures { Printed (S.written out.old) (S.written out.new) (S.faults out.old) (S.faults out.new) (stop_line stop.now) result }
+    ensures { Prints S.written S.faults out.old out.new (stop_line stop.now) result }
 {
     put_made(out, make_stop_line(alloc, stop))
 }

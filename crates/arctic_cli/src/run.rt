@@ -1,50 +1,82 @@
-ghost use Rattle.std.specs.Prelude.{◌≡◌, ◌≤◌, ◌⊎◌, ℕ, List, Option, Some, IsOk, IsErrOf, length, map, string_bytes};
+ghost use Rattle.std.specs.Prelude.{◌≡◌, ◌≤◌, ◌⊎◌, ℤ, List, Option, IsOk, IsErrOf, length, map, string_bytes};
 ghost use Rattle.std.specs.List.{list_any};
 ghost use Rattle.base_types.specs.Faults.{Rose};
-ghost use Rattle.bucket_core.specs.History.{History};
 ghost use Rattle.frame_core.specs.Texts.{Text};
-ghost use Rattle.plain_store.specs.Puts.{AllBy};
-ghost use Rattle.arctic_cli.specs.declared.reply.Reply.{Reply as KeptReply};
-ghost use Rattle.arctic_cli.specs.Program.{stop_status, performed, stopped, setting_of, run_alone};
-ghost use Rattle.arctic_cli.specs.Endings.{RunEnds, Ends, start_of, AddsPuts, IsTranscript, StopsByUsage, StopsByScript, StopsByFetch, StopsByPut, WantsMemory, StopsByFile, IsRun};
-ghost use Rattle.arctic_cli.specs.Preparing.{AreStorable};
-ghost use Rattle.arctic_cli.specs.Performing.{refuses, kept_status, AreNamed};
+ghost use Rattle.program_edge.specs.Shelves.{Held};
+ghost use Rattle.program_edge.specs.Clocks.{IsReading};
+ghost use Rattle.reply_model.specs.declared.reply.Reply.{Reply as Told};
+ghost use Rattle.reply_model.specs.Windows.{is_refused};
+ghost use Rattle.arctic_cli.specs.CommandLine.{IsTries};
+ghost use Rattle.arctic_cli.specs.Program.{Shelf as Files, run_alone, wants_memory, replies_status, run_of, stop_status, stopped};
+ghost use Rattle.arctic_cli.specs.Endings.{RunEnds, JobEnds, Ends, start_of, IsTranscript, StopsByUsage, StopsByScript, StopsByFetch, StopsByPut, WantsMemory, StopsByFile, IsUnhindered, IsRun};
+ghost use Rattle.arctic_cli.specs.Performing.{AreNamed};
+ghost use Rattle.arctic_cli.specs.Preparing.{job_in};
 
 use crate::perform::perform;
 use crate::prepare::{Plan, prepare};
 use crate::print::{print_stop, print_transcript};
-use crate::reply::{Outcome, Reply};
 use crate::stop::{Halt, Stop};
+use crate::words::Options;
+use base_types::NoMemory;
 use bucket_core::{Bucket, PlainBucket};
-use plain_store::PutLaw;
+use frame_core::Refusal;
+use library_api::{Library, Settings};
 use program_edge::{Clock, Shelf, Sink, SinkErr};
+use reply_model::{Outcome, Reply, runs_alone_are_sole};
 use std::alloc::Global;
 use std::sync::Wait;
+use version_chain::StoreLaw;
+
+/// The clauses of a read may use so many threads.
+const WORKERS: u32 = 4;
 
 /// What a run leaves: the status, and the store.
 #[derive(Drop)]
 pub struct Ran {
     pub status: u8,
-    pub bucket: PlainBucket<PutLaw>,
+    pub bucket: PlainBucket<StoreLaw>,
 }
 
-fn is_refusal(reply: &Reply) -> bool
-    ensures { result ≡ refuses reply.now.outcome }
+fn is_refusal(outcome: &Outcome) -> bool
+    ensures { result ≡ is_refused outcome.now }
 {
-    matches!(&reply.outcome, Outcome::Refused { .. })
+    matches!(outcome, Outcome::Refused { .. })
+}
+
+fn wants_memory(outcome: &Outcome) -> bool
+    ensures { result ≡ wants_memory outcome.now }
+{
+    matches!(
+        outcome,
+        Outcome::Refused {
+            why: Refusal::NoMemory
+        }
+    )
 }
 
 fn some_refused(replies: &[Reply]) -> bool
-    ensures { result ≡ list_any (λ (r : KeptReply). refuses r.outcome) replies.now }
+    ensures { result ≡ list_any (λ (r : Told). is_refused r.outcome) replies.now }
 {
-    replies.iter().any(|reply| is_refusal(reply))
+    replies.iter().any(|reply| is_refusal(&reply.outcome))
 }
 
-/// 1 where a reply is a refusal, and else 0.
-fn status_of(replies: &[Reply]) -> u8
-    ensures { result ≡ kept_status replies.now }
+fn some_want_memory(replies: &[Reply]) -> bool
+    ensures { result ≡ list_any (λ (r : Told). wants_memory r.outcome) replies.now }
 {
-    if some_refused(replies) { 1 } else { 0 }
+    replies.iter().any(|reply| wants_memory(&reply.outcome))
+}
+
+/// 6 where a reply is want of memory, else 1 where one is a refusal, else 0.
+fn status_of(replies: &[Reply]) -> u8
+    ensures { result ≡ replies_status replies.now }
+{
+    if some_want_memory(replies) {
+        6
+    } else if some_refused(replies) {
+        1
+    } else {
+        0
+    }
 }
 
 /// The status of a run, all of whose lines were printed or not.
@@ -60,34 +92,12 @@ fn status_after(printed: Result<(), SinkErr>, status: u8) -> u8
     }
 }
 
-/// Performs the commands of a plan, and prints the replies.
-fn run_plan<R: Wait, S: Sink>(
-    rt: &R,
-    alloc: Global,
-    out: &mut S,
-    bucket: &mut PlainBucket<PutLaw>,
-    plan: &Plan,
-) -> u8
-    requires own { AllBy (⟦<PlainBucket<PutLaw> as Bucket<PutLaw>>⟧.number bucket.old) (⟦<PlainBucket<PutLaw> as Bucket<PutLaw>>⟧.seen bucket.old) }
-    requires storable { AreStorable plan.now.frames }
-    requires named { AreNamed (length plan.now.frames) plan.now.commands }
-    ensures client { ⟦<PlainBucket<PutLaw> as Bucket<PutLaw>>⟧.number bucket.new ≡ ⟦<PlainBucket<PutLaw> as Bucket<PutLaw>>⟧.number bucket.old }
-    ensures limit { ⟦<PlainBucket<PutLaw> as Bucket<PutLaw>>⟧.limit bucket.new ≡ ⟦<PlainBucket<PutLaw> as Bucket<PutLaw>>⟧.limit bucket.old }
-    ensures adds { AddsPuts (⟦<PlainBucket<PutLaw> as Bucket<PutLaw>>⟧.number bucket.old) (⟦<PlainBucket<PutLaw> as Bucket<PutLaw>>⟧.seen bucket.old) (⟦<PlainBucket<PutLaw> as Bucket<PutLaw>>⟧.seen bucket.new) }
-    ensures ends { RunEnds (performed (setting_of (⟦<PlainBucket<PutLaw> as Bucket<PutLaw>>⟧.limit bucket.old) (⟦<PlainBucket<PutLaw> as Bucket<PutLaw>>⟧.number bucket.old) plan.now.frames) (⟦<PlainBucket<PutLaw> as Bucket<PutLaw>>⟧.seen bucket.old) plan.now.commands) (⟦<PlainBucket<PutLaw> as Bucket<PutLaw>>⟧.number bucket.old) (S.faults out.old) (S.faults out.new) (S.written out.old) (S.written out.new) result (⟦<PlainBucket<PutLaw> as Bucket<PutLaw>>⟧.seen bucket.old) (⟦<PlainBucket<PutLaw> as Bucket<PutLaw>>⟧.seen bucket.new) }
+/// Prints the transcript of the replies, where the history ends at this place.
+fn run_replies<S: Sink>(alloc: Global, out: &mut S, replies: &[Reply], end: u64) -> u8
+    ensures { RunEnds (run_of replies.now end) (S.faults out.old) (S.faults out.new) (S.written out.old) (S.written out.new) result }
 {
-    let Ok(replies) = perform(
-        rt,
-        alloc,
-        bucket,
-        plan.frames.items(),
-        plan.commands.items(),
-    ) else {
-        return 6;
-    };
-    let status = status_of(replies.items());
-    let printed = print_transcript(alloc, out, replies.items(), bucket.place());
-    status_after(printed, status)
+    let printed = print_transcript(alloc, out, replies, end);
+    status_after(printed, status_of(replies))
 }
 
 fn status_of_stop(stop: &Stop) -> u8
@@ -103,39 +113,79 @@ fn status_of_stop(stop: &Stop) -> u8
 
 /// Prints why a run stops.
 fn run_stop<S: Sink>(alloc: Global, out: &mut S, stop: &Stop) -> u8
-    ensures { (client : ℕ) (history : History) → RunEnds (stopped history stop.now) client (S.faults out.old) (S.faults out.new) (S.written out.old) (S.written out.new) result history history }
+    ensures { RunEnds (stopped stop.now) (S.faults out.old) (S.faults out.new) (S.written out.old) (S.written out.new) result }
 {
     let printed = print_stop(alloc, out, stop);
     status_after(printed, status_of_stop(stop))
 }
 
-/// Prepares a run, and performs it or prints why it stops.
+/// Carries out the commands of a plan at a moment, and prints the replies.
+fn run_plan<R: Wait, S: Sink>(
+    rt: &R,
+    alloc: Global,
+    out: &mut S,
+    bucket: PlainBucket<StoreLaw>,
+    moment: i64,
+    plan: &Plan,
+) -> Ran
+    requires tries { IsTries plan.now.options.tries }
+    requires named { AreNamed (length plan.now.frames) plan.now.commands }
+    ensures client { ⟦<PlainBucket<StoreLaw> as Bucket<StoreLaw>>⟧.number result.bucket ≡ ⟦<PlainBucket<StoreLaw> as Bucket<StoreLaw>>⟧.number bucket }
+    ensures limit { ⟦<PlainBucket<StoreLaw> as Bucket<StoreLaw>>⟧.limit result.bucket ≡ ⟦<PlainBucket<StoreLaw> as Bucket<StoreLaw>>⟧.limit bucket }
+    ensures ends { (words : List Text) (holds : Held) (reading : Option ℤ) → IsReading reading moment → JobEnds (start_of words holds reading (⟦<PlainBucket<StoreLaw> as Bucket<StoreLaw>>⟧.limit bucket) (⟦<PlainBucket<StoreLaw> as Bucket<StoreLaw>>⟧.number bucket) (⟦<PlainBucket<StoreLaw> as Bucket<StoreLaw>>⟧.seen bucket)) (job_in plan.now) (S.faults out.old) (S.faults out.new) (S.written out.old) (S.written out.new) result.status (⟦<PlainBucket<StoreLaw> as Bucket<StoreLaw>>⟧.seen result.bucket) }
+{
+    let Options { cutting, tries } = plan.options;
+    let settings = Settings {
+        cutting,
+        tries,
+        workers: WORKERS,
+        moment,
+    };
+    let mut library = Library::make(bucket, settings);
+    let performed = perform(
+        rt,
+        alloc,
+        &mut library,
+        plan.commands.items(),
+        plan.frames.items(),
+    );
+    let bucket = library.into_bucket();
+    let status = match performed {
+        Ok(replies) => run_replies(alloc, out, &replies, bucket.place()),
+        Err(NoMemory) => 6,
+    };
+    Ran { status, bucket }
+}
+
+/// Prepares a run, and carries it out or prints why it stops.
 fn run_words<R: Wait, F: Shelf, S: Sink>(
     rt: &R,
     alloc: Global,
     words: &[String],
     shelf: &mut F,
     out: &mut S,
-    bucket: &mut PlainBucket<PutLaw>,
-) -> u8
-    requires own { AllBy (⟦<PlainBucket<PutLaw> as Bucket<PutLaw>>⟧.number bucket.old) (⟦<PlainBucket<PutLaw> as Bucket<PutLaw>>⟧.seen bucket.old) }
-    ensures client { ⟦<PlainBucket<PutLaw> as Bucket<PutLaw>>⟧.number bucket.new ≡ ⟦<PlainBucket<PutLaw> as Bucket<PutLaw>>⟧.number bucket.old }
-    ensures limit { ⟦<PlainBucket<PutLaw> as Bucket<PutLaw>>⟧.limit bucket.new ≡ ⟦<PlainBucket<PutLaw> as Bucket<PutLaw>>⟧.limit bucket.old }
-    ensures adds { AddsPuts (⟦<PlainBucket<PutLaw> as Bucket<PutLaw>>⟧.number bucket.old) (⟦<PlainBucket<PutLaw> as Bucket<PutLaw>>⟧.seen bucket.old) (⟦<PlainBucket<PutLaw> as Bucket<PutLaw>>⟧.seen bucket.new) }
-    ensures ends { Ends (start_of (map string_bytes words.now) (F.holds shelf.old) (⟦<PlainBucket<PutLaw> as Bucket<PutLaw>>⟧.limit bucket.old) (⟦<PlainBucket<PutLaw> as Bucket<PutLaw>>⟧.number bucket.old) (⟦<PlainBucket<PutLaw> as Bucket<PutLaw>>⟧.seen bucket.old)) (F.faults shelf.old) (F.faults shelf.new) (S.faults out.old) (S.faults out.new) (S.written out.old) (S.written out.new) result (⟦<PlainBucket<PutLaw> as Bucket<PutLaw>>⟧.seen bucket.new) }
+    moment: i64,
+    bucket: PlainBucket<StoreLaw>,
+) -> Ran
+    ensures client { ⟦<PlainBucket<StoreLaw> as Bucket<StoreLaw>>⟧.number result.bucket ≡ ⟦<PlainBucket<StoreLaw> as Bucket<StoreLaw>>⟧.number bucket }
+    ensures limit { ⟦<PlainBucket<StoreLaw> as Bucket<StoreLaw>>⟧.limit result.bucket ≡ ⟦<PlainBucket<StoreLaw> as Bucket<StoreLaw>>⟧.limit bucket }
+    ensures ends { (reading : Option ℤ) → IsReading reading moment → Ends (start_of (map string_bytes words.now) (F.holds shelf.old) reading (⟦<PlainBucket<StoreLaw> as Bucket<StoreLaw>>⟧.limit bucket) (⟦<PlainBucket<StoreLaw> as Bucket<StoreLaw>>⟧.number bucket) (⟦<PlainBucket<StoreLaw> as Bucket<StoreLaw>>⟧.seen bucket)) (F.faults shelf.old) (F.faults shelf.new) (S.faults out.old) (S.faults out.new) (S.written out.old) (S.written out.new) result.status (⟦<PlainBucket<StoreLaw> as Bucket<StoreLaw>>⟧.seen result.bucket) }
 {
     match prepare(alloc, words, shelf) {
-        Ok(plan) => run_plan(rt, alloc, out, bucket, &plan),
-        Err(Halt::Stop(stop)) => run_stop(alloc, out, &stop),
-        Err(Halt::NoMemory) => 6,
+        Ok(plan) => run_plan(rt, alloc, out, bucket, moment, &plan),
+        Err(Halt::Stop(stop)) => Ran {
+            status: run_stop(alloc, out, &stop),
+            bucket,
+        },
+        Err(Halt::NoMemory) => Ran { status: 6, bucket },
     }
 }
 
-/// Runs the script that the words name: `run SCRIPT`.
+/// Runs the script that the words name: `run SCRIPT`, with options.
 ///
-/// It calls the clock once, fetches the script and reads it, fetches and reads each loaded file in order, performs the
-/// commands, and then prints the replies, each line by a put of its own. After a refused put nothing more is put. The store
-/// comes back with every status. The history before may have events of this client alone.
+/// It calls the clock once, fetches the script and reads it, fetches and reads each loaded file in order, carries out the commands
+/// by a library over the store, and then prints the replies, each line by a put of its own. After a refused put nothing more is
+/// put. The store comes back with every status.
 pub fn run<R: Wait, F: Shelf, S: Sink, C: Clock>(
     rt: &R,
     alloc: Global,
@@ -143,32 +193,29 @@ pub fn run<R: Wait, F: Shelf, S: Sink, C: Clock>(
     shelf: &mut F,
     out: &mut S,
     clock: &mut C,
-    bucket: PlainBucket<PutLaw>,
+    bucket: PlainBucket<StoreLaw>,
 ) -> Ran
-    requires own { AllBy (⟦<PlainBucket<PutLaw> as Bucket<PutLaw>>⟧.number bucket) (⟦<PlainBucket<PutLaw> as Bucket<PutLaw>>⟧.seen bucket) }
+    // 0 and 1: each reply is legal in the one history for a window of its own, each added event lies in one of these windows, and
+    // the whole transcript of the replies was written.
+    ensures transcript { result.status ≤ 1 → IsTranscript (start_of (map string_bytes words.now) (F.holds shelf.old) (C.reading clock.old) (⟦<PlainBucket<StoreLaw> as Bucket<StoreLaw>>⟧.limit bucket) (⟦<PlainBucket<StoreLaw> as Bucket<StoreLaw>>⟧.number bucket) (⟦<PlainBucket<StoreLaw> as Bucket<StoreLaw>>⟧.seen bucket)) (S.written out.old) (S.written out.new) result.status (⟦<PlainBucket<StoreLaw> as Bucket<StoreLaw>>⟧.seen result.bucket) }
 
-    // 0 and 1: the replies and the history are those of one thread over whole frames, and the whole transcript was written.
-    ensures transcript { result.status ≤ 1 → IsTranscript (start_of (map string_bytes words.now) (F.holds shelf.old) (⟦<PlainBucket<PutLaw> as Bucket<PutLaw>>⟧.limit bucket) (⟦<PlainBucket<PutLaw> as Bucket<PutLaw>>⟧.number bucket) (⟦<PlainBucket<PutLaw> as Bucket<PutLaw>>⟧.seen bucket)) (S.written out.old) (S.written out.new) result.status (⟦<PlainBucket<PutLaw> as Bucket<PutLaw>>⟧.seen result.bucket) }
-
-    ensures usage { result.status ≡ 2 → StopsByUsage (start_of (map string_bytes words.now) (F.holds shelf.old) (⟦<PlainBucket<PutLaw> as Bucket<PutLaw>>⟧.limit bucket) (⟦<PlainBucket<PutLaw> as Bucket<PutLaw>>⟧.number bucket) (⟦<PlainBucket<PutLaw> as Bucket<PutLaw>>⟧.seen bucket)) (S.written out.old) (S.written out.new) (⟦<PlainBucket<PutLaw> as Bucket<PutLaw>>⟧.seen result.bucket) }
-    ensures bad_script { result.status ≡ 3 → StopsByScript (start_of (map string_bytes words.now) (F.holds shelf.old) (⟦<PlainBucket<PutLaw> as Bucket<PutLaw>>⟧.limit bucket) (⟦<PlainBucket<PutLaw> as Bucket<PutLaw>>⟧.number bucket) (⟦<PlainBucket<PutLaw> as Bucket<PutLaw>>⟧.seen bucket)) (S.written out.old) (S.written out.new) (⟦<PlainBucket<PutLaw> as Bucket<PutLaw>>⟧.seen result.bucket) }
-    ensures unreadable { result.status ≡ 4 → StopsByFetch (start_of (map string_bytes words.now) (F.holds shelf.old) (⟦<PlainBucket<PutLaw> as Bucket<PutLaw>>⟧.limit bucket) (⟦<PlainBucket<PutLaw> as Bucket<PutLaw>>⟧.number bucket) (⟦<PlainBucket<PutLaw> as Bucket<PutLaw>>⟧.seen bucket)) (F.faults shelf.old) (F.faults shelf.new) (S.written out.old) (S.written out.new) (⟦<PlainBucket<PutLaw> as Bucket<PutLaw>>⟧.seen result.bucket) }
-    ensures bad_file { result.status ≡ 7 → StopsByFile (start_of (map string_bytes words.now) (F.holds shelf.old) (⟦<PlainBucket<PutLaw> as Bucket<PutLaw>>⟧.limit bucket) (⟦<PlainBucket<PutLaw> as Bucket<PutLaw>>⟧.number bucket) (⟦<PlainBucket<PutLaw> as Bucket<PutLaw>>⟧.seen bucket)) (S.written out.old) (S.written out.new) (⟦<PlainBucket<PutLaw> as Bucket<PutLaw>>⟧.seen result.bucket) }
+    ensures usage { result.status ≡ 2 → StopsByUsage (start_of (map string_bytes words.now) (F.holds shelf.old) (C.reading clock.old) (⟦<PlainBucket<StoreLaw> as Bucket<StoreLaw>>⟧.limit bucket) (⟦<PlainBucket<StoreLaw> as Bucket<StoreLaw>>⟧.number bucket) (⟦<PlainBucket<StoreLaw> as Bucket<StoreLaw>>⟧.seen bucket)) (S.written out.old) (S.written out.new) (⟦<PlainBucket<StoreLaw> as Bucket<StoreLaw>>⟧.seen result.bucket) }
+    ensures bad_script { result.status ≡ 3 → StopsByScript (start_of (map string_bytes words.now) (F.holds shelf.old) (C.reading clock.old) (⟦<PlainBucket<StoreLaw> as Bucket<StoreLaw>>⟧.limit bucket) (⟦<PlainBucket<StoreLaw> as Bucket<StoreLaw>>⟧.number bucket) (⟦<PlainBucket<StoreLaw> as Bucket<StoreLaw>>⟧.seen bucket)) (S.written out.old) (S.written out.new) (⟦<PlainBucket<StoreLaw> as Bucket<StoreLaw>>⟧.seen result.bucket) }
+    ensures unreadable { result.status ≡ 4 → StopsByFetch (start_of (map string_bytes words.now) (F.holds shelf.old) (C.reading clock.old) (⟦<PlainBucket<StoreLaw> as Bucket<StoreLaw>>⟧.limit bucket) (⟦<PlainBucket<StoreLaw> as Bucket<StoreLaw>>⟧.number bucket) (⟦<PlainBucket<StoreLaw> as Bucket<StoreLaw>>⟧.seen bucket)) (F.faults shelf.old) (F.faults shelf.new) (S.written out.old) (S.written out.new) (⟦<PlainBucket<StoreLaw> as Bucket<StoreLaw>>⟧.seen result.bucket) }
+    ensures bad_file { result.status ≡ 7 → StopsByFile (start_of (map string_bytes words.now) (F.holds shelf.old) (C.reading clock.old) (⟦<PlainBucket<StoreLaw> as Bucket<StoreLaw>>⟧.limit bucket) (⟦<PlainBucket<StoreLaw> as Bucket<StoreLaw>>⟧.number bucket) (⟦<PlainBucket<StoreLaw> as Bucket<StoreLaw>>⟧.seen bucket)) (S.written out.old) (S.written out.new) (⟦<PlainBucket<StoreLaw> as Bucket<StoreLaw>>⟧.seen result.bucket) }
 
     // What was written is a front of what was due.
-    ensures refused_put { result.status ≡ 5 → Rose (S.faults out.old) (S.faults out.new) × StopsByPut (start_of (map string_bytes words.now) (F.holds shelf.old) (⟦<PlainBucket<PutLaw> as Bucket<PutLaw>>⟧.limit bucket) (⟦<PlainBucket<PutLaw> as Bucket<PutLaw>>⟧.number bucket) (⟦<PlainBucket<PutLaw> as Bucket<PutLaw>>⟧.seen bucket)) (F.faults shelf.old) (F.faults shelf.new) (S.written out.old) (S.written out.new) (⟦<PlainBucket<PutLaw> as Bucket<PutLaw>>⟧.seen result.bucket) }
-    ensures memory { result.status ≡ 6 → WantsMemory (start_of (map string_bytes words.now) (F.holds shelf.old) (⟦<PlainBucket<PutLaw> as Bucket<PutLaw>>⟧.limit bucket) (⟦<PlainBucket<PutLaw> as Bucket<PutLaw>>⟧.number bucket) (⟦<PlainBucket<PutLaw> as Bucket<PutLaw>>⟧.seen bucket)) (F.faults shelf.old) (F.faults shelf.new) (S.written out.old) (S.written out.new) (⟦<PlainBucket<PutLaw> as Bucket<PutLaw>>⟧.seen result.bucket) }
+    ensures refused_put { result.status ≡ 5 → Rose (S.faults out.old) (S.faults out.new) × StopsByPut (start_of (map string_bytes words.now) (F.holds shelf.old) (C.reading clock.old) (⟦<PlainBucket<StoreLaw> as Bucket<StoreLaw>>⟧.limit bucket) (⟦<PlainBucket<StoreLaw> as Bucket<StoreLaw>>⟧.number bucket) (⟦<PlainBucket<StoreLaw> as Bucket<StoreLaw>>⟧.seen bucket)) (F.faults shelf.old) (F.faults shelf.new) (S.written out.old) (S.written out.new) (⟦<PlainBucket<StoreLaw> as Bucket<StoreLaw>>⟧.seen result.bucket) }
+    ensures memory { result.status ≡ 6 → WantsMemory (start_of (map string_bytes words.now) (F.holds shelf.old) (C.reading clock.old) (⟦<PlainBucket<StoreLaw> as Bucket<StoreLaw>>⟧.limit bucket) (⟦<PlainBucket<StoreLaw> as Bucket<StoreLaw>>⟧.number bucket) (⟦<PlainBucket<StoreLaw> as Bucket<StoreLaw>>⟧.seen bucket)) (F.faults shelf.old) (F.faults shelf.new) (S.written out.old) (S.written out.new) (⟦<PlainBucket<StoreLaw> as Bucket<StoreLaw>>⟧.seen result.bucket) }
 
     ensures statuses { result.status ≤ 7 }
-    ensures history { AddsPuts (⟦<PlainBucket<PutLaw> as Bucket<PutLaw>>⟧.number bucket) (⟦<PlainBucket<PutLaw> as Bucket<PutLaw>>⟧.seen bucket) (⟦<PlainBucket<PutLaw> as Bucket<PutLaw>>⟧.seen result.bucket) }
-    ensures client { ⟦<PlainBucket<PutLaw> as Bucket<PutLaw>>⟧.number result.bucket ≡ ⟦<PlainBucket<PutLaw> as Bucket<PutLaw>>⟧.number bucket }
-    ensures limit { ⟦<PlainBucket<PutLaw> as Bucket<PutLaw>>⟧.limit result.bucket ≡ ⟦<PlainBucket<PutLaw> as Bucket<PutLaw>>⟧.limit bucket }
+    ensures client { ⟦<PlainBucket<StoreLaw> as Bucket<StoreLaw>>⟧.number result.bucket ≡ ⟦<PlainBucket<StoreLaw> as Bucket<StoreLaw>>⟧.number bucket }
+    ensures limit { ⟦<PlainBucket<StoreLaw> as Bucket<StoreLaw>>⟧.limit result.bucket ≡ ⟦<PlainBucket<StoreLaw> as Bucket<StoreLaw>>⟧.limit bucket }
 
-    // Where shelf and sink tell and neither fails, there is no other answer than this run, or want of memory.
-    ensures complete { (held : Text → Option Text) (told : Text) → F.holds shelf.old ≡ Some held → S.written out.old ≡ Some told → (Rose (F.faults shelf.old) (F.faults shelf.new) → ⊥) → (Rose (S.faults out.old) (S.faults out.new) → ⊥) → (result.status ≡ 6) ⊎ IsRun (run_alone (⟦<PlainBucket<PutLaw> as Bucket<PutLaw>>⟧.limit bucket) (⟦<PlainBucket<PutLaw> as Bucket<PutLaw>>⟧.number bucket) (⟦<PlainBucket<PutLaw> as Bucket<PutLaw>>⟧.seen bucket) held (map string_bytes words.now)) told (S.written out.new) result.status (⟦<PlainBucket<PutLaw> as Bucket<PutLaw>>⟧.seen result.bucket) }
+    // Where nothing hinders one client alone, there is no other answer than this run, or want of memory.
+    ensures complete { (held : Files) (told : Text) (moment : ℤ) → IsUnhindered (start_of (map string_bytes words.now) (F.holds shelf.old) (C.reading clock.old) (⟦<PlainBucket<StoreLaw> as Bucket<StoreLaw>>⟧.limit bucket) (⟦<PlainBucket<StoreLaw> as Bucket<StoreLaw>>⟧.number bucket) (⟦<PlainBucket<StoreLaw> as Bucket<StoreLaw>>⟧.seen bucket)) (F.faults shelf.old) (F.faults shelf.new) (S.faults out.old) (S.faults out.new) held told moment (S.written out.old) (⟦<PlainBucket<StoreLaw> as Bucket<StoreLaw>>⟧.seen result.bucket) → (result.status ≡ 6) ⊎ IsRun (run_alone moment held (map string_bytes words.now)) told (S.written out.new) result.status }
 {
-    let _moment = clock.now();
-    let mut bucket = bucket;
-    let status = run_words(rt, alloc, words, shelf, out, &mut bucket);
-    Ran { status, bucket }
+    let moment = clock.now();
+    runs_alone_are_sole();
+    run_words(rt, alloc, words, shelf, out, moment, bucket)
 }

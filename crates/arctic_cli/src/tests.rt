@@ -7,7 +7,7 @@ use std::test::Fail;
 
 const TABLE: &str = "time,price,size\n1,100,5\n2,101,7\n2,102,1\n4,99,3\n9,105,2\n";
 
-const SCRIPT: &str = "load t t.csv int,int\nfirst\nwrite S t\nread S\n";
+const SCRIPT: &str = "load t t.csv int,int\nfirst\nwrite S t at=50\nread S\n";
 
 fn words_of(alloc: Global, words: &[&str]) -> Result<Vec<String>, Fail> {
     let mut made = Vec::new(alloc);
@@ -17,26 +17,25 @@ fn words_of(alloc: Global, words: &[&str]) -> Result<Vec<String>, Fail> {
     Ok(made)
 }
 
-/// A shelf of the script `day.arc` and the file `t.csv`.
+/// A shelf of the script `day.arc`, of the file `t.csv` and of one file more.
 fn shelf_of(
     alloc: Global,
     script: &str,
     table: &str,
+    more: (&str, &str),
     fails: Vec<u64>,
 ) -> Result<MemoryShelf, Fail> {
     let mut files = Vec::new(alloc);
-    files.push((
-        String::from_str(alloc, "day.arc")?,
-        Vec::from_slice(alloc, script.as_bytes())?,
-    ))?;
-    files.push((
-        String::from_str(alloc, "t.csv")?,
-        Vec::from_slice(alloc, table.as_bytes())?,
-    ))?;
+    for (name, text) in [("day.arc", script), ("t.csv", table), more] {
+        files.push((
+            String::from_str(alloc, name)?,
+            Vec::from_slice(alloc, text.as_bytes())?,
+        ))?;
+    }
     Ok(MemoryShelf::make(files, fails))
 }
 
-/// The status of a run, and what it printed.
+/// The status of a run at the moment 7, and what it printed.
 fn ran<R: Wait>(
     rt: &R,
     alloc: Global,
@@ -47,21 +46,74 @@ fn ran<R: Wait>(
     let words = words_of(alloc, words)?;
     let mut shelf = shelf;
     let mut out = MemorySink::make(fails);
-    let mut clock = FixedClock::make(0);
+    let mut clock = FixedClock::make(7);
     let bucket = PlainBucket::make(alloc, 1, 1 << 40)?;
     let ran = run(rt, alloc, &words, &mut shelf, &mut out, &mut clock, bucket);
     Ok((ran.status, out))
 }
 
+/// The status of `run day.arc` with options, and what it printed.
+fn ran_script<R: Wait>(
+    rt: &R,
+    alloc: Global,
+    words: &[&str],
+    script: &str,
+    table: &str,
+    more: (&str, &str),
+) -> Result<(u8, MemorySink), Fail> {
+    let shelf = shelf_of(alloc, script, table, more, Vec::new(alloc))?;
+    ran(rt, alloc, words, shelf, Vec::new(alloc))
+}
+
 #[test]
 fn the_worked_row_prints_its_transcript(rt: HostRuntime) -> Result<(), Fail> {
     let alloc = rt.alloc();
-    let script = "load t t.csv int,int\nfirst\nwrite S t\nread S\nread X\n";
-    let shelf = shelf_of(alloc, script, TABLE, Vec::new(alloc))?;
-    let (status, out) = ran(&rt, alloc, &["run", "day.arc"], shelf, Vec::new(alloc))?;
+    let (status, out) = ran_script(&rt, alloc, &["run", "day.arc"], SCRIPT, TABLE, ("e", ""))?;
+    assert_eq!(rt; status, 0);
+    let wanted =
+        "first.1 @4 ok v0\nfirst.2 @4 ok v0 rows=5\ntime,price,size\n1,100,5\n2,101,7\n2,102,1\n4,99,3\n9,105,2\nend @4\n";
+    assert_eq!(rt; out.bytes(), wanted.as_bytes());
+    Ok(())
+}
+
+#[test]
+fn a_read_takes_the_version_that_is_asked(rt: HostRuntime) -> Result<(), Fail> {
+    let alloc = rt.alloc();
+    let script =
+        "load t t.csv int\nfirst\nwrite S t at=50\nwrite S t at=60\nread S as_of=-1\nread S as_of=-2\nread S as_of=7\nread S as_of=time:49\nread S as_of=time:55\n";
+    let table = "time,price\n1,100\n";
+    let (status, out) = ran_script(&rt, alloc, &["run", "day.arc"], script, table, ("e", ""))?;
     assert_eq!(rt; status, 1);
     let wanted =
-        "first.1 @1 ok v0\nfirst.2 @1 ok v0 rows=5\ntime,price,size\n1,100,5\n2,101,7\n2,102,1\n4,99,3\n9,105,2\nfirst.3 @1 err 3 NoSuchSymbol\nend @1\n";
+        "first.1 @4 ok v0\nfirst.2 @8 ok v1\nfirst.3 @8 ok v1 rows=1\ntime,price\n1,100\nfirst.4 @8 ok v0 rows=1\ntime,price\n1,100\nfirst.5 @8 err 4 NoSuchVersion asked=7\nfirst.6 @8 err 4 NoSuchVersion asked=time:49\nfirst.7 @8 ok v0 rows=1\ntime,price\n1,100\nend @8\n";
+    assert_eq!(rt; out.bytes(), wanted.as_bytes());
+    Ok(())
+}
+
+#[test]
+fn small_tiles_change_the_places_and_not_the_rows(rt: HostRuntime) -> Result<(), Fail> {
+    let alloc = rt.alloc();
+    let script = "load t t.csv int,int,int\nfirst\nwrite S t\nread S\nkeys S\n";
+    let table = "time,a,b,c\n1,1,2,3\n2,4,5,6\n3,7,8,9\n4,1,2,3\n5,4,5,6\n";
+    let words = ["run", "day.arc", "--rows", "2", "--cols", "1"];
+    let (status, out) = ran_script(&rt, alloc, &words, script, table, ("e", ""))?;
+    assert_eq!(rt; status, 0);
+    let wanted =
+        "first.1 @12 ok v0\nfirst.2 @12 ok v0 rows=5\ntime,a,b,c\n1,1,2,3\n2,4,5,6\n3,7,8,9\n4,1,2,3\n5,4,5,6\nfirst.3 @12 ok data=9 index=1 version=1 ref=1 staged=0\nend @12\n";
+    assert_eq!(rt; out.bytes(), wanted.as_bytes());
+    Ok(())
+}
+
+#[test]
+fn a_falling_stamp_is_a_refusal_of_its_write(rt: HostRuntime) -> Result<(), Fail> {
+    let alloc = rt.alloc();
+    let script =
+        "load t t.csv int,int\nload z z.csv int,int\nfirst\nwrite S t\nwrite S z\nread X\n";
+    let more = ("z.csv", "time,price,size\n5,1,1\n4,1,1\n");
+    let (status, out) = ran_script(&rt, alloc, &["run", "day.arc"], script, TABLE, more)?;
+    assert_eq!(rt; status, 1);
+    let wanted =
+        "first.1 @4 ok v0\nfirst.2 @4 err 7 Unsorted row=2\nfirst.3 @4 err 3 NoSuchSymbol\nend @4\n";
     assert_eq!(rt; out.bytes(), wanted.as_bytes());
     Ok(())
 }
@@ -69,14 +121,10 @@ fn the_worked_row_prints_its_transcript(rt: HostRuntime) -> Result<(), Fail> {
 #[test]
 fn each_stop_prints_its_line(rt: HostRuntime) -> Result<(), Fail> {
     let alloc = rt.alloc();
+    let usage =
+        "arctic: usage: arctic run SCRIPT or arctic gen N, with --workers --rows --cols --tries\n";
     for (words, script, table, status, line) in [
-        (
-            ["run", "-x"],
-            SCRIPT,
-            TABLE,
-            2u8,
-            "arctic: usage: arctic run SCRIPT or arctic gen N, with --workers --rows --cols --tries\n",
-        ),
+        (["run", "-x"], SCRIPT, TABLE, 2u8, usage),
         (
             ["run", "day.arc"],
             "first\nwrote S t\n",
@@ -100,8 +148,7 @@ fn each_stop_prints_its_line(rt: HostRuntime) -> Result<(), Fail> {
         ),
         (["run", "day.arc"], "first\n", TABLE, 0, "end @0\n"),
     ] {
-        let shelf = shelf_of(alloc, script, table, Vec::new(alloc))?;
-        let (ended, out) = ran(&rt, alloc, &words, shelf, Vec::new(alloc))?;
+        let (ended, out) = ran_script(&rt, alloc, &words, script, table, ("e", ""))?;
         assert_eq!(rt; ended, status, "{line}");
         assert_eq!(rt; out.bytes(), line.as_bytes());
     }
@@ -109,9 +156,30 @@ fn each_stop_prints_its_line(rt: HostRuntime) -> Result<(), Fail> {
 }
 
 #[test]
+fn options_out_of_their_form_are_refused(rt: HostRuntime) -> Result<(), Fail> {
+    let alloc = rt.alloc();
+    for options in [
+        ["--rows", "0"],
+        ["--cols", "128"],
+        ["--tries", "1001"],
+        ["--rows", "00000001"],
+        ["--rows", "+1"],
+        ["--sows", "1"],
+    ] {
+        let words = ["run", "day.arc", options[0], options[1]];
+        let (status, _out) = ran_script(&rt, alloc, &words, "first\n", TABLE, ("e", ""))?;
+        assert_eq!(rt; status, 2, "{}", options[1]);
+    }
+    let twice = ["run", "day.arc", "--rows", "1", "--rows", "1"];
+    let (status, _out) = ran_script(&rt, alloc, &twice, "first\n", TABLE, ("e", ""))?;
+    assert_eq!(rt; status, 2);
+    Ok(())
+}
+
+#[test]
 fn a_failed_fetch_has_status_4(rt: HostRuntime) -> Result<(), Fail> {
     let alloc = rt.alloc();
-    let shelf = shelf_of(alloc, SCRIPT, TABLE, vec![in alloc; 2]?)?;
+    let shelf = shelf_of(alloc, SCRIPT, TABLE, ("e", ""), vec![in alloc; 2]?)?;
     let (status, out) = ran(&rt, alloc, &["run", "day.arc"], shelf, Vec::new(alloc))?;
     assert_eq!(rt; status, 4);
     assert_eq!(rt; out.bytes(), b"arctic: cannot read t.csv\n".as_slice());
@@ -121,9 +189,9 @@ fn a_failed_fetch_has_status_4(rt: HostRuntime) -> Result<(), Fail> {
 #[test]
 fn a_sink_whose_second_put_fails_has_the_first_line(rt: HostRuntime) -> Result<(), Fail> {
     let alloc = rt.alloc();
-    let shelf = shelf_of(alloc, SCRIPT, TABLE, Vec::new(alloc))?;
+    let shelf = shelf_of(alloc, SCRIPT, TABLE, ("e", ""), Vec::new(alloc))?;
     let (status, out) = ran(&rt, alloc, &["run", "day.arc"], shelf, vec![in alloc; 2]?)?;
     assert_eq!(rt; status, 5);
-    assert_eq!(rt; out.bytes(), b"first.1 @1 ok v0\n".as_slice());
+    assert_eq!(rt; out.bytes(), b"first.1 @4 ok v0\n".as_slice());
     Ok(())
 }

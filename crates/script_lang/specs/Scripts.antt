@@ -2,7 +2,7 @@
 --     Draft                   the loads and the commands of a script, up to some line
 --     after_line              what one more line makes of it, if some rule allows this line
 --     plain_script_of         the script of a text
---     AreLoaded               what each script keeps: the frame of a command is loaded
+--     AreLoaded               what each script keeps: commands of the plain form, whose frames are loaded
 use Rattle.std.specs.Prelude.{ℕ, ◌<◌, ⊤, List, [], ◌∷◌, ◌++◌, length, map, Option, Some, None, is_none, nat_le, codes}
 use Rattle.std.specs.List.{AllByRecursion}
 use Rattle.frame_core.specs.declared.cell.ColType.{ColType}
@@ -127,14 +127,20 @@ plain_script_of text = lines_of text >>= λ lines. where_true (nat_le (length li
 
 -- ---- what each script keeps
 
--- the frame of the command, if it has one, is one of so many loads
+-- the command is one of a plain script, and its frame, if it has one, is one of so many loads
 abbrev pub IsLoaded : ℕ → Command → Type 0
 IsLoaded loads (commands.Write symbol frame at prune) = frame < loads
 IsLoaded loads (commands.Append symbol frame at prune) = frame < loads
 IsLoaded loads (commands.Update symbol frame range upsert at prune) = frame < loads
-IsLoaded loads (commands.Stage symbol frame) = frame < loads
-IsLoaded loads _ = ⊤
+IsLoaded loads (commands.DeleteRange symbol range at prune) = ⊤
+IsLoaded loads (commands.Delete symbol versions) = ⊤
+IsLoaded loads (commands.Prune symbol) = ⊤
+IsLoaded loads (commands.Reclaim symbol) = ⊤
+IsLoaded loads (commands.Versions symbol) = ⊤
+IsLoaded loads (commands.Keys symbol) = ⊤
+IsLoaded loads (commands.Read symbol as_of range columns) = ⊤
+IsLoaded loads _ = ⊥
 
--- each frame of a command is loaded
+-- each command is one of a plain script, and its frame is loaded
 abbrev pub AreLoaded : Script → Type 0
 AreLoaded script = AllByRecursion (IsLoaded (length script.loads)) script.first

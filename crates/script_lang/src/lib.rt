@@ -24,5 +24,6 @@ pub use fault::{CsvFault, ScriptFault};
 pub use frame_core::{ColName, ColType, Range, RawFrame};
 pub use key_kind::Symbol;
 pub use load::{ColTypes, Load, Loads};
+pub use number::digits_of;
 pub use plain_file::read_frame;
 pub use script::{Commands, Script, read_script};

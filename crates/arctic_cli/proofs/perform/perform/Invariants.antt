@@ -1,16 +1,18 @@
-use Rattle.std.proofs.Common.{◌⊎◌, take}
+use Rattle.std.proofs.Common.{◌≡◌, ◌≤◌, ◌⊎◌, true, take, length}
+use Rattle.std.specs.Vec.{vec_len, vec_capacity}
 use Rattle.base_types.specs.Faults.{Rose}
 use Rattle.bucket_core.specs.Calls.{IsSteady}
-use Rattle.arctic_cli.specs.Program.{setting_of}
-use Rattle.arctic_cli.specs.Endings.{AddsPuts}
-use Rattle.arctic_cli.specs.Performing.{AnswersAll}
+use Rattle.library_api.specs.Steps.{client_of, run_cutting}
+use Rattle.arctic_cli.specs.Performing.{IsCarriedOut}
 use Rattle.arctic_cli.proofs.perform.perform.Given as goal
 
--- the commands so far were answered as one thread would
+-- the commands so far were carried out, and there is room for the other replies
 abbrev pub invariant-loop-command : goal.invariant-loop-command
 invariant-loop-command g l = record {
-  answered : AnswersAll (setting_of (g.B.Bucket.limit l.fn.bucket) (g.B.Bucket.number l.fn.bucket) l.frames) (g.B.Bucket.seen l.fn.bucket) (take l.command-index l.commands) l.replies (g.B.Bucket.seen l.bucket)
-      ⊎ Rose (g.B.Bucket.faults l.fn.bucket) (g.B.Bucket.faults l.bucket);
-  adds : AddsPuts (g.B.Bucket.number l.fn.bucket) (g.B.Bucket.seen l.fn.bucket) (g.B.Bucket.seen l.bucket);
-  steady : IsSteady g.B.Bucket.number g.B.Bucket.limit g.B.Bucket.faults g.B.Bucket.sole l.fn.bucket l.bucket;
+  carried_out : IsCarriedOut (run_cutting l.fn.library.settings.cutting) (client_of l.frames l.fn.library.settings (g.B.Bucket.number l.fn.library.bucket) (g.B.Bucket.limit l.fn.library.bucket)) (take l.command-index l.commands) l.replies.items (g.B.Bucket.seen l.fn.library.bucket) (g.B.Bucket.seen l.library.bucket)
+      ⊎ Rose (g.B.Bucket.faults l.fn.library.bucket) (g.B.Bucket.faults l.library.bucket);
+  steady : IsSteady g.B.Bucket.number g.B.Bucket.limit g.B.Bucket.faults g.B.Bucket.sole l.fn.library.bucket l.library.bucket;
+  settings : l.library.settings ≡ l.fn.library.settings;
+  count : vec_len l.replies ≡ l.command-index;
+  room : length l.commands ≤ vec_capacity l.replies;
 }

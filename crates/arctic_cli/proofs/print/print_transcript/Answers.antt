@@ -1,27 +1,24 @@
-use Rattle.std.proofs.Common.{◌≡◌, List, Result, Ok, Err, sym, subst, ◌++◌, []}
-use Rattle.std.specs.Prelude.{codes, ◌∷◌}
+use Rattle.std.proofs.Common.{◌≡◌, ◌++◌, Result, Err, sym, subst}
+use Rattle.std.specs.Prelude.{codes}
 use Rattle.std.specs.List.{concat}
-use Rattle.std.proofs.lemmas.List.{append-nil}
-use Rattle.std.proofs.lemmas.List.Folds.{concat-append}
 use Rattle.program_edge.specs.declared.sink.SinkErr.{SinkErr}
 use Rattle.frame_core.specs.Texts.{Text}
-use Rattle.arctic_cli.specs.Replies.{Reply}
-use Rattle.arctic_cli.specs.Transcript.{part_lines, end_line, transcript}
-use Rattle.arctic_cli.specs.Endings.{Printed}
+use Rattle.arctic_cli.specs.Transcript.{part_lines, end_line}
+use Rattle.arctic_cli.specs.Endings.{Prints}
 use Rattle.arctic_cli.proofs.Prints.{printed-then, printed-stop, handed-on}
 use Rattle.arctic_cli.proofs.Shown.{transcript-text}
 use Rattle.arctic_cli.proofs.print.print_transcript.Goals as goal
 
 pub returns-in_err-print_replies : goal.returns-in_err-print_replies
-returns-in_err-print_replies g c = λ told all.
+returns-in_err-print_replies g c =
     let same : c.from_residual.result ≡ Err c.in_err-print_replies.field-0.0 = handed-on c.from_residual.result c.in_err-print_replies.field-0.0 c.from_residual.ensures.1 in
-    subst (λ (t : Text). Printed (g.S.Sink.written c.args.out.now) (g.S.Sink.written c.print_replies.new.out) (g.S.Sink.faults c.args.out.now) (g.S.Sink.faults c.print_replies.new.out) t c.from_residual.result) (sym (transcript-text told c.args.end))
-    (subst (λ (x : Result (Unit {0}) SinkErr). Printed (g.S.Sink.written c.args.out.now) (g.S.Sink.written c.print_replies.new.out) (g.S.Sink.faults c.args.out.now) (g.S.Sink.faults c.print_replies.new.out) (concat (part_lines (codes "first") 1 told) ++ end_line c.args.end) x) (sym same)
+    subst (λ (t : Text). Prints g.S.Sink.written g.S.Sink.faults c.args.out.now c.print_replies.new.out t c.from_residual.result) (sym (transcript-text c.args.replies.now c.args.end))
+    (subst (λ (x : Result (Unit {0}) SinkErr). Prints g.S.Sink.written g.S.Sink.faults c.args.out.now c.print_replies.new.out (concat (part_lines (codes "first") 1 c.args.replies.now) ++ end_line c.args.end) x) (sym same)
     (printed-stop (g.S.Sink.written c.args.out.now) (g.S.Sink.written c.print_replies.new.out) (g.S.Sink.faults c.args.out.now) (g.S.Sink.faults c.print_replies.new.out)
-    (concat (part_lines (codes "first") 1 told)) (end_line c.args.end) c.in_err-print_replies.field-0.0 (c.in_err-print_replies.ensures told all)))
+    (concat (part_lines (codes "first") 1 c.args.replies.now)) (end_line c.args.end) c.in_err-print_replies.field-0.0 c.in_err-print_replies.ensures))
 
 pub returns : goal.returns
-returns g c = λ told all.
-    subst (λ (t : Text). Printed (g.S.Sink.written c.args.out.now) (g.S.Sink.written c.put_made.new.out) (g.S.Sink.faults c.args.out.now) (g.S.Sink.faults c.put_made.new.out) t c.put_made.result) (sym (transcript-text told c.args.end))
+returns g c =
+    subst (λ (t : Text). Prints g.S.Sink.written g.S.Sink.faults c.args.out.now c.put_made.new.out t c.put_made.result) (sym (transcript-text c.args.replies.now c.args.end))
     (printed-then (g.S.Sink.written c.args.out.now) (g.S.Sink.written c.print_replies.new.out) (g.S.Sink.written c.put_made.new.out) (g.S.Sink.faults c.args.out.now) (g.S.Sink.faults c.print_replies.new.out) (g.S.Sink.faults c.put_made.new.out)
-    (concat (part_lines (codes "first") 1 told)) (end_line c.args.end) c.put_made.result (c.in_ok-print_replies.ensures told all) (c.put_made.ensures (end_line c.args.end) c.end_line.ensures))
+    (concat (part_lines (codes "first") 1 c.args.replies.now)) (end_line c.args.end) c.put_made.result c.in_ok-print_replies.ensures (c.put_made.ensures (end_line c.args.end) c.end_line.ensures))

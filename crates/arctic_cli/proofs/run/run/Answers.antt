@@ -1,7 +1,33 @@
-use Rattle.std.proofs.Common.{◌≡◌, ℕ}
-use Rattle.arctic_cli.proofs.Ended.{exact}
+use Rattle.arctic_cli.proofs.Alone.{exact}
+use Rattle.std.proofs.Common.{rules, w64, SFits}
+use Rattle.arctic_cli.proofs.Running.{told-again}
+use Rattle.arctic_cli.proofs.Ended.{way, transcript-way, usage-way, script-way, fetch-way, file-way, put-way, memory-way, status-way}
 use Rattle.arctic_cli.proofs.run.run.Goals as goal
 
--- where shelf and sink tell and neither fails, nothing else can come
+pub returns-clause-usage : goal.returns-clause-usage
+returns-clause-usage g c = usage-way _ _ _ _ _ _ _ _ _ (way _ _ _ _ _ _ _ _ _ (c.run_words.ensures.ends (g.C.Clock.reading c.args.clock.now) (let fits : SFits w64 c.now-moment.result = search rules in told-again (g.C.Clock.reading c.args.clock.now) c.now-moment.result fits c.now-moment.ensures)))
+
+pub returns-clause-bad_script : goal.returns-clause-bad_script
+returns-clause-bad_script g c = script-way _ _ _ _ _ _ _ _ _ (way _ _ _ _ _ _ _ _ _ (c.run_words.ensures.ends (g.C.Clock.reading c.args.clock.now) (let fits : SFits w64 c.now-moment.result = search rules in told-again (g.C.Clock.reading c.args.clock.now) c.now-moment.result fits c.now-moment.ensures)))
+
+pub returns-clause-unreadable : goal.returns-clause-unreadable
+returns-clause-unreadable g c = fetch-way _ _ _ _ _ _ _ _ _ (way _ _ _ _ _ _ _ _ _ (c.run_words.ensures.ends (g.C.Clock.reading c.args.clock.now) (let fits : SFits w64 c.now-moment.result = search rules in told-again (g.C.Clock.reading c.args.clock.now) c.now-moment.result fits c.now-moment.ensures)))
+
+pub returns-clause-bad_file : goal.returns-clause-bad_file
+returns-clause-bad_file g c = file-way _ _ _ _ _ _ _ _ _ (way _ _ _ _ _ _ _ _ _ (c.run_words.ensures.ends (g.C.Clock.reading c.args.clock.now) (let fits : SFits w64 c.now-moment.result = search rules in told-again (g.C.Clock.reading c.args.clock.now) c.now-moment.result fits c.now-moment.ensures)))
+
+pub returns-clause-refused_put : goal.returns-clause-refused_put
+returns-clause-refused_put g c = put-way _ _ _ _ _ _ _ _ _ (way _ _ _ _ _ _ _ _ _ (c.run_words.ensures.ends (g.C.Clock.reading c.args.clock.now) (let fits : SFits w64 c.now-moment.result = search rules in told-again (g.C.Clock.reading c.args.clock.now) c.now-moment.result fits c.now-moment.ensures)))
+
+pub returns-clause-memory : goal.returns-clause-memory
+returns-clause-memory g c = memory-way _ _ _ _ _ _ _ _ _ (way _ _ _ _ _ _ _ _ _ (c.run_words.ensures.ends (g.C.Clock.reading c.args.clock.now) (let fits : SFits w64 c.now-moment.result = search rules in told-again (g.C.Clock.reading c.args.clock.now) c.now-moment.result fits c.now-moment.ensures)))
+
+pub returns-clause-statuses : goal.returns-clause-statuses
+returns-clause-statuses g c = status-way _ _ _ _ _ _ _ _ _ (way _ _ _ _ _ _ _ _ _ (c.run_words.ensures.ends (g.C.Clock.reading c.args.clock.now) (let fits : SFits w64 c.now-moment.result = search rules in told-again (g.C.Clock.reading c.args.clock.now) c.now-moment.result fits c.now-moment.ensures)))
+
+pub returns-clause-transcript : goal.returns-clause-transcript
+returns-clause-transcript g c = transcript-way _ _ _ _ _ _ _ _ _ (way _ _ _ _ _ _ _ _ _ (c.run_words.ensures.ends (g.C.Clock.reading c.args.clock.now) (let fits : SFits w64 c.now-moment.result = search rules in told-again (g.C.Clock.reading c.args.clock.now) c.now-moment.result fits c.now-moment.ensures)))
+
 pub returns-clause-complete : goal.returns-clause-complete
-returns-clause-complete g c held told tells wrote calm still = exact _ held _ _ _ _ told _ _ _ _ tells wrote calm still c.run_words-status.ensures.ends
+returns-clause-complete g c = λ held told moment u. exact c.runs_alone_are_sole.ensures.sole _ _ _ _ _ held told moment _ _ _ _ u
+    (c.run_words.ensures.ends (g.C.Clock.reading c.args.clock.now) (let fits : SFits w64 c.now-moment.result = search rules in told-again (g.C.Clock.reading c.args.clock.now) c.now-moment.result fits c.now-moment.ensures))

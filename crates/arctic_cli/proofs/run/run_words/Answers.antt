@@ -1,20 +1,19 @@
-use Rattle.std.proofs.Common.{Ok, Err, map, refl, inl}
+use Rattle.std.proofs.Common.{rules, w64, SFits, map}
 use Rattle.std.specs.String.{string_bytes}
-use Rattle.arctic_cli.proofs.Running.{stop-plan}
+use Rattle.arctic_cli.specs.Preparing.{job_in}
+use Rattle.arctic_cli.specs.Endings.{start_of}
+use Rattle.arctic_cli.proofs.Running.{stop-plan, job-ends, stop-ends, told-again}
 use Rattle.arctic_cli.proofs.run.run_words.Goals as goal
 
--- what was prepared is performed
+-- what was prepared is carried out
 pub returns-in-Ok-clause-ends : goal.returns-in-Ok-clause-ends
-returns-in-Ok-clause-ends g c = inl (_, record { plan = Ok (c.in-Ok.plan.commands, c.in-Ok.plan.frames); prepares = c.in-Ok.ensures.plan; run_is = refl }, c.run_plan.ensures.ends)
+returns-in-Ok-clause-ends g c = λ reading told.
+    job-ends (start_of (map string_bytes c.args.words.now) (g.F.Shelf.holds c.args.shelf.now) reading c.args.bucket.most c.args.bucket.number c.args.bucket.log) _ _ _ _ _ _ _ _ (job_in c.in-Ok.plan) c.in-Ok.ensures.plan
+    (c.run_plan.ensures.ends (map string_bytes c.args.words.now) (g.F.Shelf.holds c.args.shelf.now) reading (let fits : SFits w64 c.args.moment = search rules in told-again reading c.args.moment fits told))
 
 -- why nothing was prepared is printed
 pub returns-in-Err-Stop-clause-ends : goal.returns-in-Err-Stop-clause-ends
-returns-in-Err-Stop-clause-ends g c = inl (
-  _,
-  record {
-    plan = Err c.in-Err-Stop.stop;
-    prepares = stop-plan (g.F.Shelf.holds c.args.shelf.now) (g.F.Shelf.faults c.args.shelf.now) (g.F.Shelf.faults c.prepare.new.shelf) (map string_bytes c.args.words.now) c.in-Err-Stop.field-0 c.in-Err-Stop.stop c.in-Err-Stop.field-0-is c.in-Err-Stop.ensures.plan;
-    run_is = refl;
-  },
-  c.run_stop.ensures c.args.bucket.now.number c.args.bucket.now.log,
-)
+returns-in-Err-Stop-clause-ends g c = λ reading told.
+    stop-ends (start_of (map string_bytes c.args.words.now) (g.F.Shelf.holds c.args.shelf.now) reading c.args.bucket.most c.args.bucket.number c.args.bucket.log) _ _ _ _ _ _ _ c.in-Err-Stop.stop
+    (stop-plan (g.F.Shelf.holds c.args.shelf.now) (g.F.Shelf.faults c.args.shelf.now) (g.F.Shelf.faults c.prepare.new.shelf) (map string_bytes c.args.words.now) c.in-Err-Stop.field-0 c.in-Err-Stop.stop c.in-Err-Stop.field-0-is c.in-Err-Stop.ensures.plan)
+    c.run_stop.ensures

@@ -1,0 +1,143 @@
+-- Where nothing hinders a run of one client alone, it is that of the fold.
+use Rattle.std.proofs.Common.{◌≡◌, ℕ, ℤ, ◌<◌, ◌≤◌, ◌⊎◌, Bool, true, false, cond, List, [], ◌∷◌, ◌++◌, length, Option, Some, None, Result, Ok, Err, refl, sym, ap, ◌∙◌, subst, inl, inr, arith}
+use Rattle.std.specs.Prelude.{◌||◌, option_map}
+use Rattle.std.specs.List.{AllByRecursion, concat, list_any}
+use Rattle.std.proofs.lemmas.Bool.{true≢false}
+use Rattle.base_types.specs.Faults.{Rose}
+use Rattle.frame_core.specs.Texts.{Text}
+use Rattle.frame_core.specs.declared.refusal.Refusal.TheVariants as refusals
+use Rattle.bucket_core.specs.History.{History, history_at}
+use Rattle.expr_clause.specs.declared.command.Command.{Command}
+use Rattle.reply_model.specs.declared.outcome.Outcome.{Outcome}
+use Rattle.reply_model.specs.declared.outcome.Outcome.TheVariants as outcomes
+use Rattle.reply_model.specs.declared.reply.Reply.{Reply}
+use Rattle.reply_model.specs.Windows.{Window, Client, is_cut, is_refused}
+use Rattle.reply_model.specs.Legal.{IsLegalOutcome, LegalFrom}
+use Rattle.reply_model.specs.Sole.{SoleRun, sole}
+use Rattle.reply_model.specs.Standing.{RunsAlone, RunsAreSole}
+use Rattle.store_model.specs.Law.{IsLawful}
+use Rattle.program_edge.specs.Clocks.{IsReading}
+use Rattle.arctic_cli.specs.declared.stop.Stop.{Stop}
+use Rattle.arctic_cli.specs.Program.{Shelf, Job, Run, run_of, stopped, wants_memory, replies_status, run_from, run_alone, prepared}
+use Rattle.arctic_cli.specs.Causes.{Prepares}
+use Rattle.arctic_cli.specs.Performing.{AreUncut, AreServed}
+use Rattle.arctic_cli.specs.Endings.{Start, client_of, Performs, IsDue, Due, AllWritten, RunEnds, Ends, IsUnhindered, IsRun}
+use Rattle.arctic_cli.proofs.Told.{prepares-told}
+
+-- ---- replies that are not cut
+
+-- no outcome is want of memory, a failure without a cause, or a full store below the limit
+outcome-uncut : (h : History) (client : Client) (c : Command) (r : Reply) (w : Window) (o : Outcome) → IsLegalOutcome h client c r w o → r.place < client.limit → w.faulted ≡ false → wants_memory o ≡ false → is_cut o ≡ false
+outcome-uncut h client c r w (outcomes.Committed version) legal below calm memory = refl
+outcome-uncut h client c r w outcomes.Staged legal below calm memory = refl
+outcome-uncut h client c r w (outcomes.Finalized version pieces) legal below calm memory = refl
+outcome-uncut h client c r w (outcomes.Discarded pieces) legal below calm memory = refl
+outcome-uncut h client c r w (outcomes.Deleted versions) legal below calm memory = refl
+outcome-uncut h client c r w (outcomes.Pruned versions) legal below calm memory = refl
+outcome-uncut h client c r w (outcomes.Freed tiles indexes staged) legal below calm memory = refl
+outcome-uncut h client c r w (outcomes.Kept held) legal below calm memory = refl
+outcome-uncut h client c r w outcomes.Unkept legal below calm memory = refl
+outcome-uncut h client c r w (outcomes.Whole version frame) legal below calm memory = refl
+outcome-uncut h client c r w (outcomes.Versions rows) legal below calm memory = refl
+outcome-uncut h client c r w (outcomes.Symbols rows) legal below calm memory = refl
+outcome-uncut h client c r w (outcomes.Snapshots names) legal below calm memory = refl
+outcome-uncut h client c r w (outcomes.Keys tiles indexes versions refs staged) legal below calm memory = refl
+outcome-uncut h client c r w (outcomes.Refused refusals.NoSuchSymbol) legal below calm memory = refl
+outcome-uncut h client c r w (outcomes.Refused (refusals.NoSuchVersion asked)) legal below calm memory = refl
+outcome-uncut h client c r w (outcomes.Refused (refusals.VersionGone version)) legal below calm memory = refl
+outcome-uncut h client c r w (outcomes.Refused (refusals.Moved now)) legal below calm memory = refl
+outcome-uncut h client c r w (outcomes.Refused (refusals.Unsorted row)) legal below calm memory = refl
+outcome-uncut h client c r w (outcomes.Refused (refusals.SchemaDiffers column)) legal below calm memory = refl
+outcome-uncut h client c r w (outcomes.Refused (refusals.AppendBefore last first)) legal below calm memory = refl
+outcome-uncut h client c r w (outcomes.Refused (refusals.OutsideRange row)) legal below calm memory = refl
+outcome-uncut h client c r w (outcomes.Refused refusals.EmptyUpdate) legal below calm memory = refl
+outcome-uncut h client c r w (outcomes.Refused (refusals.NoSuchColumn clause position)) legal below calm memory = refl
+outcome-uncut h client c r w (outcomes.Refused (refusals.TypeMismatch clause)) legal below calm memory = refl
+outcome-uncut h client c r w (outcomes.Refused (refusals.Overflow clause row)) legal below calm memory = refl
+outcome-uncut h client c r w (outcomes.Refused (refusals.GroupOverflow clause group)) legal below calm memory = refl
+outcome-uncut h client c r w (outcomes.Refused (refusals.NotTimeIndexed clause)) legal below calm memory = refl
+outcome-uncut h client c r w (outcomes.Refused refusals.SnapshotExists) legal below calm memory = refl
+outcome-uncut h client c r w (outcomes.Refused refusals.NoSuchSnapshot) legal below calm memory = refl
+outcome-uncut h client c r w (outcomes.Refused refusals.NoStaged) legal below calm memory = refl
+outcome-uncut h client c r w (outcomes.Refused (refusals.StagedOverlap piece)) legal below calm memory = refl
+outcome-uncut h client c r w (outcomes.Refused (refusals.TooLarge what limit)) legal below calm memory = refl
+outcome-uncut h client c r w (outcomes.Refused refusals.NoMemory) legal below calm memory = absurd (true≢false memory)
+outcome-uncut h client c r w (outcomes.Refused refusals.StoreFault) legal below calm memory = absurd (true≢false (sym legal ∙ calm))
+outcome-uncut h client c r w (outcomes.Refused (refusals.Spent count)) legal below calm memory = absurd (omega (arith, legal.here, legal.full, below))
+
+or-first : (a b : Bool) → (a || b) ≡ false → a ≡ false
+or-first true b is = is
+or-first false b is = refl
+
+or-second : (a b : Bool) → (a || b) ≡ false → b ≡ false
+or-second true b is = absurd (true≢false is)
+or-second false b is = is
+
+all-uncut : (h : History) (client : Client) (from : ℕ) (cs : List Command) (rs : List Reply) (ws : List Window) → LegalFrom h client from cs rs ws → AllByRecursion (λ (w : Window). w.faulted ≡ false) ws →
+    list_any (λ (r : Reply). wants_memory r.outcome) rs ≡ false → length h < client.limit → AreUncut rs
+all-uncut h client from [] [] [] l calm memory below = tt
+all-uncut h client from (c ∷ cs) (r ∷ rs) (w ∷ ws) l calm memory below = (
+  outcome-uncut (history_at h w.stop) client c r w r.outcome l.1.1.outcome (omega (arith, l.1.0, l.1.1.before, below)) calm.0 (or-first (wants_memory r.outcome) (list_any (λ (q : Reply). wants_memory q.outcome) rs) memory),
+  all-uncut h client w.stop cs rs ws l.2 calm.1 (or-second (wants_memory r.outcome) (list_any (λ (q : Reply). wants_memory q.outcome) rs) memory) below,
+)
+all-uncut h client from [] [] (w ∷ ws) l calm memory below = absurd l
+all-uncut h client from [] (r ∷ rs) ws l calm memory below = absurd l
+all-uncut h client from (c ∷ cs) [] ws l calm memory below = absurd l
+all-uncut h client from (c ∷ cs) (r ∷ rs) [] l calm memory below = absurd l
+
+-- ---- the run
+
+-- a run of a job
+job-exact : (are_sole : RunsAreSole) (start : Start) (job : Job) (run : Run) (moment : ℤ) (told : Text) (after : Option Text) (status : ℕ) (new : History) → start.reading ≡ Some moment → start.history ≡ [] → start.client ≡ 1 → length new < start.limit →
+    AreServed job.commands → Performs start job run new → AllWritten run (Some told) after status → (status ≡ 6) ⊎ IsRun (run_from moment (Ok job)) told after status
+job-exact are_sole start job run moment told after status new reading empty first below served p w = of (list_any (λ (r : Reply). wants_memory r.outcome) p.replies) refl
+  where
+    same : p.moment ≡ moment
+    same = subst (λ o. IsReading o p.moment) reading p.told
+
+    status_is : status ≡ replies_status p.replies
+    status_is = w.status_is ∙ ap (λ (r : Run). r.status) p.run_is
+
+    uncut : list_any (λ (r : Reply). wants_memory r.outcome) p.replies ≡ false → AreUncut p.replies
+    uncut none = all-uncut new (client_of start job p.moment) (length start.history) job.commands p.replies p.carried_out.windows p.carried_out.legal p.carried_out.no_fault none below
+
+    is_sole : list_any (λ (r : Reply). wants_memory r.outcome) p.replies ≡ false → sole job.cutting job.frames p.moment job.commands [] [] ≡ Some (record { first = p.replies; block = []; last = []; events = length new })
+    is_sole none = are_sole job.cutting (client_of start job p.moment).session job.commands p.replies new first
+        (subst (λ (h : History). RunsAlone job.cutting (client_of start job p.moment).session job.commands p.replies h new) empty
+        (p.carried_out.alone (subst (λ (h : History). IsLawful h) (sym empty) tt) served (uncut none)))
+
+    written : IsRun (Some (run_of p.replies (length new))) told after status
+    written = (status_is, w.output ∙ ap (λ (r : Run). some (told ++ concat r.lines)) p.run_is)
+      where
+        some : Text → Option Text
+        some t = Some t
+
+    of : (b : Bool) → list_any (λ (r : Reply). wants_memory r.outcome) p.replies ≡ b → (status ≡ 6) ⊎ IsRun (run_from moment (Ok job)) told after status
+    of true is = inl (status_is ∙ ap (λ b. cond b 6 (cond (list_any (λ (r : Reply). is_refused r.outcome) p.replies) 1 0)) is)
+    of false is = inr (subst (λ (m : ℤ). IsRun (run_from m (Ok job)) told after status) same
+        (subst (λ o. IsRun (option_map (λ (r : SoleRun). run_of r.first r.events) o) told after status) (sym (is_sole is)) written))
+
+-- all was written
+plan-exact : (are_sole : RunsAreSole) (start : Start) (plan : Result Job Stop) (run : Run) (moment : ℤ) (told : Text) (after : Option Text) (status : ℕ) (new : History) → start.reading ≡ Some moment → start.history ≡ [] → start.client ≡ 1 → length new < start.limit →
+    ((job : Job) → plan ≡ Ok job → AreServed job.commands) → IsDue start plan run new → AllWritten run (Some told) after status → (status ≡ 6) ⊎ IsRun (run_from moment plan) told after status
+plan-exact are_sole start (Ok job) run moment told after status new reading empty first below served due w = job-exact are_sole start job run moment told after status new reading empty first below (served job refl) due w
+plan-exact are_sole start (Err s) run moment told after status new reading empty first below served due w =
+    inr (w.status_is ∙ ap (λ (r : Run). r.status) due.0, w.output ∙ ap (λ (r : Run). some (told ++ concat r.lines)) due.0)
+  where
+    some : Text → Option Text
+    some t = Some t
+
+due-exact : (are_sole : RunsAreSole) (start : Start) (f0 f1 g0 g1 : ℕ) (held : Shelf) (told : Text) (moment : ℤ) (w0 w1 : Option Text) (status : ℕ) (new : History) → IsUnhindered start f0 f1 g0 g1 held told moment w0 new → (due : Due start f0 f1 new) →
+    RunEnds due.run g0 g1 w0 w1 status → (status ≡ 6) ⊎ IsRun (run_alone moment held start.words) told w1 status
+due-exact are_sole start f0 f1 g0 g1 held told moment w0 w1 status new u due (inr (inl p)) = absurd (u.output_works p.1)
+due-exact are_sole start f0 f1 g0 g1 held told moment w0 w1 status new u due (inr (inr p)) = inl p.0
+due-exact are_sole start f0 f1 g0 g1 held told moment w0 w1 status new u due (inl w) =
+    let made : prepared held start.words ≡ due.plan = prepares-told held f0 f1 start.words due.plan u.shelf_works (subst (λ h. Prepares h f0 f1 start.words due.plan) u.tells due.prepares) in
+    subst (λ (x : Result Job Stop). (status ≡ 6) ⊎ IsRun (run_from moment x) told w1 status) (sym made)
+    (plan-exact are_sole start due.plan due.run moment told w1 status new u.reading u.empty u.first u.room (λ job is. u.served job (made ∙ is)) due.is_due (subst (λ (o : Option Text). AllWritten due.run o w1 status) u.written w))
+
+-- where nothing hinders it, the run is that of one client alone, or memory was wanted
+pub exact : (are_sole : RunsAreSole) (start : Start) (f0 f1 g0 g1 : ℕ) (held : Shelf) (told : Text) (moment : ℤ) (w0 w1 : Option Text) (status : ℕ) (new : History) → IsUnhindered start f0 f1 g0 g1 held told moment w0 new →
+    Ends start f0 f1 g0 g1 w0 w1 status new → (status ≡ 6) ⊎ IsRun (run_alone moment held start.words) told w1 status
+exact are_sole start f0 f1 g0 g1 held told moment w0 w1 status new u (inl e) = due-exact are_sole start f0 f1 g0 g1 held told moment w0 w1 status new u e.0 e.1
+exact are_sole start f0 f1 g0 g1 held told moment w0 w1 status new u (inr e) = inl e.0

@@ -1,0 +1,19 @@
+use Rattle.std.proofs.Common.{rules, ◌≡◌, refl, sym, subst}
+use Rattle.std.specs.Prelude.{Some}
+use Rattle.frame_core.specs.Texts.{Text}
+use Rattle.arctic_cli.specs.Jobs.{script_in}
+use Rattle.arctic_cli.specs.Causes.{HeldAs}
+use Rattle.arctic_cli.specs.Preparing.{said}
+use Rattle.arctic_cli.proofs.prepare.find_script.Goals as goal
+
+pub returns-in-Ok-clause-found : goal.returns-in-Ok-clause-found
+returns-in-Ok-clause-found g c = record {
+  found = record {
+    said = said c.in-Some.name.now c.in-Some.options;
+    words_are = sym c.in-Some.ensures.words;
+    bytes = c.in_ok-bytes.bytes.items;
+    held = c.in_ok-bytes.ensures.held;
+    script_is = search rules;
+  };
+  says = refl;
+}

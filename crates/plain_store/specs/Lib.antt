@@ -1,4 +1,0 @@
-pub mod Puts
-pub mod PutLaw
-pub mod PutLaws
-pub mod Writes
