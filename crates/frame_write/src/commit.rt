@@ -9,13 +9,12 @@ use crate::drops::drop_all;
 use crate::options::Committed;
 use crate::plan::Plan;
 use crate::puts::put_all;
-use version_chain::refused_by;
 use bucket_core::{Bucket, StoreErr};
 use frame_core::{Refusal, Refused};
 use key_kind::Symbol;
 use std::alloc::Global;
 use std::sync::Wait;
-use version_chain::StoreLaw;
+use version_chain::{StoreLaw, refused_by};
 
 /// Puts what is planned, and then sets the symbol's reference. Where another's commit came between, the keys are dropped again.
 pub(crate) fn commit<R: Wait, B: Bucket<StoreLaw>>(

@@ -7,11 +7,10 @@ ghost use Rattle.frame_write.specs.PutCalls.{DidDrops};
 ghost use Rattle.frame_write.specs.Plans.{ArePutsFrom, put_seen, puts_seen};
 
 use crate::puts::Prepared;
-use version_chain::refused_by;
 use bucket_core::Bucket;
 use frame_core::Refused;
 use std::sync::Wait;
-use version_chain::StoreLaw;
+use version_chain::{StoreLaw, refused_by};
 
 /// Drops the key of a put that nothing links.
 fn drop_one<R: Wait, B: Bucket<StoreLaw>>(

@@ -7,14 +7,13 @@ ghost use Rattle.frame_write.specs.Plans.{IsPutAt, ArePutsFrom, put_seen, puts_s
 ghost use Rattle.version_chain.specs.StoreCalls.{DidCall};
 ghost use Rattle.frame_write.specs.PutCalls.{DidPuts};
 
-use version_chain::refused_by;
 use base_types::{Keep, NoMemory};
 use bucket_core::{Body, Bucket};
 use frame_core::{Refusal, Refused};
 use key_kind::Key;
 use std::alloc::Global;
 use std::sync::{Arc, Wait};
-use version_chain::StoreLaw;
+use version_chain::{StoreLaw, refused_by};
 
 /// A key, and the body that is to stand under it.
 #[derive(Drop)]
