@@ -1,12 +1,11 @@
 -- Fields that are added to a line behind commas, and the columns that they come from.
-use Rattle.std.proofs.Common.{◌≡◌, ℕ, zero, suc, ◌+◌, ◌<◌, ◌≤◌, ◌⊎◌, ℤ, Bool, true, false, List, [], ◌∷◌, ◌++◌, length, get_or, take, map, Option, Some, None, refl, sym, ap, ◌∙◌, subst, inl, inr, append_assoc, arith}
-use Rattle.std.specs.Prelude.{slice_get, option_map, option_and_then, codes}
-use Rattle.std.specs.List.{flat_map, join_with_byte, AllByRecursion, AllZip}
+use Rattle.std.proofs.Common.{◌≡◌, ℕ, zero, suc, ◌+◌, ◌<◌, ◌≤◌, ℤ, Bool, true, false, List, [], ◌∷◌, ◌++◌, length, get_or, take, map, Option, Some, refl, sym, ap, ◌∙◌, subst, append_assoc, arith}
+use Rattle.std.specs.Prelude.{slice_get, option_map, option_and_then}
+use Rattle.std.specs.List.{join_with_byte, AllByRecursion, AllZip}
 use Rattle.std.proofs.lemmas.List.{append-nil, take_more, take_all, length-map}
 use Rattle.std.proofs.lemmas.List.Concat.{flat_map-append}
 use Rattle.std.proofs.lemmas.Option.{slice_get-get_or, slice_get_within}
 use Rattle.frame_core.specs.Texts.{Text}
-use Rattle.std.specs.Fmt.{signed_decimal}
 use Rattle.frame_core.specs.declared.cell.Cell.{Cell}
 use Rattle.frame_core.specs.Schemas.{Head}
 use Rattle.frame_core.specs.Frames.{Row, Frame, IsFrame, FitsColumns, stamp_at, cell_at}

@@ -1,5 +1,5 @@
 -- What each status of a run tells.
-use Rattle.std.proofs.Common.{◌≡◌, ℕ, ◌≤◌, ◌⊎◌, Bool, true, false, cond, List, ◌∷◌, ◌++◌, Option, Some, None, Result, Ok, Err, refl, sym, ap, ◌∙◌, subst, inl, inr, arith}
+use Rattle.std.proofs.Common.{◌≡◌, ℕ, ◌≤◌, ◌⊎◌, Bool, true, false, cond, List, Option, Result, Ok, Err, refl, ap, ◌∙◌, subst, inl, inr, arith}
 use Rattle.std.specs.List.{concat, list_any}
 use Rattle.std.proofs.lemmas.List.{append-nil}
 use Rattle.base_types.specs.Faults.{Rose}
@@ -9,9 +9,9 @@ use Rattle.reply_model.specs.declared.reply.Reply.{Reply}
 use Rattle.reply_model.specs.Windows.{is_refused}
 use Rattle.arctic_cli.specs.declared.stop.Stop.{Stop}
 use Rattle.arctic_cli.specs.declared.stop.Stop.TheVariants as stops
-use Rattle.arctic_cli.specs.Program.{Job, Run, run_of, stop_status, stop_line, wants_memory, replies_status, stopped}
+use Rattle.arctic_cli.specs.Program.{Job, Run, stop_status, stop_line, wants_memory, replies_status}
 use Rattle.arctic_cli.specs.Causes.{StopsBy, Prepares}
-use Rattle.arctic_cli.specs.Endings.{Wrote, Start, Performs, IsDue, Due, AllWritten, RunEnds, Ends, IsTranscript, IsStop, StopsByUsage, StopsByScript, StopsByFetch, StopsByFile, StopsByPut, WantsMemory, Halted}
+use Rattle.arctic_cli.specs.Endings.{Wrote, Start, IsDue, Due, AllWritten, RunEnds, Ends, IsTranscript, StopsByUsage, StopsByScript, StopsByFetch, StopsByFile, StopsByPut, WantsMemory}
 
 -- the status of replies is 0, 1 or 6
 status-kinds : (replies : List Reply) → (replies_status replies ≤ 1) ⊎ (replies_status replies ≡ 6)

@@ -9,4 +9,5 @@ pub mod Performing
 pub mod Running
 pub mod Ended
 pub mod Told
+pub mod Served
 pub mod Alone

@@ -1,9 +1,8 @@
 -- Loads that are read one after another.
-use Rattle.std.proofs.Common.{◌≡◌, ℕ, suc, ◌+◌, ◌-◌, ◌^◌, ◌<◌, ◌≤◌, List, [], ◌∷◌, ◌++◌, Err, length, map, get_or, take, drop, refl, sym, ap, ◌∙◌, subst, inl, inr, arith, add-one, drop-cons}
+use Rattle.std.proofs.Common.{◌≡◌, ℕ, ◌+◌, ◌<◌, ◌≤◌, List, [], ◌∷◌, ◌++◌, Err, length, map, get_or, take, drop, refl, sym, ap, ◌∙◌, subst, inl, inr, arith, add-one, drop-cons}
 use Rattle.std.specs.List.{AllZip, AllByRecursion}
 use Rattle.std.proofs.lemmas.List.{take-append-drop, take_more}
 use mathlib.Core.List.{map-append}
-use Rattle.base_types.specs.Faults.{Rose}
 use Rattle.frame_core.specs.RawFrames.{Table, table_of}
 use Rattle.frame_core.specs.declared.raw.RawFrame.{RawFrame}
 use Rattle.frame_core.specs.Texts.{Text}
@@ -19,7 +18,7 @@ use Rattle.arctic_cli.specs.Program.{job_of}
 use Rattle.arctic_cli.specs.declared.words.Options.{Options}
 use Rattle.arctic_cli.specs.Causes.{HeldAs, NotFetched, FindsScript, GivesTable, ReachesLoad, IsPrepared, StopsBy}
 use Rattle.arctic_cli.proofs.Prints.{rose-later}
-use Rattle.arctic_cli.specs.Preparing.{FindsJob, LoadHalts, FailsAt, LoadsHalt, PlanIs}
+use Rattle.arctic_cli.specs.Preparing.{FindsJob, LoadHalts, LoadsHalt, PlanIs}
 
 -- one pair more
 pub allzip-push : {A B : Type 0} (R : A → B → Type 0) (xs : List A) (ys : List B) (x : A) (y : B) → AllZip R xs ys → R x y → AllZip R (xs ++ x ∷ []) (ys ++ y ∷ [])

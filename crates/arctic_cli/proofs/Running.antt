@@ -1,12 +1,11 @@
 -- How a run ends whose lines were printed.
-use Rattle.std.proofs.Common.{◌≡◌, ℤ, w64, SFits, ℕ, ◌⊎◌, List, Option, Some, Result, Ok, Err, refl, sym, ap, ◌∙◌, subst, inl, inr}
+use Rattle.std.proofs.Common.{◌≡◌, ℤ, w64, SFits, ℕ, List, Option, Result, Ok, Err, refl, sym, ◌∙◌, subst, inl, inr}
 use Rattle.std.specs.Prelude.{IsOk, IsErrOf}
 use Rattle.std.specs.List.{concat}
 use Rattle.std.proofs.lemmas.List.{append-nil}
 use Rattle.std.proofs.lemmas.Int.{to_z-of_z}
 use mir.Val.{to_z, of_z}
 use Rattle.program_edge.specs.Clocks.{IsReading}
-use Rattle.base_types.specs.Faults.{Rose}
 use Rattle.frame_core.specs.Texts.{Text}
 use Rattle.bucket_core.specs.History.{History}
 use Rattle.program_edge.specs.Shelves.{Held}

@@ -5,7 +5,7 @@
 --     GivesTable, ReachesLoad     the raw frame of a load, and a load before which all others are good
 --     IsBadScript, IsUnreadable, IsBadFile      why a run stops
 --     IsPrepared, Prepares    the job of the words, or why the run stops
-use Rattle.std.specs.Prelude.{◌≡◌, ◌⊎◌, ℕ, ⊤, List, ◌∷◌, ◌++◌, Option, Some, None, Result, Ok, Err}
+use Rattle.std.specs.Prelude.{◌≡◌, ◌⊎◌, ℕ, ⊤, List, ◌∷◌, ◌++◌, Some, None, Result, Ok, Err}
 use Rattle.std.specs.List.{AllZip}
 use Rattle.base_types.specs.Faults.{Rose}
 use Rattle.frame_core.specs.Texts.{Text}

@@ -22,9 +22,9 @@ use Rattle.program_edge.specs.declared.sink.SinkErr.TheVariants as sinks
 use Rattle.arctic_cli.specs.declared.stop.Stop.{Stop}
 use Rattle.arctic_cli.specs.declared.stop.Stop.TheVariants as stops
 use Rattle.arctic_cli.specs.CommandLine.{plain_words_of, first_set}
-use Rattle.arctic_cli.specs.Program.{Shelf, Job, prepared, stop_line, Run, run_of, stopped}
+use Rattle.arctic_cli.specs.Program.{Shelf, Job, stop_line, Run, run_of, stopped}
 use Rattle.arctic_cli.specs.Causes.{IsBadScript, IsUnreadable, IsBadFile, IsPrepared, Prepares}
-use Rattle.arctic_cli.specs.Performing.{AreServed, IsCarriedOut}
+use Rattle.arctic_cli.specs.Performing.{IsCarriedOut}
 
 -- ---- the output
 
@@ -169,7 +169,6 @@ pub record IsUnhindered (start : Start) (shelf_faults shelf_now faults now : ℕ
   pub shelf_works : Rose shelf_faults shelf_now → ⊥
   pub output_works : Rose faults now → ⊥
   pub room : length new < start.limit
-  pub served : (job : Job) → prepared held start.words ≡ Ok job → AreServed job.commands
 
 -- the status and the output are those of the run, if there is one
 abbrev pub IsRun : Option Run → Text → Option Text → ℕ → Type 0

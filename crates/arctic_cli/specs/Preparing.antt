@@ -4,14 +4,13 @@
 --     ScriptHalts             why there is no script
 --     said, FindsJob          what the words say; the script that they name, and their options
 --     job_in, PlanIs          the job of a plan; the plan of the words, or why there is none
-use Rattle.std.specs.Prelude.{◌≡◌, ℕ, ⊤, List, ◌∷◌, ◌++◌, map, Some, None, Result, Ok, Err}
+use Rattle.std.specs.Prelude.{◌≡◌, ℕ, ⊤, List, ◌∷◌, ◌++◌, map, None, Result, Ok, Err}
 use Rattle.std.specs.List.{AllZip}
 use Rattle.frame_core.specs.Texts.{Text}
 use Rattle.frame_core.specs.RawFrames.{Table, table_of}
 use Rattle.program_edge.specs.Shelves.{Held}
 use Rattle.script_lang.specs.declared.load.Load.{Load}
 use Rattle.script_lang.specs.declared.script.Script.{Script}
-use Rattle.arctic_cli.specs.declared.stop.Stop.{Stop}
 use Rattle.arctic_cli.specs.declared.stop.Stop.TheVariants as stops
 use Rattle.arctic_cli.specs.declared.stop.Halt.{Halt}
 use Rattle.arctic_cli.specs.declared.stop.Halt.TheVariants as halts

@@ -1,4 +1,4 @@
-use Rattle.std.proofs.Common.{◌≤◌, ◌≡◌, ◌++◌, ◌∙◌, Bool, map, length, subst, sym, ap, arith}
+use Rattle.std.proofs.Common.{◌≤◌, ◌≡◌, ◌++◌, ◌∙◌, Bool, map, length, subst, ap, arith}
 use Rattle.frame_core.specs.Frames.{cell_of}
 use Rattle.frame_core.specs.Schemas.{Schema}
 use Rattle.arctic_cli.specs.FrameText.{cell_text, further_fields}

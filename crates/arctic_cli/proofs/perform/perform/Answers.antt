@@ -1,4 +1,4 @@
-use Rattle.std.proofs.Common.{◌≡◌, ◌⊎◌, ◌∙◌, ◌+◌, ℕ, List, [], take, refl, sym, subst, inl, arith}
+use Rattle.std.proofs.Common.{◌⊎◌, ◌∙◌, ◌+◌, ℕ, List, [], take, refl, sym, subst, inl, arith}
 use Rattle.base_types.specs.Faults.{Rose}
 use Rattle.version_chain.specs.Traces.{GoesOn}
 use Rattle.reply_model.specs.declared.reply.Reply.{Reply}

@@ -1,4 +1,4 @@
-use Rattle.std.proofs.Common.{◌≡◌, ◌≤◌, ◌⊎◌, true, take, length}
+use Rattle.std.proofs.Common.{◌≡◌, ◌≤◌, ◌⊎◌, take, length}
 use Rattle.std.specs.Vec.{vec_len, vec_capacity}
 use Rattle.base_types.specs.Faults.{Rose}
 use Rattle.bucket_core.specs.Calls.{IsSteady}

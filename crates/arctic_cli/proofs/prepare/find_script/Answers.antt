@@ -1,8 +1,4 @@
-use Rattle.std.proofs.Common.{rules, ◌≡◌, refl, sym, subst}
-use Rattle.std.specs.Prelude.{Some}
-use Rattle.frame_core.specs.Texts.{Text}
-use Rattle.arctic_cli.specs.Jobs.{script_in}
-use Rattle.arctic_cli.specs.Causes.{HeldAs}
+use Rattle.std.proofs.Common.{rules, refl, sym}
 use Rattle.arctic_cli.specs.Preparing.{said}
 use Rattle.arctic_cli.proofs.prepare.find_script.Goals as goal
 

@@ -1,4 +1,4 @@
-use Rattle.std.proofs.Common.{◌≡◌, ◌≤◌, ◌∙◌, map, sym, ap, subst, arith}
+use Rattle.std.proofs.Common.{◌∙◌, map, subst, arith}
 use Rattle.frame_core.specs.RawFrames.{table_of}
 use Rattle.arctic_cli.specs.Causes.{GivesTable}
 use Rattle.arctic_cli.specs.Preparing.{LoadHalts}

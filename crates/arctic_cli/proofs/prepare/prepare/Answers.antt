@@ -1,4 +1,4 @@
-use Rattle.std.proofs.Common.{◌≡◌, ℕ, List, length, map, ◌∙◌, sym, ap, subst}
+use Rattle.std.proofs.Common.{ℕ, List, length, map, ◌∙◌, sym, ap, subst}
 use Rattle.std.specs.List.{AllZip, AllByRecursion}
 use Rattle.std.proofs.lemmas.List.{length-map}
 use Rattle.frame_core.specs.RawFrames.{table_of}

@@ -2,7 +2,6 @@ use Rattle.std.proofs.Common.{◌≡◌, ◌∙◌, Result, Err, map, sym, subst
 use Rattle.std.specs.Prelude.{IfOk}
 use Rattle.std.specs.List.{concat}
 use Rattle.frame_core.specs.Texts.{Text}
-use Rattle.std.proofs.lemmas.Option.{slice_get-get_or}
 use Rattle.program_edge.specs.declared.sink.SinkErr.{SinkErr}
 use Rattle.arctic_cli.specs.FrameText.{ended}
 use Rattle.arctic_cli.specs.Endings.{Prints}

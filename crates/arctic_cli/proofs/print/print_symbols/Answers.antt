@@ -1,6 +1,5 @@
 use Rattle.std.proofs.Common.{◌≡◌, Result, Err, map, sym, subst}
 use Rattle.std.specs.List.{concat}
-use Rattle.std.proofs.lemmas.Option.{slice_get-get_or}
 use Rattle.program_edge.specs.declared.sink.SinkErr.{SinkErr}
 use Rattle.arctic_cli.specs.Transcript.{symbol_line}
 use Rattle.arctic_cli.specs.Endings.{Prints}

@@ -4,7 +4,6 @@ use Rattle.std.proofs.lemmas.Option.{slice_get-get_or}
 use Rattle.program_edge.specs.declared.sink.SinkErr.{SinkErr}
 use Rattle.arctic_cli.specs.Transcript.{version_line}
 use Rattle.arctic_cli.specs.Endings.{Prints}
-use Rattle.arctic_cli.proofs.Commas.{got-at}
 use Rattle.arctic_cli.proofs.Prints.{row-more, row-refused, handed-on}
 use Rattle.arctic_cli.proofs.Shown.{slice_get-map}
 use Rattle.arctic_cli.proofs.print.print_versions.Goals as goal

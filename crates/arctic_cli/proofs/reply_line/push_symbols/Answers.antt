@@ -1,4 +1,4 @@
-use Rattle.std.proofs.Common.{◌≡◌, ◌∙◌, false, Some, ap, sym}
+use Rattle.std.proofs.Common.{◌∙◌, false, Some, ap, sym}
 use Rattle.arctic_cli.proofs.Commas.{further-more, got-at}
 use Rattle.arctic_cli.proofs.reply_line.push_symbols.Goals as goal
 

@@ -1,4 +1,3 @@
-use Rattle.std.proofs.Common.{◌∙◌}
 use Rattle.arctic_cli.specs.Program.{run_of}
 use Rattle.arctic_cli.proofs.Running.{printed-ends}
 use Rattle.arctic_cli.proofs.run.run_replies.Goals as goal

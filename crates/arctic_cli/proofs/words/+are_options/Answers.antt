@@ -1,8 +1,8 @@
-use Rattle.std.proofs.Common.{rules, ◌≡◌, ◌∙◌, Bool, true, List, ℕ, Bor, map, take, drop, length, ap, sym, subst}
-use Rattle.std.specs.Prelude.{◌-◌, is_none}
+use Rattle.std.proofs.Common.{rules, ◌≡◌, ◌∙◌, true, Bor, map, take, drop, length, ap, sym}
+use Rattle.std.specs.Prelude.{◌-◌}
 use Rattle.std.specs.String.{string_bytes}
 use Rattle.frame_core.specs.Texts.{Text}
-use Rattle.arctic_cli.specs.CommandLine.{first_set, is_option, value_given, are_options}
+use Rattle.arctic_cli.specs.CommandLine.{first_set, is_option, value_given}
 use Rattle.arctic_cli.proofs.WordPairs.{options-behind, given-some, given-none, and-out, and-in}
 use Rattle.arctic_cli.proofs.words.+are_options.Goals as goal
 

@@ -1,4 +1,4 @@
-use Rattle.std.proofs.Common.{◌≡◌, ◌∙◌, ap, sym}
+use Rattle.std.proofs.Common.{◌∙◌, ap, sym}
 use Rattle.std.specs.String.{string_bytes}
 use Rattle.frame_core.specs.Texts.{same_text}
 use Rattle.arctic_cli.proofs.WordPairs.{given-behind}

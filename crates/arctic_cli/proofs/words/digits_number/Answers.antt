@@ -1,4 +1,4 @@
-use Rattle.std.proofs.Common.{◌≡◌, ◌≤◌, ◌∙◌, List, ℕ, Some, None, length, sym, ap, subst, arith}
+use Rattle.std.proofs.Common.{◌≡◌, ◌≤◌, ◌∙◌, Some, None, length, sym, ap, subst, arith}
 use Rattle.script_lang.specs.Fronts.{where_true, digits_at}
 use Rattle.frame_core.specs.Texts.{Text}
 use Rattle.arctic_cli.proofs.Digits.{whole-long, whole-none, whole-some}
