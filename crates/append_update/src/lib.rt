@@ -1,0 +1,6 @@
+//! Appends and updates: a new version of a symbol that shares the tiles of its newest live version.
+#![tactic(auto)]
+
+mod cuts;
+
+pub use base_types::NoMemory;
