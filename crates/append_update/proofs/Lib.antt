@@ -1,3 +1,4 @@
 pub mod ListLemmas
 pub mod SlotLemmas
 pub mod RangeLemmas
+pub mod RunLemmas

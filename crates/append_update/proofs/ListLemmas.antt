@@ -10,7 +10,7 @@ FallsOff p [] = ⊤
 FallsOff p (x ∷ []) = ⊤
 FallsOff p (x ∷ y ∷ more) = (p y ≡ true → p x ≡ true) × FallsOff p (y ∷ more)
 
-falls_later : {X : Type 0} (p : X → Bool) (x : X) (xs : List X) → FallsOff p (x ∷ xs) → FallsOff p xs
+pub falls_later : {X : Type 0} (p : X → Bool) (x : X) (xs : List X) → FallsOff p (x ∷ xs) → FallsOff p xs
 falls_later p x [] falls = tt
 falls_later p x (y ∷ more) falls = falls.1
 
@@ -32,6 +32,9 @@ filter_none p (x ∷ xs) none = rw none.0 (filter_none p xs none.1)
 -- how many pass
 abbrev pub passing : {X : Type 0} → (X → Bool) → List X → ℕ
 passing p xs = length (filter p xs)
+
+pub none_passing : {X : Type 0} (p : X → Bool) (x : X) (xs : List X) → FallsOff p (x ∷ xs) → p x ≡ false → passing p (x ∷ xs) ≡ 0
+none_passing p x xs falls e = rw e (ap length (filter_none p xs (none_behind p x xs falls e)))
 
 -- the first ones pass, and the others do not
 pub record IsDivided {X : Type 0} (p : X → Bool) (xs : List X) : Type 0 where
