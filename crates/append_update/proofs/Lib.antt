@@ -2,3 +2,4 @@ pub mod ListLemmas
 pub mod SlotLemmas
 pub mod RangeLemmas
 pub mod RunLemmas
+pub mod FrameLemmas

@@ -1,3 +1,4 @@
 pub mod Slots
 pub mod Bases
 pub mod Runs
+pub mod Replacing

@@ -2,5 +2,7 @@
 #![tactic(auto)]
 
 mod cuts;
+mod pieces;
 
 pub use base_types::NoMemory;
+pub use pieces::Piece;
