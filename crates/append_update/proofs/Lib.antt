@@ -3,3 +3,4 @@ pub mod SlotLemmas
 pub mod RangeLemmas
 pub mod RunLemmas
 pub mod FrameLemmas
+pub mod ReplaceLemmas

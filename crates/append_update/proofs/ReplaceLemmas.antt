@@ -1,9 +1,9 @@
 -- The pieces of an update hold the rows that it makes of the base.
-use Rattle.std.proofs.Common.{◌≡◌, ℕ, zero, suc, ◌+◌, ◌-◌, ◌<◌, ◌≤◌, ℤ, ◌≤ℤ◌, Bool, true, false, not, List, [], ◌∷◌, ◌++◌, length, take, drop, Option, Some, None, refl, sym, ap, ◌∙◌, subst, arith, append_assoc, append-nil}
+use Rattle.std.proofs.Common.{◌≡◌, ℕ, zero, suc, ◌+◌, ◌-◌, ◌<◌, ◌≤◌, ℤ, ◌≤ℤ◌, Bool, true, false, not, List, [], ◌∷◌, ◌++◌, length, take, drop, Option, Some, None, refl, sym, ap, ◌∙◌, subst, arith}
 use Rattle.std.specs.Prelude.{slice_range, filter, Contains, int_lt}
 use Rattle.std.specs.List.{AllByRecursion, flat_map}
 use Rattle.std.proofs.lemmas.Bool.{true≢false}
-use Rattle.std.proofs.lemmas.List.{take-append-drop, drop-drop}
+use Rattle.std.proofs.lemmas.List.{take-append-drop, append_assoc, append-nil}
 use Rattle.std.proofs.lemmas.List.Folds.{drop_split}
 use Rattle.std.proofs.lemmas.List.Elements.{filter-append}
 use Rattle.std.proofs.lemmas.Grind.{flat_map-append}
@@ -51,15 +51,11 @@ map_all : {X : Type 0} (P Q : X → Type 0) → ((x : X) → P x → Q x) → (x
 map_all P Q f [] all = tt
 map_all P Q f (x ∷ xs) all = (f x all.0, map_all P Q f xs all.1)
 
-in_all : {X : Type 0} (P : X → Type 0) (xs : List X) → ((x : X) → Contains xs x → P x) → AllByRecursion P xs
-in_all P [] each = tt
-in_all P (x ∷ xs) each = (each x (contains_first x xs), in_all P xs (λ y there. each y (contains_later y x xs there)))
-
 module _ (base : Frame) (index : Index) (of_base : IsIndexOf base index) (range : Range) where
-  slots : List Slot
+  abbrev slots : List Slot
   slots = index.slots
 
-  columns : ℕ
+  abbrev columns : ℕ
   columns = length index.schema.columns
 
   rises : NeverFall (stamps_of base.rows)
@@ -76,16 +72,16 @@ module _ (base : Frame) (index : Index) (of_base : IsIndexOf base index) (range 
 
   -- ---- the four tests
 
-  ends_below : Slot → Bool
+  abbrev ends_below : Slot → Bool
   ends_below s = is_below range s.last
 
-  begins_below : Slot → Bool
+  abbrev begins_below : Slot → Bool
   begins_below s = is_below range s.first
 
-  ends_by : Slot → Bool
+  abbrev ends_by : Slot → Bool
   ends_by s = not (is_above range s.last)
 
-  begins_by : Slot → Bool
+  abbrev begins_by : Slot → Bool
   begins_by s = not (is_above range s.first)
 
   ends_of_blocks : IsOfBlocks columns ends_below
@@ -213,7 +209,8 @@ module _ (base : Frame) (index : Index) (of_base : IsIndexOf base index) (range 
         ∙ ap (λ rs. low ++ (frame.rows ++ rs)) tail) in
         let whole : flat_map held (replaced slots cuts edges frame) ≡ rows_of_slots base (take cuts.below slots) ++ (low ++ (frame.rows ++ (high ++ rows_of_slots base (drop cuts.reached slots)))) =
         ap (λ rs. rs ++ flat_map held (fresh edges.below ++ (pieces.Fresh frame ∷ fresh edges.above ++ (pieces.Shared (drop cuts.reached slots) ∷ [])))) first ∙ ap (λ rs. rows_of_slots base (take cuts.below slots) ++ rs) mid in
-        ap (λ rs. rs ++ (frame.rows ++ rows_above range base.rows)) below_rows
-        ∙ (append_assoc {l₁ = rows_of_slots base (take cuts.below slots)} {l₂ = low} {l₃ = frame.rows ++ rows_above range base.rows}
+        append_assoc (rows_below range base.rows) frame.rows (rows_above range base.rows)
+        ∙ (ap (λ rs. rs ++ (frame.rows ++ rows_above range base.rows)) below_rows
+        ∙ (append_assoc (rows_of_slots base (take cuts.below slots)) low (frame.rows ++ rows_above range base.rows)
         ∙ (ap (λ rs. rows_of_slots base (take cuts.below slots) ++ (low ++ (frame.rows ++ rs))) above_rows
-        ∙ sym whole))
+        ∙ sym whole)))
