@@ -15,12 +15,8 @@ use Rattle.reply_model.specs.Tries.{put_of}
 use Rattle.reply_model.proofs.Covering.{event_at_later, event_at_end}
 use Rattle.reply_model.proofs.Places.{none_of_reversed, none_of_filtered}
 use Rattle.store_model.proofs.Stability.{is_false}
-use Rattle.frame_write.specs.Traces.{own_of, met_in}
+use Rattle.frame_write.specs.Traces.{own_of, met_in, own_refers}
 use Rattle.frame_write.specs.Tries.{IsMet}
-
--- the client's own Refers of the symbol
-abbrev pub own_refers : ℕ → Name → Event → Bool
-own_refers client symbol e = nat_eq (author e) client && refers symbol e
 
 pub others_refer_not : (client : ℕ) (symbol : Name) (more : History) → AllByOthers client more → list_any (own_refers client symbol) more ≡ false
 others_refer_not client symbol [] others = refl

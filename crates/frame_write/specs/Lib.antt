@@ -6,3 +6,7 @@ pub mod Plans
 pub mod Loops
 pub mod Tries
 pub mod Writes
+pub mod Pieces
+pub mod Links
+pub mod Laying
+pub mod Versions

@@ -1,94 +1,118 @@
--- What one try did, and what all tries did.
+-- What one try to commit a new version did, and what all tries did.
+--     Made                what a commit made
+--     PutsIndex           the puts of a try end with this index and an element
 --     DidCommit           the tries' last event is the Refer of the new version
---     IsMet               another's Refer of the symbol stands in what was added
+--     IsMet               another's Refer of the symbol stands behind a place
 --     DidMeet             a try that was refused: its puts, and the drops of the same keys
 --     IsPart, DidStop     a try of which a call failed
 --     DidTry              what one try did
+--     DidRefuse           a try that made no event, since the one-thread library refuses the command
 --     DidTries            what all did
-use Rattle.std.specs.Prelude.{◌≡◌, ◌≢◌, ◌⊎◌, ℕ, ◌<◌, ◌≤◌, ℤ, Bool, true, List, [], ◌∷◌, ◌++◌, map, length, take, Option, Some, Result, Ok, Err}
+use Rattle.std.specs.Prelude.{◌≡◌, ◌≢◌, ◌⊎◌, ℕ, ◌<◌, ◌≤◌, Bool, true, List, [], ◌∷◌, ◌++◌, map, length, take, Option, Some, Result, Ok, Err}
 use Rattle.std.specs.List.{flat_map, AllByRecursion}
 use Rattle.base_types.specs.Faults.{Rose}
-use Rattle.frame_core.specs.Frames.{Frame}
+use Rattle.frame_core.specs.declared.refusal.Refusal.{Refusal}
 use Rattle.frame_core.specs.declared.refusal.Refusal.TheVariants as refusals
 use Rattle.frame_core.specs.declared.refusal.Refused.{Refused}
+use Rattle.index_tree.specs.declared.index.Index.{Index}
+use Rattle.index_tree.specs.IndexText.{index_of}
 use Rattle.key_kind.specs.declared.key.Key.{Key}
 use Rattle.key_kind.specs.Names.{Name}
+use Rattle.bucket_core.specs.declared.event.Change.{Change}
 use Rattle.bucket_core.specs.declared.event.Event.{Event}
 use Rattle.bucket_core.specs.declared.event.Event.TheVariants as events
-use Rattle.bucket_core.specs.History.{History, Bytes, author, event_at}
+use Rattle.bucket_core.specs.History.{History, Bytes, author, event_at, history_at}
 use Rattle.bucket_core.specs.Laws.{refers}
 use Rattle.store_model.specs.Library.{state_of, next_number}
 use Rattle.store_model.specs.Law.{IsLawful}
+use Rattle.version_chain.specs.States.{IsWithin}
 use Rattle.reply_model.specs.Tries.{put_of, drop_of, IsTry, IsRefused}
-use Rattle.frame_write.specs.declared.attempt.Tried.{Tried}
-use Rattle.frame_write.specs.declared.attempt.Tried.TheVariants as tried
 use Rattle.frame_write.specs.declared.options.Committed.{Committed}
 use Rattle.frame_write.specs.Traces.{Went, met_in}
 use Rattle.frame_write.specs.Stops.{StopsAt, HasCause}
-use Rattle.frame_write.specs.Plans.{changes_on}
 
--- the puts of a try stand, and behind them the Refer of the new version
-pub record DidCommit (client : ℕ) (sole : Bool) (symbol : Name) (frame : Frame) (at : ℤ) (prune : Bool) (old new : History) (done : Committed) : Type 0 where
+-- what a commit made: the history just before its Refer, the changes of the Refer, what was put, and the index among it
+pub record Made : Type 0 where
+  pub before : History
+  pub list : List Change
   pub puts : List (Key × Bytes)
+  pub index : Index
+
+-- the puts are some tiles, then this index, and an element
+pub record PutsIndex (puts : List (Key × Bytes)) (index : Index) : Type 0 where
+  pub tiles : List (Key × Bytes)
+  pub key : Key
+  pub body : Bytes
+  pub element : Key × Bytes
+  pub is : puts ≡ tiles ++ (key, body) ∷ element ∷ []
+  pub spelled : index_of body ≡ Ok index
+
+-- the puts of a try stand, and behind them the Refer of the new version; what was made is what was asked
+pub record DidCommit (client : ℕ) (sole : Bool) (symbol : Name) (Asked : Made → Type 0) (old new : History) (done : Committed) : Type 0 where
+  pub made : Made
   pub was : Option Key
   pub entry : Key
-  pub is_try : IsTry symbol true puts entry
-  pub before : History
-  pub newest : new ≡ events.Refer client symbol was entry (changes_on before symbol frame at prune) ∷ before
-  pub went : Went client sole old before (map (put_of client) puts)
+  pub is_try : IsTry symbol true made.puts entry
+  pub index : PutsIndex made.puts made.index
+  pub asked : Asked made
+  pub newest : new ≡ events.Refer client symbol was entry made.list ∷ made.before
+  pub went : Went client sole old made.before (map (put_of client) made.puts)
   pub lawful : IsLawful old → IsLawful new
-  pub version : done.version ≡ next_number (state_of before symbol)
+  pub version : done.version ≡ next_number (state_of made.before symbol)
   pub place : done.place ≡ length new
 
--- event n is another's Refer of the symbol, and was added
-pub record IsMet (client : ℕ) (symbol : Name) (old new : History) (n : ℕ) : Type 0 where
-  pub added : length old < n
-  pub within : n ≤ length new
+-- event n is another's Refer of the symbol, and stands behind the place
+pub record IsMet (client : ℕ) (symbol : Name) (from : ℕ) (h : History) (n : ℕ) : Type 0 where
+  pub added : from < n
+  pub within : n ≤ length h
   pub event : Event
-  pub at : event_at new n ≡ Some event
+  pub at : event_at h n ≡ Some event
   pub refers : refers symbol event ≡ true
   pub others : author event ≢ client
 
--- a refused try: its puts and the drops of the same keys
-pub record DidMeet (client : ℕ) (sole : Bool) (symbol : Name) (old new : History) (now : ℕ) : Type 0 where
+-- a refused try: its puts and the drops of the same keys, since another's Refer stands behind the place at which the try began
+pub record DidMeet (client : ℕ) (sole : Bool) (symbol : Name) (from : ℕ) (old new : History) (refused : Refused) : Type 0 where
   pub own : List Event
-  pub refused : IsRefused client symbol true own
+  pub is_refused : IsRefused client symbol true own
   pub went : Went client sole old new own
-  pub some : 1 ≤ met_in client symbol went.more
-  pub met : IsMet client symbol old new now
+  pub met : IsMet client symbol from new refused.place
+  pub why : refused.why ≡ refusals.Moved refused.place
 
--- the own events of a try that stopped: none; some of its puts; or all, and some of its drops
-pub data IsPart (client : ℕ) (symbol : Name) (met : ℕ) : List Event → Type 0 where
-  no_event : IsPart client symbol met []
-  some_puts : (n : ℕ) (puts : List (Key × Bytes)) (entry : Key) → IsTry symbol true puts entry → IsPart client symbol met (map (put_of client) (take n puts))
-  some_drops : (n : ℕ) (puts : List (Key × Bytes)) (entry : Key) → IsTry symbol true puts entry → 1 ≤ met → IsPart client symbol met (map (put_of client) puts ++ map (drop_of client) (take n puts))
+-- the own events of a try that stopped: none; some of its puts; or all, and some of its drops, since another's Refer was met
+pub data IsPart (client : ℕ) (symbol : Name) (from : ℕ) (new : History) : List Event → Type 0 where
+  no_event : IsPart client symbol from new []
+  some_puts : (n : ℕ) (puts : List (Key × Bytes)) (entry : Key) → IsTry symbol true puts entry → IsPart client symbol from new (map (put_of client) (take n puts))
+  some_drops : (n : ℕ) (puts : List (Key × Bytes)) (entry : Key) → IsTry symbol true puts entry → (at : ℕ) → IsMet client symbol from new at
+      → IsPart client symbol from new (map (put_of client) puts ++ map (drop_of client) (take n puts))
 
 -- a call of a try failed
-pub record DidStop (client : ℕ) (sole : Bool) (symbol : Name) (limit before now : ℕ) (old new : History) (refused : Refused) : Type 0 where
+pub record DidStop (client : ℕ) (sole : Bool) (symbol : Name) (limit before now from : ℕ) (old new : History) (refused : Refused) : Type 0 where
   pub own : List Event
   pub went : Went client sole old new own
-  pub part : IsPart client symbol (met_in client symbol went.more) own
+  pub part : IsPart client symbol from new own
   pub stops : StopsAt client old new refused
   pub cause : HasCause limit before now new refused refused.why
 
 -- the store failed, and yet the commit stands
-pub record DidCommitFaulted (client : ℕ) (sole : Bool) (symbol : Name) (frame : Frame) (at : ℤ) (prune : Bool) (before now : ℕ) (old new : History) (refused : Refused) : Type 0 where
+pub record DidCommitFaulted (client : ℕ) (sole : Bool) (symbol : Name) (Asked : Made → Type 0) (before now : ℕ) (old new : History) (refused : Refused) : Type 0 where
   pub done : Committed
-  pub commit : DidCommit client sole symbol frame at prune old new done
+  pub commit : DidCommit client sole symbol Asked old new done
   pub why : refused.why ≡ refusals.StoreFault
   pub stops : StopsAt client old new refused
   pub rose : Rose before now
 
 -- what a refused call of a try left
-abbrev pub DidFail : ℕ → Bool → Name → Frame → ℤ → Bool → ℕ → ℕ → ℕ → History → History → Refused → Type 0
-DidFail client sole symbol frame at prune limit before now old new refused =
-    DidStop client sole symbol limit before now old new refused ⊎ DidCommitFaulted client sole symbol frame at prune before now old new refused
+abbrev pub DidFail : ℕ → Bool → Name → (Made → Type 0) → ℕ → ℕ → ℕ → ℕ → History → History → Refused → Type 0
+DidFail client sole symbol Asked limit before now from old new refused =
+    DidStop client sole symbol limit before now from old new refused ⊎ DidCommitFaulted client sole symbol Asked before now old new refused
 
--- what one try did
-abbrev pub DidTry : ℕ → Bool → Name → Frame → ℤ → Bool → ℕ → ℕ → ℕ → History → History → Result Tried Refused → Type 0
-DidTry client sole symbol frame at prune limit before now old new (Ok (tried.Done done)) = DidCommit client sole symbol frame at prune old new done
-DidTry client sole symbol frame at prune limit before now old new (Ok (tried.Met place)) = DidMeet client sole symbol old new place
-DidTry client sole symbol frame at prune limit before now old new (Err refused) = DidFail client sole symbol frame at prune limit before now old new refused
+-- what one try did that began at the place `from`: it committed what was asked, was met by another's Refer, or failed
+abbrev pub DidTry : ℕ → Bool → Name → (Made → Type 0) → ℕ → ℕ → ℕ → ℕ → History → History → Result Committed Refused → Type 0
+DidTry client sole symbol Asked limit before now from old new (Ok done) = DidCommit client sole symbol Asked old new done
+DidTry client sole symbol Asked limit before now from old new (Err refused) =
+    DidMeet client sole symbol from old new refused ⊎ DidFail client sole symbol Asked limit before now from old new refused
+
+-- ---- several tries
 
 -- so many refused tries
 pub record DidRefused (client : ℕ) (sole : Bool) (symbol : Name) (old new : History) (count : ℕ) : Type 0 where
@@ -97,6 +121,12 @@ pub record DidRefused (client : ℕ) (sole : Bool) (symbol : Name) (old new : Hi
   pub counted : length tries ≡ count
   pub went : Went client sole old new (flat_map (λ t. t) tries)
   pub met : count ≤ met_in client symbol went.more
+
+-- no event, since the one-thread library refuses so at the refusal's place, which is a place of the try
+pub record DidRefuse (client : ℕ) (sole : Bool) (Refuses : History → Refusal → Type 0) (old new : History) (refused : Refused) : Type 0 where
+  pub went : Went client sole old new []
+  pub place : IsWithin old new refused.place
+  pub refuses : Refuses (history_at new refused.place) refused.why
 
 -- fewer refused tries than may be made, and then one that came to another end
 pub record Then (client : ℕ) (sole : Bool) (symbol : Name) (most : ℕ) (old new : History) (Last : History → Type 0) : Type 0 where
@@ -109,12 +139,17 @@ pub record Then (client : ℕ) (sole : Bool) (symbol : Name) (most : ℕ) (old n
 -- each try was refused; the last met the Refer of this place
 pub record DidMeetAll (client : ℕ) (sole : Bool) (symbol : Name) (most : ℕ) (old new : History) (refused : Refused) : Type 0 where
   pub all : DidRefused client sole symbol old new most
-  pub met : IsMet client symbol old new refused.place
+  pub met : IsMet client symbol (length old) new refused.place
   pub why : refused.why ≡ refusals.Moved refused.place
 
--- what all tries did
-abbrev pub DidTries : ℕ → Bool → Name → Frame → ℤ → Bool → ℕ → ℕ → ℕ → ℕ → History → History → Result Committed Refused → Type 0
-DidTries client sole symbol frame at prune most limit before now old new (Ok done) =
-    Then client sole symbol most old new (λ mid. DidCommit client sole symbol frame at prune mid new done)
-DidTries client sole symbol frame at prune most limit before now old new (Err refused) =
-    DidMeetAll client sole symbol most old new refused ⊎ Then client sole symbol most old new (λ mid. DidFail client sole symbol frame at prune limit before now mid new refused)
+-- how the last try ended, if it was not met: it failed, or the library refuses the command
+abbrev pub DidEnd : ℕ → Bool → Name → (Made → Type 0) → (History → Refusal → Type 0) → ℕ → ℕ → ℕ → History → History → Refused → Type 0
+DidEnd client sole symbol Asked Refuses limit before now old new refused =
+    DidFail client sole symbol Asked limit before now (length old) old new refused ⊎ DidRefuse client sole Refuses old new refused
+
+-- what all tries did of a command that asks for this, and that the library refuses so
+abbrev pub DidTries : ℕ → Bool → Name → (Made → Type 0) → (History → Refusal → Type 0) → ℕ → ℕ → ℕ → ℕ → History → History → Result Committed Refused → Type 0
+DidTries client sole symbol Asked Refuses most limit before now old new (Ok done) =
+    Then client sole symbol most old new (λ mid. DidCommit client sole symbol Asked mid new done)
+DidTries client sole symbol Asked Refuses most limit before now old new (Err refused) =
+    DidMeetAll client sole symbol most old new refused ⊎ Then client sole symbol most old new (λ mid. DidEnd client sole symbol Asked Refuses limit before now mid new refused)

@@ -3,10 +3,14 @@
 #![tactic(auto)]
 
 mod attempt;
+mod commit;
 mod drops;
 mod elements;
+mod laying;
+mod link;
 mod numbers;
 mod options;
+mod pieces;
 mod placing;
 mod plan;
 mod puts;
@@ -17,5 +21,7 @@ mod tiles;
 mod write;
 
 pub use base_types::NoMemory;
+pub use link::link_on;
 pub use options::{Committed, Options};
+pub use pieces::{LinkPlan, Piece};
 pub use write::write_link;

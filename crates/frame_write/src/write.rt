@@ -1,11 +1,12 @@
-ghost use Rattle.std.specs.Prelude.{◌≡◌, ◌≤◌};
+ghost use Rattle.std.specs.Prelude.{◌≡◌, ◌≤◌, true, length, IfOk};
 ghost use Rattle.frame_core.specs.Limits.{IsStorable};
+ghost use Rattle.segment_cut.specs.Grids.{parts, grid_of};
 ghost use Rattle.bucket_core.specs.Calls.{IsSteady};
 ghost use Rattle.frame_write.specs.Placing.{AreTilesOf};
 ghost use Rattle.frame_write.specs.Tries.{DidTries};
-ghost use Rattle.frame_write.specs.Writes.{GoesOn, IsLegalWrite};
+ghost use Rattle.frame_write.specs.Writes.{GoesOn, IsLegalWrite, IsWritten, never, StandsAlone};
 
-use crate::attempt::{Tried, attempt};
+use crate::attempt::attempt;
 use crate::options::{Committed, Options};
 use crate::tiles::{Tile, tiles_of};
 use bucket_core::Bucket;
@@ -29,13 +30,16 @@ fn try_all<R: Wait, B: Bucket<StoreLaw>>(
     requires tiles { AreTilesOf frame.now options.now.cutting tiles.now }
     requires some_tries { 1 ≤ options.now.tries }
     ensures steady { IsSteady B.number B.limit B.faults B.sole bucket.old bucket.new }
-    ensures did { DidTries (B.number bucket.old) (B.sole bucket.old) symbol.now frame.now options.now.at options.now.prune options.now.tries (B.limit bucket.old) (B.faults bucket.old) (B.faults bucket.new) (B.seen bucket.old) (B.seen bucket.new) result }
+    ensures did { DidTries (B.number bucket.old) (B.sole bucket.old) symbol.now (IsWritten symbol.now frame.now options.now) never options.now.tries (B.limit bucket.old) (B.faults bucket.old) (B.faults bucket.new) (B.seen bucket.old) (B.seen bucket.new) result }
 {
     let mut met = 0;
     for _ in 0..options.tries {
-        match attempt(rt, alloc, bucket, symbol, frame, tiles, options)? {
-            Tried::Done(committed) => return Ok(committed),
-            Tried::Met(place) => met = place,
+        match attempt(rt, alloc, bucket, symbol, frame, tiles, options) {
+            Err(Refused {
+                why: Refusal::Moved { now },
+                ..
+            }) => met = now,
+            end => return end,
         }
     }
     Err(Refused {
@@ -63,6 +67,8 @@ pub fn write_link<R: Wait, B: Bucket<StoreLaw>>(
     ensures steady { IsSteady B.number B.limit B.faults B.sole bucket.old bucket.new }
     ensures grown { GoesOn (B.number bucket.old) (B.sole bucket.old) (B.seen bucket.old) (B.seen bucket.new) }
     ensures legal { IsLegalWrite (B.limit bucket.old) (B.number bucket.old) options.now.tries symbol.now frame.now options.now.at options.now.prune (B.faults bucket.old) (B.faults bucket.new) (B.seen bucket.old) (B.seen bucket.new) result }
+    // A client that is alone knows the place.
+    ensures alone { B.sole bucket.old ≡ true → IfOk result (StandsAlone (length (parts (grid_of frame.now options.now.cutting))) (B.seen bucket.old)) }
 {
     let Ok(tiles) = tiles_of(alloc, frame, options.cutting) else {
         return Err(Refused {
