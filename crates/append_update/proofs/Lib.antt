@@ -4,3 +4,4 @@ pub mod RangeLemmas
 pub mod RunLemmas
 pub mod FrameLemmas
 pub mod ReplaceLemmas
+pub mod ToldLemmas

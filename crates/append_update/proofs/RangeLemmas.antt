@@ -9,7 +9,7 @@ use Rattle.frame_core.specs.Ranges.{Range, is_below, is_above}
 use Rattle.frame_core.specs.Frames.{Row, Frame, NeverFall, stamps_of, first_stamp, last_stamp, rows_below, rows_above}
 use Rattle.index_tree.specs.declared.index.Slot.{Slot}
 use Rattle.index_tree.specs.IndexRules.{IsSlot, SameBlock, NextBlock, Follows, LeadOn, Cover}
-use Rattle.append_update.specs.Slots.{HasSlotStamps}
+use Rattle.store_model.specs.Commits.{HasSlotStamps}
 use Rattle.append_update.specs.Bases.{rows_at, rows_of_slots}
 use Rattle.append_update.proofs.ListLemmas.{FallsOff}
 

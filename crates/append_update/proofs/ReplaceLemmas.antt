@@ -14,14 +14,14 @@ use Rattle.frame_core.specs.Limits.{IsStorable}
 use Rattle.index_tree.specs.declared.index.Slot.{Slot}
 use Rattle.index_tree.specs.declared.index.Index.{Index}
 use Rattle.index_tree.specs.IndexRules.{IsSlot, SameBlock, NextBlock, LeadOn, Cover, IsIndex}
-use Rattle.append_update.specs.Slots.{HasSlotStamps}
+use Rattle.store_model.specs.Commits.{HasSlotStamps}
 use Rattle.append_update.specs.Bases.{IsIndexOf, rows_at, rows_of_slots, Divides}
-use Rattle.append_update.specs.Runs.{begin_of, end_of, IsRun}
-use Rattle.append_update.specs.Held.{IsPiece, rows_held}
+use Rattle.frame_write.specs.Pieces.{begin_of, end_of, IsRun}
+use Rattle.frame_write.specs.Pieces.{IsPiece, rows_held}
 use Rattle.append_update.specs.declared.cuts.Cuts.{Cuts}
 use Rattle.append_update.specs.declared.pieces.Edges.{Edges}
-use Rattle.append_update.specs.declared.pieces.Piece.{Piece}
-use Rattle.append_update.specs.declared.pieces.Piece.TheVariants as pieces
+use Rattle.frame_write.specs.declared.pieces.Piece.{Piece}
+use Rattle.frame_write.specs.declared.pieces.Piece.TheVariants as pieces
 use Rattle.append_update.specs.Replacing.{fresh, appended, replaced, IsLeft, AreEdges}
 use Rattle.append_update.proofs.ListLemmas.{FallsOff, passing, divided, passing-le, take_all_of, drop_all_of}
 use Rattle.append_update.proofs.SlotLemmas.{rows_of_run, rows_of_all, cover_is_run}

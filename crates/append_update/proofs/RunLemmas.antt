@@ -8,7 +8,7 @@ use Rattle.std.proofs.lemmas.List.Elements.{filter-append}
 use Rattle.std.proofs.lemmas.List.Sums.{length-filter, count_by-le-length}
 use Rattle.index_tree.specs.declared.index.Slot.{Slot}
 use Rattle.index_tree.specs.IndexRules.{SameBlock, NextBlock, LeadOn}
-use Rattle.append_update.specs.Runs.{begin_of, end_of, IsRun}
+use Rattle.frame_write.specs.Pieces.{begin_of, end_of, IsRun}
 use Rattle.append_update.proofs.ListLemmas.{FallsOff, passing, divided, none_passing, falls_later}
 use Rattle.append_update.proofs.SlotLemmas.{end-lead}
 
@@ -29,10 +29,13 @@ module _ (columns : ℕ) (p : Slot → Bool) (of_blocks : IsOfBlocks columns p) 
           subst (λ n. LeadOn (end_of (s ∷ take n (t ∷ more))) columns s (take n (t ∷ more))) (sym count) (lead.0, rest e falls.1)
       by false e rest =
           let count : passing p (t ∷ more) ≡ 0 = none_passing p t more falls.1 e in
-          subst (λ n. LeadOn (end_of (s ∷ take n (t ∷ more))) columns s (take n (t ∷ more))) (sym count) (refl, elim lead.0 [
-            | inl same ↦ absurd (true≢false (sym pass ∙ of_blocks s t same ∙ e))
-            | inr block ↦ block.whole
-          ])
+          subst (λ n. LeadOn (end_of (s ∷ take n (t ∷ more))) columns s (take n (t ∷ more))) (sym count) (
+            refl,
+            elim lead.0 [
+              | inl same ↦ absurd (true≢false (sym pass ∙ of_blocks s t same ∙ e))
+              | inr block ↦ block.whole
+            ],
+          )
 
   lead-drop : (last : ℕ) (s : Slot) (more : List Slot) → LeadOn last columns s more → p s ≡ true → FallsOff p (s ∷ more) → IsRun columns (drop (passing p more) more)
   lead-drop last s [] lead pass falls = tt

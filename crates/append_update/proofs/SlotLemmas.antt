@@ -8,7 +8,7 @@ use Rattle.frame_core.specs.Frames.{Row, Frame}
 use Rattle.index_tree.specs.declared.index.Slot.{Slot}
 use Rattle.index_tree.specs.IndexRules.{IsSlot, SameBlock, NextBlock, LeadOn, Cover}
 use Rattle.append_update.specs.Bases.{rows_at, rows_of_slots}
-use Rattle.append_update.specs.Runs.{begin_of, end_of, IsRun}
+use Rattle.frame_write.specs.Pieces.{begin_of, end_of, IsRun}
 
 -- a slot behind the first column begins no row block
 not_zero : (n : ℕ) → 1 ≤ n → nat_eq n 0 ≡ false

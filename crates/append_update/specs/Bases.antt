@@ -10,7 +10,7 @@ use Rattle.frame_core.specs.Limits.{IsStorable}
 use Rattle.index_tree.specs.declared.index.Slot.{Slot}
 use Rattle.index_tree.specs.declared.index.Index.{Index}
 use Rattle.index_tree.specs.IndexRules.{IsIndex}
-use Rattle.append_update.specs.Slots.{HasSlotStamps}
+use Rattle.store_model.specs.Commits.{HasSlotStamps}
 use Rattle.append_update.specs.declared.cuts.Cuts.{Cuts}
 
 -- the index keeps the rules, has the frame's columns and number of rows, and each of its slots has the stamps of its rows

@@ -1,5 +1,3 @@
-pub mod Slots
 pub mod Bases
-pub mod Runs
 pub mod Replacing
-pub mod Held
+pub mod Replies

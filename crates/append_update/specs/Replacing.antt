@@ -8,8 +8,8 @@ use Rattle.frame_core.specs.Frames.{Row, Frame, rows_below, rows_above}
 use Rattle.index_tree.specs.declared.index.Slot.{Slot}
 use Rattle.append_update.specs.declared.cuts.Cuts.{Cuts}
 use Rattle.append_update.specs.declared.pieces.Edges.{Edges}
-use Rattle.append_update.specs.declared.pieces.Piece.{Piece}
-use Rattle.append_update.specs.declared.pieces.Piece.TheVariants as pieces
+use Rattle.frame_write.specs.declared.pieces.Piece.{Piece}
+use Rattle.frame_write.specs.declared.pieces.Piece.TheVariants as pieces
 use Rattle.append_update.specs.Bases.{rows_of_slots}
 
 -- a piece of these rows, if there are any

@@ -40,30 +40,21 @@ impl Cuts {
 fn ending_below(slots: &[Slot], range: Range) -> usize
     ensures { result ≡ length (filter (λ (s : Place). is_below range s.last) slots.now) }
 {
-    slots
-        .iter()
-        .filter(|slot| below(range, slot.last))
-        .count()
+    slots.iter().filter(|slot| below(range, slot.last)).count()
 }
 
 /// How many slots begin below the range.
 fn beginning_below(slots: &[Slot], range: Range) -> usize
     ensures { result ≡ length (filter (λ (s : Place). is_below range s.first) slots.now) }
 {
-    slots
-        .iter()
-        .filter(|slot| below(range, slot.first))
-        .count()
+    slots.iter().filter(|slot| below(range, slot.first)).count()
 }
 
 /// How many slots end not above the range.
 fn ending_by(slots: &[Slot], range: Range) -> usize
     ensures { result ≡ length (filter (λ (s : Place). not (is_above range s.last)) slots.now) }
 {
-    slots
-        .iter()
-        .filter(|slot| !above(range, slot.last))
-        .count()
+    slots.iter().filter(|slot| !above(range, slot.last)).count()
 }
 
 /// How many slots begin not above the range.

@@ -5,4 +5,4 @@ mod cuts;
 mod pieces;
 
 pub use base_types::NoMemory;
-pub use pieces::Piece;
+pub use frame_write::{Committed, Options};

@@ -6,15 +6,9 @@ ghost use Rattle.append_update.specs.Replacing.{fresh, appended, replaced};
 use crate::cuts::Cuts;
 use base_types::{Items, Keep, NoMemory};
 use frame_core::Frame;
+use frame_write::Piece;
 use index_tree::Slot;
 use std::alloc::Global;
-
-/// Rows of a new version, from column 0 to the last.
-#[derive(Drop)]
-pub enum Piece {
-    Shared(Items<Slot>),
-    Fresh(Frame),
-}
 
 /// What is left of the row blocks that a range cuts.
 #[derive(Drop)]
