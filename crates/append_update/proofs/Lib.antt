@@ -5,3 +5,4 @@ pub mod RunLemmas
 pub mod FrameLemmas
 pub mod ReplaceLemmas
 pub mod ToldLemmas
+pub mod NewestLemmas

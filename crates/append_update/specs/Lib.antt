@@ -1,3 +1,4 @@
 pub mod Bases
 pub mod Replacing
 pub mod Replies
+pub mod Newest

@@ -1,6 +1,7 @@
 //! Appends and updates: a new version of a symbol that shares the tiles of its newest live version.
 #![tactic(auto)]
 
+mod base;
 mod cuts;
 mod pieces;
 
