@@ -6,3 +6,5 @@ pub mod FrameLemmas
 pub mod ReplaceLemmas
 pub mod ToldLemmas
 pub mod NewestLemmas
+pub mod LastLemmas
+pub mod GoneLemmas

@@ -3,6 +3,7 @@
 
 mod base;
 mod cuts;
+mod judging;
 mod pieces;
 
 pub use base_types::NoMemory;
