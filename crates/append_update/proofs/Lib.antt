@@ -8,3 +8,6 @@ pub mod ToldLemmas
 pub mod NewestLemmas
 pub mod LastLemmas
 pub mod GoneLemmas
+pub mod AppendLemmas
+pub mod BaseLemmas
+pub mod UpdateLemmas

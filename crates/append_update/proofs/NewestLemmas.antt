@@ -102,6 +102,7 @@ module _ (tombs : List ℕ) where
     pub row_is : link.row ≡ row
     pub first : first_of (filter (λ (v : Version). lives v.number) vs) ≡ Some version
     pub pair : ∥ IsPaired link version ∥₁
+    pub live : lives row.version ≡ true
 
   first_live : (ls : List Linked) (vs : List Version) → ∥ AllZip IsPaired ls vs ∥₁ → (row : LinkRow) → find (λ (r : LinkRow). lives r.version) (map (λ (l : Linked). l.row) ls) ≡ Some row → First ls vs row
   first_live [] vs pairs row e = absurd cc
@@ -122,6 +123,7 @@ module _ (tombs : List ℕ) where
             row_is = some_same found;
             first = ap (λ b. first_of (cond b (v ∷ filter (λ (v : Version). lives v.number) vs) (filter (λ (v : Version). lives v.number) vs))) here;
             pair = ∥∥₁_map pairs (λ p. p.0);
+            live = subst (λ (r : LinkRow). lives r.version ≡ true) (some_same found) live;
           }
         where
           some_same : {x y : LinkRow} → Some x ≡ Some y → x ≡ y
@@ -136,6 +138,7 @@ module _ (tombs : List ℕ) where
             row_is = found.row_is;
             first = ap (λ b. first_of (cond b (v ∷ filter (λ (v : Version). lives v.number) vs) (filter (λ (v : Version). lives v.number) vs))) gone ∙ found.first;
             pair = found.pair;
+            live = found.live;
           }
 
   none_live : (ls : List Linked) (vs : List Version) → ∥ AllZip IsPaired ls vs ∥₁ → find (λ (r : LinkRow). lives r.version) (map (λ (l : Linked). l.row) ls) ≡ None → first_of (filter (λ (v : Version). lives v.number) vs) ≡ None
@@ -191,3 +194,14 @@ newest_is h symbol state row index lawful is e rules same =
       number = nat_told found.link.row.version v.number (∥∥₁_map found.pair (λ p. p.link.number));
       index_is = index_is;
     })
+
+-- the newest live link is a link of the symbol, and its version is not buried
+pub newest_linked : (h : History) (symbol : Name) (state : SymbolState) (row : LinkRow) → ∥ IsLawful h ∥₁ → IsStateOf h symbol state → newest_link state ≡ Some row
+    → ((l : Linked) × Contains (links h symbol) l × (l.row ≡ row)) × (is_buried (state_of h symbol) row.version ≡ false)
+newest_linked h symbol state row lawful is e =
+    let found = first_live (state_of h symbol).buried (links h symbol) (state_of h symbol).versions (lawful_is_paired h symbol lawful) row (newest_found h symbol state is (Some row) e) in
+    ((found.link, found.link_is, found.row_is), not_true (is_tomb (state_of h symbol).buried row.version) found.live)
+  where
+    not_true : (b : Bool) → not b ≡ true → b ≡ false
+    not_true true e = absurd (true≢false (sym e))
+    not_true false e = refl

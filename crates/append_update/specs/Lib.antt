@@ -2,3 +2,4 @@ pub mod Bases
 pub mod Replacing
 pub mod Replies
 pub mod Newest
+pub mod Looking
