@@ -1,50 +1,54 @@
--- What all tries did makes a legal reply.
-use Rattle.std.proofs.Common.{◌≡◌, ◌⊎◌, ℕ, suc, ◌+◌, ◌-◌, ◌≤◌, ◌<◌, ℤ, Bool, true, false, List, [], ◌∷◌, ◌++◌, length, take, drop, ◌||◌, refl, ap, sym, ◌∙◌, subst, inl, inr, Option, Some, None, arith, Result, Ok, Err}
+-- What all tries did makes a legal reply, for each command that asks for what was made.
+use Rattle.std.proofs.Common.{◌≡◌, ◌⊎◌, ℕ, suc, ◌+◌, ◌≤◌, ◌<◌, ℤ, Bool, true, false, List, [], ◌∷◌, ◌++◌, length, take, drop, ◌||◌, refl, ap, sym, ◌∙◌, subst, inl, inr, Option, Some, arith, Result, Ok, Err}
 use Rattle.std.specs.Prelude.{map, option_map}
 use Rattle.std.specs.List.{list_any, flat_map, AllByRecursion}
 use Rattle.base_types.specs.Faults.{Rose}
 use Rattle.std.proofs.lemmas.Bool.{true≢false, or_from, or_parts}
+use Rattle.std.proofs.lemmas.List.{take-append-drop}
 use Rattle.std.proofs.lemmas.List.Folds.{list_any-append}
 use Rattle.frame_core.specs.Frames.{Frame}
 use Rattle.frame_core.specs.declared.refusal.Refusal.{Refusal}
 use Rattle.frame_core.specs.declared.refusal.Refusal.TheVariants as refusals
 use Rattle.frame_core.specs.declared.refusal.Refused.{Refused}
 use Rattle.key_kind.specs.declared.key.Key.{Key}
+use Rattle.key_kind.specs.declared.key.KeyKind.TheVariants as kinds
 use Rattle.key_kind.specs.Names.{Name}
+use Rattle.key_kind.specs.Keys.{same_kind}
 use Rattle.bucket_core.specs.declared.event.Event.{Event}
 use Rattle.bucket_core.specs.declared.event.Event.TheVariants as events
-use Rattle.bucket_core.specs.History.{History, Bytes, history_at, event_at}
+use Rattle.bucket_core.specs.declared.event.Change.TheVariants as changes
+use Rattle.bucket_core.specs.History.{History, Bytes, history_at}
+use Rattle.store_model.specs.Library.{State, state_of, next_number}
+use Rattle.store_model.specs.Commits.{IsFilled}
+use Rattle.store_model.specs.Snapshots.{library_of}
+use Rattle.expr_clause.specs.declared.command.Command.{Command}
 use Rattle.expr_clause.specs.declared.command.Command.TheVariants as commands
 use Rattle.reply_model.specs.declared.outcome.Outcome.TheVariants as outcomes
-use Rattle.reply_model.specs.Answering.{Session, stamp_of, frame_of, committed, answered, ◌then◌}
-use Rattle.reply_model.specs.Answers.{answer}
+use Rattle.reply_model.specs.declared.reply.Reply.{Reply}
+use Rattle.reply_model.specs.Answering.{Session, stamp_of, frame_of, committed, ◌then◌}
+use Rattle.reply_model.specs.Answering.{answered as answer_of}
 use Rattle.reply_model.specs.Windows.{refer_places, library_at}
 use Rattle.reply_model.specs.Tries.{put_of, drop_of, IsTry, IsRefused, IsTurn}
 use Rattle.reply_model.specs.OwnEvents.{is_last, is_end, IsMeantAt, AnyMarks, IsBeginning}
-use Rattle.reply_model.specs.Legal.{IsLegalSeen}
 use Rattle.reply_model.specs.Causes.{MarksAt}
+use Rattle.reply_model.specs.Legal.{IsLegalSeen}
 use Rattle.reply_model.specs.Runs.{harms}
 use Rattle.reply_model.proofs.Harmless.{try_harms_nothing}
-use Rattle.key_kind.specs.declared.key.KeyKind.TheVariants as kinds
-use Rattle.key_kind.specs.Keys.{same_kind}
-use Rattle.frame_write.proofs.ListLemmas.{map_append}
-use Rattle.std.proofs.lemmas.List.{take-append-drop}
 use Rattle.reply_model.proofs.Places.{history_at_end}
 use Rattle.frame_write.specs.declared.options.Committed.{Committed}
-use Rattle.frame_write.specs.Writes.{reply_to, IsLegalWrite}
-use Rattle.frame_write.specs.Plans.{changes_on}
-use Rattle.bucket_core.specs.declared.event.Change.TheVariants as changes
-use Rattle.store_model.specs.Library.{state_of, next_number}
-use Rattle.reply_model.proofs.Later.{history_at_later}
-use Rattle.reply_model.proofs.Covering.{event_at_end}
+use Rattle.frame_write.specs.declared.options.Options.{Options}
 use Rattle.frame_write.specs.Traces.{met_in, Went}
 use Rattle.frame_write.specs.Stops.{StopsAt}
-use Rattle.frame_write.specs.Tries.{DidCommit, DidTries, DidRefused, DidStop, IsMet, IsPart, no_event, some_puts, some_drops}
+use Rattle.frame_write.specs.Tries.{Made, DidCommit, DidTries, DidRefuse, DidRefused, DidStop, IsBusy, IsMet, IsPart, no_event, some_puts, some_drops}
+use Rattle.frame_write.specs.Writes.{reply_to, IsLegalCall, IsLegalWrite, IsWritten, Never, Always}
+use Rattle.frame_write.proofs.ListLemmas.{map_append}
+use Rattle.frame_write.proofs.TraceLemmas.{went_then, went_as, went_longer, same_front, append_assoc, met_in-append}
+use Rattle.frame_write.proofs.MeetLemmas.{met_once}
 use Rattle.frame_write.proofs.LegalLemmas.{is_refer, no_places, no_own_refer, met_in_window, one_place}
 use Rattle.frame_write.proofs.TurnLemmas.{cut_turn, done_turn, append_none}
 use Rattle.frame_write.proofs.ReplyLemmas.{commit_went}
-use Rattle.frame_write.proofs.LegalReplies.{answer_is, cut_legal, done_legal, moved_legal}
-use Rattle.frame_write.proofs.TraceLemmas.{went_then, went_longer, same_front, append_assoc, met_in-append}
+use Rattle.frame_write.proofs.CommandLemmas.{IsAskedBy, of_write, last_is_end, of_symbol, are_meant, to_make, memory_refusal, fault_refusal, spent_refusal}
+use Rattle.frame_write.proofs.LegalReplies.{answered, referred, cut_legal, done_legal, moved_legal, refused_legal}
 
 -- ---- puts and drops are no Refers
 
@@ -64,10 +68,10 @@ tries_no_refer client symbol [] all = refl
 tries_no_refer client symbol (t ∷ ts) all =
     none_both t (flat_map (λ t. t) ts) (ap (list_any is_refer) all.0.3 ∙ none_both (map (put_of client) all.0.0) (map (drop_of client) all.0.0) (puts_no_refer client all.0.0) (drops_no_refer client all.0.0)) (tries_no_refer client symbol ts all.1)
 
-part_no_refer : (client : ℕ) (symbol : Name) (m : ℕ) (own : List Event) → IsPart client symbol m own → list_any is_refer own ≡ false
-part_no_refer client symbol m _ no_event = refl
-part_no_refer client symbol m _ (some_puts n puts entry t) = puts_no_refer client (take n puts)
-part_no_refer client symbol m _ (some_drops n puts entry t one) = none_both (map (put_of client) puts) (map (drop_of client) (take n puts)) (puts_no_refer client puts) (drops_no_refer client (take n puts))
+part_no_refer : (client : ℕ) (symbol : Name) (from : ℕ) (new : History) (own : List Event) → IsPart client symbol from new own → list_any is_refer own ≡ false
+part_no_refer client symbol from new _ no_event = refl
+part_no_refer client symbol from new _ (some_puts n puts entry t) = puts_no_refer client (take n puts)
+part_no_refer client symbol from new _ (some_drops n puts entry t at m) = none_both (map (put_of client) puts) (map (drop_of client) (take n puts)) (puts_no_refer client puts) (drops_no_refer client (take n puts))
 
 -- ---- puts and drops do not end a command
 
@@ -93,12 +97,12 @@ tries_no_end client symbol [] all = refl
 tries_no_end client symbol (t ∷ ts) all =
     no_end_both t (flat_map (λ t. t) ts) (ap (list_any is_end) all.0.3 ∙ no_end_both (map (put_of client) all.0.0) (map (drop_of client) all.0.0) (puts_no_end client symbol all.0.0 all.0.1 all.0.2) (drops_no_end client all.0.0)) (tries_no_end client symbol ts all.1)
 
-part_no_end : (client : ℕ) (symbol : Name) (m : ℕ) (own : List Event) → IsPart client symbol m own → list_any is_end own ≡ false
-part_no_end client symbol m _ no_event = refl
-part_no_end client symbol m _ (some_puts n puts entry t) =
+part_no_end : (client : ℕ) (symbol : Name) (from : ℕ) (new : History) (own : List Event) → IsPart client symbol from new own → list_any is_end own ≡ false
+part_no_end client symbol from new _ no_event = refl
+part_no_end client symbol from new _ (some_puts n puts entry t) =
     no_end_first (map (put_of client) (take n puts)) (map (put_of client) (drop n puts))
     (ap (list_any is_end) (sym (map_append (put_of client) (take n puts) (drop n puts)) ∙ ap (map (put_of client)) (take-append-drop n puts)) ∙ puts_no_end client symbol puts entry t)
-part_no_end client symbol m _ (some_drops n puts entry t one) = no_end_both (map (put_of client) puts) (map (drop_of client) (take n puts)) (puts_no_end client symbol puts entry t) (drops_no_end client (take n puts))
+part_no_end client symbol from new _ (some_drops n puts entry t at m) = no_end_both (map (put_of client) puts) (map (drop_of client) (take n puts)) (puts_no_end client symbol puts entry t) (drops_no_end client (take n puts))
 
 -- so the window has no place of an own Refer
 places_none : (client : ℕ) (sole : Bool) (old new : History) (own : List Event) → Went client sole old new own → list_any is_refer own ≡ false → refer_places client (length old) new ≡ []
@@ -111,179 +115,232 @@ met_sum client sole symbol old mid new first second whole a b w =
     let is : new ≡ (b.more ++ a.more) ++ old = b.is ∙ (ap (λ h. b.more ++ h) a.is ∙ sym (append_assoc b.more a.more old)) in
     ap (met_in client symbol) (same_front w.more (b.more ++ a.more) old (sym w.is ∙ is)) ∙ met_in-append client symbol b.more a.more
 
-module _ (s : Session) (limit : ℕ) (sole : Bool) (symbol : Name) (frame : Frame) (n : ℕ) (asked : Option ℤ) (prune : Bool) (old new : History) (faulted : Bool) (frame_is : frame_of s n ≡ Some (Ok frame)) where
-  pub commit_is_legal : (count : ℕ) (mid : History) (done : Committed) → count < s.tries → (r : DidRefused s.client sole symbol old mid count) → (c : DidCommit s.client sole symbol frame (stamp_of s asked) prune mid new done)
-      → IsLegalSeen new (record { session = s; limit = limit }) (commands.Write symbol n asked prune) (record { place = done.place; listed = None; commits = done.place ∷ []; left = []; outcome = outcomes.Committed done.version })
-      (record { start = length old; stop = length new; faulted = faulted })
-  commit_is_legal count mid done few r c =
-      let w = went_then s.client sole old mid new (flat_map (λ t. t) r.tries) (map (put_of s.client) c.puts ++ events.Refer s.client symbol c.was c.entry _ ∷ []) r.went (commit_went s.client sole symbol frame (stamp_of s asked) prune mid new done c) in
-      let sum = met_sum s.client sole symbol old mid new (flat_map (λ t. t) r.tries) _ _ r.went (commit_went s.client sole symbol frame (stamp_of s asked) prune mid new done c) w in
-      let front : Went s.client sole old c.before (flat_map (λ t. t) r.tries ++ map (put_of s.client) c.puts) = went_then s.client sole old mid c.before (flat_map (λ t. t) r.tries) (map (put_of s.client) c.puts) r.went c.went in
-      done_legal s limit symbol frame n asked prune old new faulted frame_is done.version done.place mid w.more c.puts c.was c.entry c.before r.tries r.refused (omega (arith, r.counted, few)) w.is
-      (omega (arith, r.counted, r.met, sum)) w.own_are c.is_try c.newest (went_longer s.client sole old c.before (flat_map (λ t. t) r.tries ++ map (put_of s.client) c.puts) front)
-      (places_none s.client sole old c.before (flat_map (λ t. t) r.tries ++ map (put_of s.client) c.puts) front
-      (none_both (flat_map (λ t. t) r.tries) (map (put_of s.client) c.puts) (tries_no_refer s.client symbol r.tries r.refused) (puts_no_refer s.client c.puts))) c.version c.place
+module _ (s : Session) (limit : ℕ) (asks : Command) (sole : Bool) (symbol : Name) (Asked : Made → Type 0) (Refuses : History → Refusal → Type 0) (Wants : History → Type 0)
+    (k : IsAskedBy s asks symbol Asked Refuses Wants) (old new : History) (faulted : Bool) where
+  -- the reply to a result is legal
+  abbrev IsLegalResult : Result Committed Refused → Type 0
+  IsLegalResult r = IsLegalSeen new (record { session = s; limit = limit }) asks (reply_to r) (record { start = length old; stop = length new; faulted = faulted })
 
-  pub moved_is_legal : (place : ℕ) (r : DidRefused s.client sole symbol old new s.tries) → IsMet s.client symbol old new place
-      → IsLegalSeen new (record { session = s; limit = limit }) (commands.Write symbol n asked prune) (record { place = place; listed = None; commits = []; left = []; outcome = outcomes.Refused (refusals.Moved place) })
-      (record { start = length old; stop = length new; faulted = faulted })
+  -- a commit behind refused tries
+  module _ (count : ℕ) (mid : History) (done : Committed) (r : DidRefused s.client sole symbol old mid count) (c : DidCommit s.client sole symbol Asked mid new done) where
+    abbrev all_tries : List Event
+    all_tries = flat_map (λ t. t) r.tries
+
+    abbrev last_try : List Event
+    last_try = map (put_of s.client) c.made.puts ++ events.Refer s.client symbol c.was c.entry c.made.list ∷ []
+
+    last_went : Went s.client sole mid new last_try
+    last_went = commit_went s.client sole symbol Asked mid new done c
+
+    whole_went : Went s.client sole old new (all_tries ++ last_try)
+    whole_went = went_then s.client sole old mid new all_tries last_try r.went last_went
+
+    front_went : Went s.client sole old c.made.before (all_tries ++ map (put_of s.client) c.made.puts)
+    front_went = went_then s.client sole old mid c.made.before all_tries (map (put_of s.client) c.made.puts) r.went c.went
+
+    counted : length r.tries ≤ met_in s.client symbol whole_went.more
+    counted = let sum = met_sum s.client sole symbol old mid new all_tries last_try (all_tries ++ last_try) r.went last_went whole_went in omega (arith, r.counted, r.met, sum)
+
+    longer : length old ≤ length c.made.before
+    longer = went_longer s.client sole old c.made.before (all_tries ++ map (put_of s.client) c.made.puts) front_went
+
+    none_before : refer_places s.client (length old) c.made.before ≡ []
+    none_before = places_none s.client sole old c.made.before (all_tries ++ map (put_of s.client) c.made.puts) front_went
+        (none_both all_tries (map (put_of s.client) c.made.puts) (tries_no_refer s.client symbol r.tries r.refused) (puts_no_refer s.client c.made.puts))
+
+    pub commit_is_legal : count < s.tries → IsLegalResult (Ok (record { version = done.version; place = done.place }))
+    commit_is_legal few = done_legal s limit asks symbol Asked Refuses Wants k old new faulted done.version done.place whole_went.more c.made c.asked c.was c.entry r.tries r.refused (omega (arith, r.counted, few)) whole_went.is
+        counted whole_went.own_are c.is_try c.newest longer none_before c.version c.place
+
+    -- the store failed, and the commit stands
+    pub faulted_is_legal : count < s.tries → (before now : ℕ) → (Rose before now → faulted ≡ true) → (place : ℕ) → StopsAt s.client mid new (record { place = place; why = refusals.StoreFault }) → Rose before now
+        → IsLegalResult (Err (record { place = place; why = refusals.StoreFault }))
+    faulted_is_legal few before now rises place stops rose =
+        let here = met_in_window s.client symbol old new whole_went.more faulted whole_went.is in
+        let early : length old ≤ length mid = went_longer s.client sole old mid all_tries r.went in
+        let places : refer_places s.client (length old) new ≡ suc (length c.made.before) ∷ [] =
+        ap (refer_places s.client (length old)) c.newest ∙ one_place s.client old c.made.before symbol c.was c.entry c.made.list longer none_before in
+        let reply : Reply = reply_to (Err (record { place = place; why = refusals.StoreFault })) in
+        cut_legal s limit asks symbol Asked Refuses Wants k old new faulted place refusals.StoreFault whole_went.more (all_tries ++ last_try) whole_went.is whole_went.own_are
+        (inl (record {
+          more = [];
+          whole = subst (IsTurn new s (record { start = length old; stop = length new; faulted = faulted }) symbol true true AnyMarks) (sym (append_none (all_tries ++ last_try)))
+              (done_turn new s (record { start = length old; stop = length new; faulted = faulted }) symbol r.tries r.refused (omega (arith, counted, here)) (omega (arith, r.counted, few)) c.made.puts c.was c.entry c.made.list c.is_try);
+        }))
+        (record { after = stops.after; before = stops.before; split = stops.split; place = stops.place; later = omega (arith, early, stops.later); few = stops.few }) refl refl
+        (inr (suc (length c.made.before), places)) (λ f. absurd (true≢false f))
+        (are_meant asks symbol k.makes new s reply (refer_places s.client (length old) new) (subst (AllByRecursion (IsMeantAt new s asks reply)) (sym places) (
+          record {
+            symbol = symbol;
+            list = c.made.list;
+            outcome = outcomes.Committed (next_number (state_of c.made.before symbol));
+            symbol_is = of_symbol asks symbol k.makes;
+            event = referred s limit asks symbol Asked Refuses Wants k old new faulted c.made c.was c.entry c.newest (suc (length c.made.before)) refl;
+            answered = answered s limit asks symbol Asked Refuses Wants k old new faulted c.made c.asked c.was c.entry c.newest (suc (length c.made.before)) (suc (length c.made.before)) refl;
+          },
+          tt,
+        )))
+        (fault_refusal asks symbol k.makes new (record { session = s; limit = limit }) reply (record { start = length old; stop = length new; faulted = faulted }) (rises rose))
+
+  pub moved_is_legal : (place : ℕ) (r : DidRefused s.client sole symbol old new s.tries) → IsMet s.client symbol (length old) new place → IsLegalResult (Err (record { place = place; why = refusals.Moved place }))
   moved_is_legal place r m =
-      moved_legal s limit symbol frame n asked prune old new faulted frame_is place r.went.more r.tries r.refused r.counted r.went.is (omega (arith, r.counted, r.met)) r.went.own_are m
+      moved_legal s limit asks symbol Asked Refuses Wants k old new faulted place r.went.more r.tries r.refused r.counted r.went.is (omega (arith, r.counted, r.met)) r.went.own_are m
       (places_none s.client sole old new (flat_map (λ t. t) r.tries) r.went (tries_no_refer s.client symbol r.tries r.refused))
 
+  -- the library refuses behind refused tries
+  pub refusal_is_legal : (count : ℕ) (mid : History) → count < s.tries → (r : DidRefused s.client sole symbol old mid count) → (place : ℕ) (why : Refusal) → DidRefuse s.client sole Refuses mid new (record { place = place; why = why })
+      → IsLegalResult (Err (record { place = place; why = why }))
+  refusal_is_legal count mid few r place why d =
+      let tried = flat_map (λ t. t) r.tries in
+      let w = went_as s.client sole old new (tried ++ []) tried (append_none tried) (went_then s.client sole old mid new tried [] r.went d.went) in
+      let sum = met_sum s.client sole symbol old mid new tried [] tried r.went d.went w in
+      let early : length old ≤ length mid = went_longer s.client sole old mid tried r.went in
+      refused_legal s limit asks symbol Asked Refuses Wants k old new faulted place why w.more r.tries r.refused (omega (arith, r.counted, few)) w.is (omega (arith, r.counted, r.met, sum)) w.own_are
+      (omega (arith, early, d.place.from)) d.place.to d.refuses (places_none s.client sole old new tried w (tries_no_refer s.client symbol r.tries r.refused))
+
+  -- a call failed behind refused tries
   module _ (before now : ℕ) (rises : Rose before now → faulted ≡ true) (count : ℕ) (mid : History) (few : count < s.tries) (r : DidRefused s.client sole symbol old mid count) (place : ℕ) (why : Refusal)
-      (d : DidStop s.client sole symbol limit before now mid new (record { place = place; why = why })) where
+      (d : DidStop s.client sole symbol limit before now (length mid) mid new (record { place = place; why = why })) where
     stop_went : Went s.client sole old new (flat_map (λ t. t) r.tries ++ d.own)
     stop_went = went_then s.client sole old mid new (flat_map (λ t. t) r.tries) d.own r.went d.went
 
     stop_places : refer_places s.client (length old) new ≡ []
     stop_places = places_none s.client sole old new (flat_map (λ t. t) r.tries ++ d.own) stop_went
-        (none_both (flat_map (λ t. t) r.tries) d.own (tries_no_refer s.client symbol r.tries r.refused) (part_no_refer s.client symbol (met_in s.client symbol d.went.more) d.own d.part))
+        (none_both (flat_map (λ t. t) r.tries) d.own (tries_no_refer s.client symbol r.tries r.refused) (part_no_refer s.client symbol (length mid) new d.own d.part))
 
     stop_turn : IsBeginning (IsTurn new s (record { start = length old; stop = length new; faulted = faulted }) symbol true true AnyMarks) (flat_map (λ t. t) r.tries ++ d.own)
         ⊎ IsBeginning (IsTurn new s (record { start = length old; stop = length new; faulted = faulted }) symbol true false AnyMarks) (flat_map (λ t. t) r.tries ++ d.own)
     stop_turn =
         let sum = met_sum s.client sole symbol old mid new (flat_map (λ t. t) r.tries) d.own (flat_map (λ t. t) r.tries ++ d.own) r.went d.went stop_went in
         let here = met_in_window s.client symbol old new stop_went.more faulted stop_went.is in
-        cut_turn new s (record { start = length old; stop = length new; faulted = faulted }) symbol r.tries r.refused d.own (met_in s.client symbol d.went.more) (omega (arith, r.counted, few)) (omega (arith, r.counted, r.met, sum, here)) d.part
+        cut_turn new s (record { start = length old; stop = length new; faulted = faulted }) symbol r.tries r.refused d.own (length mid) new (omega (arith, r.counted, few)) (omega (arith, r.counted, r.met, sum, here))
+        (λ at m. let one : 1 ≤ met_in s.client symbol d.went.more = met_once s.client symbol mid d.went.more at (subst (λ h. IsMet s.client symbol (length mid) h at) d.went.is m) in omega (arith, r.counted, r.met, sum, here, one)) d.part
 
     stop_at : StopsAt s.client old new (record { place = place; why = why })
     stop_at =
-        let longer : length old ≤ length mid = went_longer s.client sole old mid (flat_map (λ t. t) r.tries) r.went in
-        record { after = d.stops.after; before = d.stops.before; split = d.stops.split; place = d.stops.place; later = omega (arith, longer, d.stops.later); few = d.stops.few }
+        let early : length old ≤ length mid = went_longer s.client sole old mid (flat_map (λ t. t) r.tries) r.went in
+        record { after = d.stops.after; before = d.stops.before; split = d.stops.split; place = d.stops.place; later = omega (arith, early, d.stops.later); few = d.stops.few }
 
-    stop_no_end : list_any (is_last (commands.Write symbol n asked prune)) (flat_map (λ t. t) r.tries ++ d.own) ≡ false
-    stop_no_end = last_is_end (flat_map (λ t. t) r.tries ++ d.own)
-        ∙ no_end_both (flat_map (λ t. t) r.tries) d.own (tries_no_end s.client symbol r.tries r.refused) (part_no_end s.client symbol (met_in s.client symbol d.went.more) d.own d.part)
+    stop_no_end : list_any (is_last asks) (flat_map (λ t. t) r.tries ++ d.own) ≡ false
+    stop_no_end = same (flat_map (λ t. t) r.tries ++ d.own)
+        ∙ no_end_both (flat_map (λ t. t) r.tries) d.own (tries_no_end s.client symbol r.tries r.refused) (part_no_end s.client symbol (length mid) new d.own d.part)
       where
-        last_is_end : (es : List Event) → list_any (is_last (commands.Write symbol n asked prune)) es ≡ list_any is_end es
-        last_is_end [] = refl
-        last_is_end (e ∷ es) = ap (λ b. is_end e || b) (last_is_end es)
+        same : (es : List Event) → list_any (is_last asks) es ≡ list_any is_end es
+        same [] = refl
+        same (e ∷ es) = (λ i. last_is_end asks symbol k.makes e i || same es i)
 
   module _ (before now : ℕ) (rises : Rose before now → faulted ≡ true) (count : ℕ) (mid : History) (few : count < s.tries) (r : DidRefused s.client sole symbol old mid count) (place : ℕ) where
-    pub no_memory_is_legal : (d : DidStop s.client sole symbol limit before now mid new (record { place = place; why = refusals.NoMemory }))
-        → IsLegalSeen new (record { session = s; limit = limit }) (commands.Write symbol n asked prune) (record { place = place; listed = None; commits = []; left = []; outcome = outcomes.Refused refusals.NoMemory })
-        (record { start = length old; stop = length new; faulted = faulted })
+    pub no_memory_is_legal : (d : DidStop s.client sole symbol limit before now (length mid) mid new (record { place = place; why = refusals.NoMemory })) → IsLegalResult (Err (record { place = place; why = refusals.NoMemory }))
     no_memory_is_legal d =
         let w = stop_went before now rises count mid few r place refusals.NoMemory d in
-        cut_legal s limit symbol frame n asked prune old new faulted frame_is place refusals.NoMemory w.more (flat_map (λ t. t) r.tries ++ d.own) w.is w.own_are
+        let reply : Reply = reply_to (Err (record { place = place; why = refusals.NoMemory })) in
+        cut_legal s limit asks symbol Asked Refuses Wants k old new faulted place refusals.NoMemory w.more (flat_map (λ t. t) r.tries ++ d.own) w.is w.own_are
         (stop_turn before now rises count mid few r place refusals.NoMemory d) (stop_at before now rises count mid few r place refusals.NoMemory d) refl refl
-        (sym (stop_places before now rises count mid few r place refusals.NoMemory d)) (λ f. stop_no_end before now rises count mid few r place refusals.NoMemory d) tt tt
+        (sym (stop_places before now rises count mid few r place refusals.NoMemory d)) (λ f. stop_no_end before now rises count mid few r place refusals.NoMemory d)
+        (are_meant asks symbol k.makes new s reply (refer_places s.client (length old) new) tt) (memory_refusal asks symbol k.makes new (record { session = s; limit = limit }) reply (record { start = length old; stop = length new; faulted = faulted }))
 
-    pub fault_is_legal : (d : DidStop s.client sole symbol limit before now mid new (record { place = place; why = refusals.StoreFault }))
-        → IsLegalSeen new (record { session = s; limit = limit }) (commands.Write symbol n asked prune) (record { place = place; listed = None; commits = []; left = []; outcome = outcomes.Refused refusals.StoreFault })
-        (record { start = length old; stop = length new; faulted = faulted })
+    pub fault_is_legal : (d : DidStop s.client sole symbol limit before now (length mid) mid new (record { place = place; why = refusals.StoreFault })) → IsLegalResult (Err (record { place = place; why = refusals.StoreFault }))
     fault_is_legal d =
         let w = stop_went before now rises count mid few r place refusals.StoreFault d in
         let none = stop_places before now rises count mid few r place refusals.StoreFault d in
-        cut_legal s limit symbol frame n asked prune old new faulted frame_is place refusals.StoreFault w.more (flat_map (λ t. t) r.tries ++ d.own) w.is w.own_are
+        let reply : Reply = reply_to (Err (record { place = place; why = refusals.StoreFault })) in
+        cut_legal s limit asks symbol Asked Refuses Wants k old new faulted place refusals.StoreFault w.more (flat_map (λ t. t) r.tries ++ d.own) w.is w.own_are
         (stop_turn before now rises count mid few r place refusals.StoreFault d) (stop_at before now rises count mid few r place refusals.StoreFault d) refl refl
-        (inl (sym none)) (λ f. absurd (true≢false f)) (subst (AllByRecursion (IsMeantAt new s (commands.Write symbol n asked prune) (record { place = place; listed = None; commits = []; left = []; outcome = outcomes.Refused refusals.StoreFault }))) (sym none) tt) (rises d.cause)
+        (inl (sym none)) (λ f. absurd (true≢false f))
+        (are_meant asks symbol k.makes new s reply (refer_places s.client (length old) new) (subst (AllByRecursion (IsMeantAt new s asks reply)) (sym none) tt))
+        (fault_refusal asks symbol k.makes new (record { session = s; limit = limit }) reply (record { start = length old; stop = length new; faulted = faulted }) (rises d.cause))
 
-    pub spent_is_legal : (full : ℕ) → (d : DidStop s.client sole symbol limit before now mid new (record { place = place; why = refusals.Spent full }))
-        → IsLegalSeen new (record { session = s; limit = limit }) (commands.Write symbol n asked prune) (record { place = place; listed = None; commits = []; left = []; outcome = outcomes.Refused (refusals.Spent full) })
-        (record { start = length old; stop = length new; faulted = faulted })
-    spent_is_legal full d =
+    pub spent_is_legal : (full : ℕ) → (d : DidStop s.client sole symbol limit before now (length mid) mid new (record { place = place; why = refusals.Spent full })) → IsBusy Wants mid new place (refusals.Spent full)
+        → IsLegalResult (Err (record { place = place; why = refusals.Spent full }))
+    spent_is_legal full d busy =
         let w = stop_went before now rises count mid few r place (refusals.Spent full) d in
         let at = stop_at before now rises count mid few r place (refusals.Spent full) d in
-        cut_legal s limit symbol frame n asked prune old new faulted frame_is place (refusals.Spent full) w.more (flat_map (λ t. t) r.tries ++ d.own) w.is w.own_are
+        let early : length old ≤ length mid = went_longer s.client sole old mid (flat_map (λ t. t) r.tries) r.went in
+        let reply : Reply = reply_to (Err (record { place = place; why = refusals.Spent full })) in
+        cut_legal s limit asks symbol Asked Refuses Wants k old new faulted place (refusals.Spent full) w.more (flat_map (λ t. t) r.tries ++ d.own) w.is w.own_are
         (stop_turn before now rises count mid few r place (refusals.Spent full) d) at refl refl
-        (sym (stop_places before now rises count mid few r place (refusals.Spent full) d)) (λ f. stop_no_end before now rises count mid few r place (refusals.Spent full) d) tt
-        (record {
+        (sym (stop_places before now rises count mid few r place (refusals.Spent full) d)) (λ f. stop_no_end before now rises count mid few r place (refusals.Spent full) d)
+        (are_meant asks symbol k.makes new s reply (refer_places s.client (length old) new) tt)
+        (spent_refusal asks symbol k.makes new (record { session = s; limit = limit }) reply (record { start = length old; stop = length new; faulted = faulted }) full (record {
           here = d.cause.1;
           full = d.cause.0.1;
-          busy = inr (
-            place,
-            omega (arith, at.place, at.later),
-            omega arith,
-            subst MarksAt (sym (answer_is s limit symbol frame n asked prune old new faulted frame_is place place)) (inl (λ e. absurd cc)),
-          );
-        })
-
-    pub stop_is_legal : (why : Refusal) → DidStop s.client sole symbol limit before now mid new (record { place = place; why = why })
-        → IsLegalSeen new (record { session = s; limit = limit }) (commands.Write symbol n asked prune) (record { place = place; listed = None; commits = []; left = []; outcome = outcomes.Refused why })
-        (record { start = length old; stop = length new; faulted = faulted })
-    stop_is_legal refusals.NoMemory d = no_memory_is_legal d
-    stop_is_legal refusals.StoreFault d = fault_is_legal d
-    stop_is_legal (refusals.Spent full) d = spent_is_legal full d
-    stop_is_legal refusals.NoSuchSymbol d = absurd d.cause
-    stop_is_legal (refusals.NoSuchVersion asked) d = absurd d.cause
-    stop_is_legal (refusals.VersionGone version) d = absurd d.cause
-    stop_is_legal (refusals.Moved at) d = absurd d.cause
-    stop_is_legal (refusals.Unsorted row) d = absurd d.cause
-    stop_is_legal (refusals.SchemaDiffers column) d = absurd d.cause
-    stop_is_legal (refusals.AppendBefore last first) d = absurd d.cause
-    stop_is_legal (refusals.OutsideRange row) d = absurd d.cause
-    stop_is_legal refusals.EmptyUpdate d = absurd d.cause
-    stop_is_legal (refusals.NoSuchColumn clause position) d = absurd d.cause
-    stop_is_legal (refusals.TypeMismatch clause) d = absurd d.cause
-    stop_is_legal (refusals.Overflow clause row) d = absurd d.cause
-    stop_is_legal (refusals.GroupOverflow clause group) d = absurd d.cause
-    stop_is_legal (refusals.NotTimeIndexed clause) d = absurd d.cause
-    stop_is_legal refusals.SnapshotExists d = absurd d.cause
-    stop_is_legal refusals.NoSuchSnapshot d = absurd d.cause
-    stop_is_legal refusals.NoStaged d = absurd d.cause
-    stop_is_legal (refusals.StagedOverlap piece) d = absurd d.cause
-    stop_is_legal (refusals.TooLarge what most) d = absurd d.cause
-
-    -- the store failed, and the commit stands
-    pub faulted_is_legal : (done : Committed) → (c : DidCommit s.client sole symbol frame (stamp_of s asked) prune mid new done) → StopsAt s.client mid new (record { place = place; why = refusals.StoreFault }) → Rose before now
-        → IsLegalSeen new (record { session = s; limit = limit }) (commands.Write symbol n asked prune) (record { place = place; listed = None; commits = []; left = []; outcome = outcomes.Refused refusals.StoreFault })
-        (record { start = length old; stop = length new; faulted = faulted })
-    faulted_is_legal done c stops rose =
-        let cw = commit_went s.client sole symbol frame (stamp_of s asked) prune mid new done c in
-        let w = went_then s.client sole old mid new (flat_map (λ t. t) r.tries) (map (put_of s.client) c.puts ++ events.Refer s.client symbol c.was c.entry (changes_on c.before symbol frame (stamp_of s asked) prune) ∷ []) r.went cw in
-        let sum = met_sum s.client sole symbol old mid new (flat_map (λ t. t) r.tries) (map (put_of s.client) c.puts ++ events.Refer s.client symbol c.was c.entry (changes_on c.before symbol frame (stamp_of s asked) prune) ∷ []) (flat_map (λ t. t) r.tries ++ (map (put_of s.client) c.puts ++ events.Refer s.client symbol c.was c.entry (changes_on c.before symbol frame (stamp_of s asked) prune) ∷ [])) r.went cw w in
-        let here = met_in_window s.client symbol old new w.more faulted w.is in
-        let front = went_then s.client sole old mid c.before (flat_map (λ t. t) r.tries) (map (put_of s.client) c.puts) r.went c.went in
-        let none = places_none s.client sole old c.before (flat_map (λ t. t) r.tries ++ map (put_of s.client) c.puts) front
-        (none_both (flat_map (λ t. t) r.tries) (map (put_of s.client) c.puts) (tries_no_refer s.client symbol r.tries r.refused) (puts_no_refer s.client c.puts)) in
-        let longer = went_longer s.client sole old c.before (flat_map (λ t. t) r.tries ++ map (put_of s.client) c.puts) front in
-        let early : length old ≤ length mid = went_longer s.client sole old mid (flat_map (λ t. t) r.tries) r.went in
-        let places : refer_places s.client (length old) new ≡ suc (length c.before) ∷ [] = ap (refer_places s.client (length old)) c.newest ∙ one_place s.client old c.before symbol c.was c.entry (changes_on c.before symbol frame (stamp_of s asked) prune) longer none in
-        let back : suc (length c.before) - 1 ≡ length c.before = omega arith in
-        let earlier : history_at new (suc (length c.before) - 1) ≡ c.before =
-        ap (λ h. history_at h (suc (length c.before) - 1)) c.newest ∙ (ap (history_at (events.Refer s.client symbol c.was c.entry (changes_on c.before symbol frame (stamp_of s asked) prune) ∷ c.before)) back ∙ (history_at_later c.before (events.Refer s.client symbol c.was c.entry (changes_on c.before symbol frame (stamp_of s asked) prune) ∷ []) (length c.before) (omega arith) ∙ history_at_end c.before)) in
-        let answers : answer s (library_at new (suc (length c.before))) (library_at new (suc (length c.before) - 1)) (suc (length c.before) - 1) (commands.Write symbol n asked prune)
-        ≡ Some (record { outcome = outcomes.Committed (next_number (state_of c.before symbol)); marks = (changes_on c.before symbol frame (stamp_of s asked) prune) }) =
-        ap (option_map (λ f. answered (f then (λ g. Ok (committed (state_of (history_at new (suc (length c.before) - 1)) symbol) prune (changes.Wrote g (stamp_of s asked))))))) frame_is
-        ∙ ap (λ h. Some (committed (state_of h symbol) prune (changes.Wrote frame (stamp_of s asked)))) earlier in
-        let event : event_at new (suc (length c.before)) ≡ Some (events.Refer s.client symbol c.was c.entry (changes_on c.before symbol frame (stamp_of s asked) prune)) = ap (λ h. event_at h (suc (length c.before))) c.newest ∙ event_at_end (events.Refer s.client symbol c.was c.entry (changes_on c.before symbol frame (stamp_of s asked) prune)) c.before in
-        cut_legal s limit symbol frame n asked prune old new faulted frame_is place refusals.StoreFault w.more (flat_map (λ t. t) r.tries ++ (map (put_of s.client) c.puts ++ events.Refer s.client symbol c.was c.entry (changes_on c.before symbol frame (stamp_of s asked) prune) ∷ [])) w.is w.own_are
-        (inl (record {
-          more = [];
-          whole = subst (IsTurn new s (record { start = length old; stop = length new; faulted = faulted }) symbol true true AnyMarks) (sym (append_none (flat_map (λ t. t) r.tries ++ (map (put_of s.client) c.puts ++ events.Refer s.client symbol c.was c.entry (changes_on c.before symbol frame (stamp_of s asked) prune) ∷ []))))
-              (done_turn new s (record { start = length old; stop = length new; faulted = faulted }) symbol r.tries r.refused (omega (arith, r.counted, r.met, sum, here)) (omega (arith, r.counted, few)) c.puts c.was c.entry (changes_on c.before symbol frame (stamp_of s asked) prune) c.is_try);
+          busy = inr (to_make asks symbol k.makes new (record { session = s; limit = limit }) reply (length old) place refl
+              (busy.0, omega (arith, early, busy.1), busy.2, k.wants (history_at new busy.0) busy.3 (library_at new busy.0) busy.0));
         }))
-        (record { after = stops.after; before = stops.before; split = stops.split; place = stops.place; later = omega (arith, early, stops.later); few = stops.few }) refl refl
-        (inr (suc (length c.before), places)) (λ f. absurd (true≢false f))
-        (subst (AllByRecursion (IsMeantAt new s (commands.Write symbol n asked prune) (record { place = place; listed = None; commits = []; left = []; outcome = outcomes.Refused refusals.StoreFault }))) (sym places)
-        (record { symbol = symbol; list = (changes_on c.before symbol frame (stamp_of s asked) prune); outcome = outcomes.Committed (next_number (state_of c.before symbol)); symbol_is = refl; event = (c.was, c.entry, event); answered = answers }, tt)) (rises rose)
+
+    pub stop_is_legal : (why : Refusal) → DidStop s.client sole symbol limit before now (length mid) mid new (record { place = place; why = why }) → IsBusy Wants mid new place why → IsLegalResult (Err (record { place = place; why = why }))
+    stop_is_legal refusals.NoMemory d busy = no_memory_is_legal d
+    stop_is_legal refusals.StoreFault d busy = fault_is_legal d
+    stop_is_legal (refusals.Spent full) d busy = spent_is_legal full d busy
+    stop_is_legal refusals.NoSuchSymbol d busy = absurd d.cause
+    stop_is_legal (refusals.NoSuchVersion asked) d busy = absurd d.cause
+    stop_is_legal (refusals.VersionGone version) d busy = absurd d.cause
+    stop_is_legal (refusals.Moved at) d busy = absurd d.cause
+    stop_is_legal (refusals.Unsorted row) d busy = absurd d.cause
+    stop_is_legal (refusals.SchemaDiffers column) d busy = absurd d.cause
+    stop_is_legal (refusals.AppendBefore last first) d busy = absurd d.cause
+    stop_is_legal (refusals.OutsideRange row) d busy = absurd d.cause
+    stop_is_legal refusals.EmptyUpdate d busy = absurd d.cause
+    stop_is_legal (refusals.NoSuchColumn clause position) d busy = absurd d.cause
+    stop_is_legal (refusals.TypeMismatch clause) d busy = absurd d.cause
+    stop_is_legal (refusals.Overflow clause row) d busy = absurd d.cause
+    stop_is_legal (refusals.GroupOverflow clause group) d busy = absurd d.cause
+    stop_is_legal (refusals.NotTimeIndexed clause) d busy = absurd d.cause
+    stop_is_legal refusals.SnapshotExists d busy = absurd d.cause
+    stop_is_legal refusals.NoSuchSnapshot d busy = absurd d.cause
+    stop_is_legal refusals.NoStaged d busy = absurd d.cause
+    stop_is_legal (refusals.StagedOverlap piece) d busy = absurd d.cause
+    stop_is_legal (refusals.TooLarge what most) d busy = absurd d.cause
 
 -- ---- all tries
 
-seen_is_legal : (s : Session) (limit : ℕ) (sole : Bool) (symbol : Name) (frame : Frame) (n : ℕ) (asked : Option ℤ) (prune : Bool) (before now : ℕ) (old new : History) (faulted : Bool) → frame_of s n ≡ Some (Ok frame) → (Rose before now → faulted ≡ true)
-    → (result : Result Committed Refused) → DidTries s.client sole symbol frame (stamp_of s asked) prune s.tries limit before now old new result
-    → IsLegalSeen new (record { session = s; limit = limit }) (commands.Write symbol n asked prune) (reply_to result) (record { start = length old; stop = length new; faulted = faulted })
-seen_is_legal s limit sole symbol frame n asked prune before now old new faulted frame_is rises (Ok done) d = commit_is_legal s limit sole symbol frame n asked prune old new faulted frame_is d.count d.mid done d.few d.refused d.last
-seen_is_legal s limit sole symbol frame n asked prune before now old new faulted frame_is rises (Err refused) d = elim d [
-  | inl all ↦ subst (λ y. IsLegalSeen new (record { session = s; limit = limit }) (commands.Write symbol n asked prune) (reply_to (Err (record { place = refused.place; why = y }))) (record { start = length old; stop = length new; faulted = faulted })) (sym all.why)
-      (moved_is_legal s limit sole symbol frame n asked prune old new faulted frame_is refused.place all.all all.met)
-  | inr t ↦ elim t.last [
-    | inl stop ↦ stop_is_legal s limit sole symbol frame n asked prune old new faulted frame_is before now rises t.count t.mid t.few t.refused refused.place refused.why stop
-    | inr f ↦ subst (λ y. IsLegalSeen new (record { session = s; limit = limit }) (commands.Write symbol n asked prune) (reply_to (Err (record { place = refused.place; why = y }))) (record { start = length old; stop = length new; faulted = faulted })) (sym f.why)
-        (faulted_is_legal s limit sole symbol frame n asked prune old new faulted frame_is before now rises t.count t.mid t.few t.refused refused.place f.done f.commit
-        (subst (λ y. StopsAt s.client t.mid new (record { place = refused.place; why = y })) f.why f.stops) f.rose)
+module _ (s : Session) (limit : ℕ) (asks : Command) (sole : Bool) (symbol : Name) (Asked : Made → Type 0) (Refuses : History → Refusal → Type 0) (Wants : History → Type 0)
+    (k : IsAskedBy s asks symbol Asked Refuses Wants) (before now : ℕ) (old new : History) where
+  seen_is_legal : (faulted : Bool) → (Rose before now → faulted ≡ true) → (result : Result Committed Refused) → DidTries s.client sole symbol Asked Refuses Wants s.tries limit before now old new result
+      → IsLegalSeen new (record { session = s; limit = limit }) asks (reply_to result) (record { start = length old; stop = length new; faulted = faulted })
+  seen_is_legal faulted rises (Ok done) d = commit_is_legal s limit asks sole symbol Asked Refuses Wants k old new faulted d.count d.mid done d.refused d.last d.few
+  seen_is_legal faulted rises (Err refused) d = elim d [
+    | inl all ↦ subst (λ y. IsLegalSeen new (record { session = s; limit = limit }) asks (reply_to (Err (record { place = refused.place; why = y }))) (record { start = length old; stop = length new; faulted = faulted })) (sym all.why)
+        (moved_is_legal s limit asks sole symbol Asked Refuses Wants k old new faulted refused.place all.all all.met)
+    | inr t ↦ elim t.last [
+      | inl failed ↦ elim failed.0 [
+        | inl stop ↦ stop_is_legal s limit asks sole symbol Asked Refuses Wants k old new faulted before now rises t.count t.mid t.few t.refused refused.place refused.why stop failed.1
+        | inr f ↦ subst (λ y. IsLegalSeen new (record { session = s; limit = limit }) asks (reply_to (Err (record { place = refused.place; why = y }))) (record { start = length old; stop = length new; faulted = faulted })) (sym f.why)
+            (faulted_is_legal s limit asks sole symbol Asked Refuses Wants k old new faulted t.count t.mid f.done t.refused f.commit t.few before now rises refused.place
+            (subst (λ y. StopsAt s.client t.mid new (record { place = refused.place; why = y })) f.why f.stops) f.rose)
+      ]
+      | inr e ↦ refusal_is_legal s limit asks sole symbol Asked Refuses Wants k old new faulted t.count t.mid t.few t.refused refused.place refused.why e
+    ]
   ]
-]
 
-pub tries_are_legal : (client : ℕ) (sole : Bool) (symbol : Name) (frame : Frame) (at : ℤ) (prune : Bool) (most limit before now : ℕ) (old new : History) (result : Result Committed Refused)
-    → DidTries client sole symbol frame at prune most limit before now old new result → IsLegalWrite limit client most symbol frame at prune before now old new result
-tries_are_legal client sole symbol frame at prune most limit before now old new result d = λ s n asked faulted b rises. (
-  omega arith,
-  subst (λ h. IsLegalSeen h (record { session = s; limit = limit }) (commands.Write symbol n asked prune) (reply_to result) (record { start = length old; stop = length new; faulted = faulted })) (sym (history_at_end new))
-      (seen_is_legal s limit sole symbol frame n asked prune before now old new faulted b.frame_is rises result
-      (subst (λ c. DidTries c sole symbol frame (stamp_of s asked) prune s.tries limit before now old new result) (sym b.client_is)
-      (subst (λ a. DidTries client sole symbol frame a prune s.tries limit before now old new result) (sym b.stamp_is)
-      (subst (λ t. DidTries client sole symbol frame at prune t limit before now old new result) (sym b.tries_are) d)))),
-)
+  -- the reply to the command is legal
+  pub tries_are_legal : (result : Result Committed Refused) → DidTries s.client sole symbol Asked Refuses Wants s.tries limit before now old new result → IsLegalCall s asks limit before now old new result
+  tries_are_legal result d = λ faulted rises. (
+    omega arith,
+    subst (λ h. IsLegalSeen h (record { session = s; limit = limit }) asks (reply_to result) (record { start = length old; stop = length new; faulted = faulted })) (sym (history_at_end new))
+        (seen_is_legal faulted rises result d),
+  )
+
+-- ---- a write
+
+-- a session that brings the frame asks for it
+write_asks : (s : Session) (symbol : Name) (frame : Frame) (options : Options) (n : ℕ) (asked : Option ℤ) → frame_of s n ≡ Some (Ok frame) → stamp_of s asked ≡ options.at
+    → IsAskedBy s (commands.Write symbol n asked options.prune) symbol (IsWritten symbol frame options) Never Always
+write_asks s symbol frame options n asked frame_is stamp_is = record {
+  makes = of_write;
+  answers = λ m w l p. answer_is (library_of m.before).state ∙ (λ i. Some (record { outcome = outcomes.Committed (next_number (state_of m.before symbol)); marks = sym w.list i }));
+  filled = λ m w. subst IsFilled (sym w.list) tt;
+  refuses = λ h why r. absurd r;
+  wants = λ h w l p. subst MarksAt (sym (answer_is (library_of h).state)) (inl (λ e. absurd cc));
+}
+  where
+    answer_is : (state : Name → State) → option_map (λ f. answer_of (f then (λ g. Ok (committed (state symbol) options.prune (changes.Wrote g (stamp_of s asked)))))) (frame_of s n) ≡ Some (committed (state symbol) options.prune (changes.Wrote frame options.at))
+    answer_is state = ap (option_map (λ f. answer_of (f then (λ g. Ok (committed (state symbol) options.prune (changes.Wrote g (stamp_of s asked))))))) frame_is
+        ∙ ap (λ at. Some (committed (state symbol) options.prune (changes.Wrote frame at))) stamp_is
+
+pub write_is_legal : (client : ℕ) (sole : Bool) (symbol : Name) (frame : Frame) (options : Options) (limit before now : ℕ) (old new : History) (result : Result Committed Refused)
+    → DidTries client sole symbol (IsWritten symbol frame options) Never Always options.tries limit before now old new result → IsLegalWrite limit client options.tries symbol frame options.at options.prune before now old new result
+write_is_legal client sole symbol frame options limit before now old new result d = λ s n asked b.
+    tries_are_legal s limit (commands.Write symbol n asked options.prune) sole symbol (IsWritten symbol frame options) Never Always (write_asks s symbol frame options n asked b.frame_is b.stamp_is) before now old new result
+    (subst (λ c. DidTries c sole symbol (IsWritten symbol frame options) Never Always s.tries limit before now old new result) (sym b.client_is)
+    (subst (λ t. DidTries client sole symbol (IsWritten symbol frame options) Never Always t limit before now old new result) (sym b.tries_are) d))

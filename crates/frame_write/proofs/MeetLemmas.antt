@@ -1,22 +1,22 @@
 -- Where another's Refer of the symbol was added: its place, and how many there are.
-use Rattle.std.proofs.Common.{◌≡◌, ℕ, suc, ◌+◌, ◌≤◌, Bool, true, false, ◌&&◌, ◌||◌, not, List, [], ◌∷◌, ◌++◌, length, refl, ap, sym, ◌∙◌, subst, cond, nat_eq, arith, length-append}
+use Rattle.std.proofs.Common.{◌≡◌, ℕ, suc, ◌+◌, ◌≤◌, Bool, true, false, ◌&&◌, ◌||◌, not, List, [], ◌∷◌, ◌++◌, length, refl, ap, sym, ◌∙◌, subst, inl, inr, Some, cond, nat_eq, arith, length-append}
 use Rattle.std.specs.Prelude.{map, filter}
 use Rattle.std.specs.List.{list_any}
-use Rattle.std.proofs.lemmas.Bool.{true≢false, or_parts, or_from, and_from, and_left, eq-eqb, ne_eqb}
+use Rattle.std.proofs.lemmas.Bool.{true≢false, or_parts, or_from, and_from, and_left, eq-eqb, ne_eqb, cases_lt}
 use Rattle.std.proofs.lemmas.List.Folds.{list_any-append}
 use Rattle.segment_cut.proofs.Lists.{count_by-cons, count_by-yes}
 use Rattle.key_kind.specs.declared.key.Key.{Key}
 use Rattle.key_kind.specs.Names.{Name}
 use Rattle.bucket_core.specs.declared.event.Event.{Event}
 use Rattle.bucket_core.specs.declared.event.Event.TheVariants as events
-use Rattle.bucket_core.specs.History.{History, Bytes, author, referred_at, AllByOthers}
+use Rattle.bucket_core.specs.History.{History, Bytes, author, event_at, referred_at, AllByOthers}
 use Rattle.bucket_core.specs.Laws.{refers}
 use Rattle.reply_model.specs.Tries.{put_of}
 use Rattle.reply_model.proofs.Covering.{event_at_later, event_at_end}
 use Rattle.reply_model.proofs.Places.{none_of_reversed, none_of_filtered}
-use Rattle.store_model.proofs.Stability.{is_false}
 use Rattle.frame_write.specs.Traces.{own_of, met_in, own_refers}
 use Rattle.frame_write.specs.Tries.{IsMet}
+use Rattle.frame_write.proofs.TraceLemmas.{split_more, others_first}
 
 pub others_refer_not : (client : ℕ) (symbol : Name) (more : History) → AllByOthers client more → list_any (own_refers client symbol) more ≡ false
 others_refer_not client symbol [] others = refl
@@ -50,24 +50,24 @@ referred_here symbol (events.Unname c snap) h e = absurd (true≢false (sym e))
 referred_here symbol (events.Drop c key) h e = absurd (true≢false (sym e))
 
 -- one event more
-pub met_after : (client : ℕ) (symbol : Name) (old h : History) (e : Event) (n : ℕ) → IsMet client symbol old h n → IsMet client symbol old (e ∷ h) n
-met_after client symbol old h e n m = record { added = m.added; within = omega (arith, m.within); event = m.event; at = event_at_later e h n m.within ∙ m.at; refers = m.refers; others = m.others }
+pub met_after : (client : ℕ) (symbol : Name) (from : ℕ) (h : History) (e : Event) (n : ℕ) → IsMet client symbol from h n → IsMet client symbol from (e ∷ h) n
+met_after client symbol from h e n m = record { added = m.added; within = omega (arith, m.within); event = m.event; at = event_at_later e h n m.within ∙ m.at; refers = m.refers; others = m.others }
 
-pub met_later : (client : ℕ) (symbol : Name) (old h more : History) (n : ℕ) → IsMet client symbol old h n → IsMet client symbol old (more ++ h) n
-met_later client symbol old h [] n m = m
-met_later client symbol old h (e ∷ more) n m = met_after client symbol old (more ++ h) e n (met_later client symbol old h more n m)
+pub met_later : (client : ℕ) (symbol : Name) (from : ℕ) (h more : History) (n : ℕ) → IsMet client symbol from h n → IsMet client symbol from (more ++ h) n
+met_later client symbol from h [] n m = m
+met_later client symbol from h (e ∷ more) n m = met_after client symbol from (more ++ h) e n (met_later client symbol from h more n m)
 
-pub met_sooner : (client : ℕ) (symbol : Name) (old older h : History) (n : ℕ) → length older ≤ length old → IsMet client symbol old h n → IsMet client symbol older h n
-met_sooner client symbol old older h n le m = record { added = omega (arith, le, m.added); within = m.within; event = m.event; at = m.at; refers = m.refers; others = m.others }
+pub met_sooner : (client : ℕ) (symbol : Name) (from earlier : ℕ) (h : History) (n : ℕ) → earlier ≤ from → IsMet client symbol from h n → IsMet client symbol earlier h n
+met_sooner client symbol from earlier h n le m = record { added = omega (arith, le, m.added); within = m.within; event = m.event; at = m.at; refers = m.refers; others = m.others }
 
 -- where a Refer was added and no own one, the newest one is another's
 pub met_here : (client : ℕ) (symbol : Name) (old more : History) → list_any (own_refers client symbol) more ≡ false → list_any (refers symbol) more ≡ true
-    → IsMet client symbol old (more ++ old) (referred_at (more ++ old) symbol)
+    → IsMet client symbol (length old) (more ++ old) (referred_at (more ++ old) symbol)
 met_here client symbol old [] none e = absurd (true≢false (sym e))
 met_here client symbol old (x ∷ more) none e =
     let parts = or_parts (own_refers client symbol x) (list_any (own_refers client symbol) more) none in
-    elim (refers symbol x) as (λ b. refers symbol x ≡ b → (b || list_any (refers symbol) more) ≡ true → IsMet client symbol old (x ∷ (more ++ old)) (referred_at (x ∷ (more ++ old)) symbol)) [
-      | true ↦ λ on f. subst (IsMet client symbol old (x ∷ (more ++ old))) (sym (referred_here symbol x (more ++ old) on)) (record {
+    elim (refers symbol x) as (λ b. refers symbol x ≡ b → (b || list_any (refers symbol) more) ≡ true → IsMet client symbol (length old) (x ∷ (more ++ old)) (referred_at (x ∷ (more ++ old)) symbol)) [
+      | true ↦ λ on f. subst (IsMet client symbol (length old) (x ∷ (more ++ old))) (sym (referred_here symbol x (more ++ old) on)) (record {
         added = omega (arith, length-append more old);
         within = omega arith;
         event = x;
@@ -75,22 +75,42 @@ met_here client symbol old (x ∷ more) none e =
         refers = on;
         others = λ own. true≢false (sym (and_from _ _ (eq-eqb (author x) client own) on) ∙ parts.0);
       })
-      | false ↦ λ off f. subst (IsMet client symbol old (x ∷ (more ++ old))) (sym (referred_later symbol x (more ++ old) off))
-          (met_after client symbol old (more ++ old) x _ (met_here client symbol old more parts.1 f))
+      | false ↦ λ off f. subst (IsMet client symbol (length old) (x ∷ (more ++ old))) (sym (referred_later symbol x (more ++ old) off))
+          (met_after client symbol (length old) (more ++ old) x _ (met_here client symbol old more parts.1 f))
     ] refl e
 
 -- so there is one at least
-pub met_once : (client : ℕ) (symbol : Name) (more : History) → list_any (own_refers client symbol) more ≡ false → list_any (refers symbol) more ≡ true → 1 ≤ met_in client symbol more
-met_once client symbol [] none e = absurd (true≢false (sym e))
-met_once client symbol (x ∷ more) none e =
-    let parts = or_parts (own_refers client symbol x) (list_any (own_refers client symbol) more) none in
+pub met_once : (client : ℕ) (symbol : Name) (old more : History) (n : ℕ) → IsMet client symbol (length old) (more ++ old) n → 1 ≤ met_in client symbol more
+met_once client symbol old [] n m = absurd (omega (arith, m.added, m.within))
+met_once client symbol old (x ∷ more) n m =
     let step : met_in client symbol (x ∷ more) ≡ cond (refers symbol x && not (nat_eq (author x) client)) 1 0 + met_in client symbol more =
     count_by-cons (λ e. refers symbol e && not (nat_eq (author e) client)) x more in
-    elim (refers symbol x) as (λ b. refers symbol x ≡ b → (b || list_any (refers symbol) more) ≡ true → 1 ≤ met_in client symbol (x ∷ more)) [
-      | true ↦ λ on f.
-          let other : nat_eq (author x) client ≡ false = is_false _ (λ own. true≢false (sym (and_from _ _ own on) ∙ parts.0)) in
+    elim (cases_lt (length (more ++ old)) n) [
+      | inl last ↦
+          let here : n ≡ suc (length (more ++ old)) = omega (arith, last, m.within) in
+          let same : Some x ≡ Some m.event = sym (event_at_end x (more ++ old)) ∙ (ap (event_at (x ∷ (more ++ old))) (sym here) ∙ m.at) in
+          let is : x ≡ m.event = cc in
+          let on : refers symbol x ≡ true = ap (refers symbol) is ∙ m.refers in
+          let other : nat_eq (author x) client ≡ false = ap (λ e. nat_eq (author e) client) is ∙ ne_eqb (author m.event) client m.others in
           let one : met_in client symbol (x ∷ more) ≡ 1 + met_in client symbol more =
           count_by-yes (λ e. refers symbol e && not (nat_eq (author e) client)) x more (and_from _ _ on (ap not other)) in
           omega (arith, one)
-      | false ↦ λ off f. let rest = met_once client symbol more parts.1 f in omega (arith, step, rest)
-    ] refl e
+      | inr within ↦
+          let before : IsMet client symbol (length old) (more ++ old) n = record {
+            added = m.added;
+            within = within;
+            event = m.event;
+            at = sym (event_at_later x (more ++ old) n within) ∙ m.at;
+            refers = m.refers;
+            others = m.others;
+          } in
+          let rest = met_once client symbol old more n before in
+          omega (arith, step, rest)
+    ]
+
+-- behind a look there is no own Refer
+pub later_not_own : (client : ℕ) (symbol : Name) (old new later before : History) → later ++ before ≡ new → (others : History) → new ≡ others ++ old → AllByOthers client others → length old ≤ length before
+    → list_any (own_refers client symbol) later ≡ false
+later_not_own client symbol old new later before split others is by_others longer =
+    let parts = split_more later before others old (split ∙ is) longer in
+    others_refer_not client symbol later (others_first client later parts.0 (subst (AllByOthers client) parts.2 by_others))

@@ -1,6 +1,6 @@
 -- The puts of a plan: their keys and bodies are such as a try puts, and once they stand the link and the element are there.
-use Rattle.std.proofs.Common.{◌≡◌, ℕ, suc, ◌+◌, ◌<◌, ◌^◌, ℤ, pos, Bool, true, false, cond, List, [], ◌∷◌, ◌++◌, length, map, refl, ap, sym, ◌∙◌, subst, arith, Option, Some, None, Ok, append_assoc}
-use Rattle.std.specs.Prelude.{if◌then◌else◌, nat_lt, ◌*◌, fold, max, sum_by, filter, flat_map, unwrap_or, FitsSigned, IsOk, ◌||◌, Result}
+use Rattle.std.proofs.Common.{◌≡◌, ℕ, suc, ◌+◌, ◌<◌, ◌^◌, ℤ, pos, Bool, true, false, cond, List, [], ◌∷◌, ◌++◌, length, map, refl, ap, sym, ◌∙◌, subst, arith, Option, Some, None, Ok, append_assoc, length-append, reverse}
+use Rattle.std.specs.Prelude.{if◌then◌else◌, nat_lt, fold, max, sum_by, filter, unwrap_or, FitsSigned, IsOk, ◌||◌, Result}
 use Rattle.std.specs.Int.{w64}
 use Rattle.std.specs.Arc.{arc_value}
 use Rattle.std.specs.Result.{is_ok}
@@ -15,11 +15,10 @@ use Rattle.std.proofs.lemmas.Bool.Decides.{nat_tests}
 use Rattle.segment_bytes.specs.Segments.{segment_of}
 use Rattle.segment_cut.specs.Tiles.{cut, Tiled}
 use Rattle.segment_cut.specs.Tiles.{Tile as CutTile}
-use Rattle.segment_cut.specs.Cuttings.{Cutting, IsCutting}
-use Rattle.segment_cut.specs.Grids.{parts, grid_of, tiles_of}
+use Rattle.segment_cut.specs.Cuttings.{Cutting}
+use Rattle.segment_cut.specs.Grids.{parts, grid_of}
 use Rattle.segment_cut.proofs.GridLemmas.{tiled-grid}
 use Rattle.index_tree.specs.declared.index.Slot.{Slot}
-use Rattle.index_tree.specs.declared.index.Index.{Index}
 use Rattle.index_tree.specs.IndexText.{index_of}
 use Rattle.index_tree.specs.IndexRules.{IsIndex}
 use Rattle.key_kind.specs.declared.key.KeyKind.TheVariants as kinds
@@ -36,17 +35,23 @@ use Rattle.store_model.specs.declared.chain.ChainMark.{ChainMark}
 use Rattle.store_model.specs.declared.chain.ChainMark.TheVariants as marks
 use Rattle.store_model.specs.ChainText.{entry_of}
 use Rattle.store_model.specs.Law.{IsLawful}
-use Rattle.store_model.specs.Library.{State, state_of, next_number}
+use Rattle.store_model.specs.Library.{State, Piece, state_of, next_number, live_versions}
 use Rattle.version_chain.specs.declared.state.SymbolState.{SymbolState}
 use Rattle.version_chain.specs.States.{IsStateOf}
-use Rattle.store_model.specs.Commits.{HasSlotStamps, marks_of}
-use Rattle.store_model.specs.OwnPuts.{IsOwnPut, AreOwnPuts, IsPutSlot, IsPutLink, IsPutEntry, slots_of}
+use Rattle.store_model.specs.Commits.{HasSlotStamps, marks_of, MayRefer, IsFilled}
+use Rattle.store_model.proofs.Writing.{wrote_may_follow}
+use Rattle.store_model.proofs.Untouched.{as_it_was}
+use Rattle.store_model.proofs.StableRefer.{staging}
+use Rattle.std.proofs.lemmas.List.{length-map}
+use Rattle.store_model.specs.OwnPuts.{IsOwnPut, AreOwnPuts, BuriesLive, buries_none, buries_live, IsPutSlot, IsPutLink, IsPutEntry, slots_of}
 use Rattle.store_model.proofs.Lists.{all_weaker}
 use Rattle.reply_model.specs.Answering.{removed, pruned, live_numbers}
 use Rattle.reply_model.specs.Tries.{IsTry, Before, of_version, IsKeyOf, keys_of_puts}
 use Rattle.frame_write.specs.declared.tiles.Tile.{Tile}
 use Rattle.frame_write.specs.Placing.{IsTileOf, AreTilesOf, slot_at, placed, tile_puts, index_key, element_key, live_of, next_of}
-use Rattle.frame_write.specs.Plans.{IsPutAt, ArePutsFrom, IsPlan, put_seen, puts_seen, changes_on}
+use Rattle.frame_write.specs.Plans.{ArePutsFrom, put_seen, puts_seen}
+use Rattle.frame_write.specs.WritePlans.{IsWritePlan}
+use Rattle.frame_write.specs.declared.options.Options.{Options}
 use Rattle.frame_write.specs.declared.puts.Prepared.{Prepared}
 use Rattle.frame_write.specs.declared.plan.Plan.{Plan}
 use Rattle.frame_write.proofs.StateLemmas.{live_told, next_told}
@@ -268,6 +273,26 @@ pruned_is : (st : State) (prune : Bool) (live numbers : List ℕ) → live ≡ l
 pruned_is st true live numbers same is = ap removed (is ∙ same)
 pruned_is st false live numbers same is = ap removed is
 
+-- the changes of a write, on a symbol as it was
+abbrev changes_on : History → Name → Frame → ℤ → Bool → List Change
+changes_on before symbol frame at prune = changes.Wrote frame at ∷ pruned (state_of before symbol) prune
+
+buries_pruned : (st : State) (prune : Bool) → BuriesLive st (pruned st prune)
+buries_pruned st false = buries_none
+buries_pruned st true = by (live_numbers st) refl
+  where
+    filled_if : (n : ℕ) (ns : List ℕ) → live_numbers st ≡ n ∷ ns → IsFilled (live_versions st)
+    filled_if n ns is = elim (live_versions st) as (λ vs. reverse (map (λ v. v.number) vs) ≡ n ∷ ns → IsFilled vs) [ [] ↦ λ e. absurd cc | v ∷ vs ↦ λ e. tt ] is
+
+    by : (ns : List ℕ) → live_numbers st ≡ ns → BuriesLive st (removed ns)
+    by [] is = buries_none
+    by (n ∷ ns) is = subst (λ ms. BuriesLive st (changes.Removed ms ∷ [])) is (buries_live (filled_if n ns is))
+
+-- what is buried does not depend on what is staged
+buries_staging : (st : State) (more : List Piece) (rest : List Change) → BuriesLive st rest → BuriesLive (staging more st) rest
+buries_staging st more _ buries_none = buries_none
+buries_staging st more _ (buries_live some) = buries_live some
+
 -- what a plan is made of
 pub record IsMade (client : ℕ) (symbol : Name) (version serial : ℕ) (frame : Frame) (tiles : List Tile) (at : ℤ) (prune : Bool) (state : SymbolState) (plan : Plan) : Type 0 where
   pub made : List Prepared
@@ -322,25 +347,51 @@ module _ (client serial : ℕ) (symbol : Name) (version : ℕ) (frame : Frame) (
   number : version ≡ next_number (state_of before symbol)
   number = m.version_is ∙ next_told before symbol state lawful walked
 
-  pub plan_is : IsPlan client serial before symbol frame at prune plan
-  plan_is = record {
-    was = m.was_is ∙ walked.was;
-    version = m.number_is ∙ number;
-    changes = m.changes_are ∙ ap (λ rest. changes.Wrote frame at ∷ rest) removed_are;
-    mark = m.mark_is;
-    is_try = subst (λ ps. IsTry symbol true ps plan.entry) (sym puts_seen_are)
-        (subst (IsTry symbol true _) (sym key_is)
-        (try_is client serial symbol version frame cutting tiles storable tiled try_fits small (arc_value m.index.body) (arc_value m.element.body) m.index_spelled m.row state.was (map marks.Tomb m.buried) index_row m.element_spelled));
-    puts = subst (ArePutsFrom client serial) (sym puts_seen_are)
-        (puts_from client serial symbol version frame cutting tiles storable tiled try_fits small (arc_value m.index.body) (arc_value m.element.body) m.index_spelled (ok_is_ok (entry_of (arc_value m.element.body)) _ m.element_spelled));
-    row = m.row;
-    number = m.row_number ∙ number;
-    stamp = m.row_stamp;
-    rows = m.row_rows;
-    link = λ h own. link_put client serial symbol version frame cutting tiles storable tiled try_fits small (arc_value m.index.body) (arc_value m.element.body) m.index_spelled h m.row index_row (subst (AreOwnPuts h client) puts_seen_are own);
-    element = λ h own. subst (λ k. IsPutEntry h client symbol k (record { prev = reference before symbol; changes = marks_of m.row (changes_on before symbol frame at prune) })) (sym key_is)
-        (entry_put client serial symbol version frame cutting tiles storable tiled try_fits small (arc_value m.index.body) (arc_value m.element.body) m.index_spelled h (reference before symbol) (marks_of m.row (changes_on before symbol frame at prune)) element_spells (subst (AreOwnPuts h client) puts_seen_are own));
+  -- the plan writes the frame
+  pub plan_is : (options : Options) → options.cutting ≡ cutting → options.at ≡ at → options.prune ≡ prune → IsWritePlan client serial before symbol frame options plan
+  plan_is options cutting_is at_is prune_is = record {
+    index = record { schema = frame.schema; rows = length frame.rows; slots = slots_of (placed client symbol version serial tiles) };
+    is_plan = record {
+      was = m.was_is ∙ walked.was;
+      version = m.number_is ∙ number;
+      mark = m.mark_is;
+      is_try = subst (λ ps. IsTry symbol true ps plan.entry) (sym puts_seen_are)
+          (subst (IsTry symbol true _) (sym key_is)
+          (try_is client serial symbol version frame cutting tiles storable tiled try_fits small (arc_value m.index.body) (arc_value m.element.body) m.index_spelled m.row state.was (map marks.Tomb m.buried) index_row m.element_spelled));
+      index_put = record {
+        tiles = tile_puts (placed client symbol version serial tiles);
+        key = index_key client symbol version (serial + length tiles) frame;
+        body = arc_value m.index.body;
+        element = (element_key client symbol (suc (serial + length tiles)), arc_value m.element.body);
+        is = puts_seen_are;
+        spelled = m.index_spelled;
+      };
+      puts = subst (ArePutsFrom client serial) (sym puts_seen_are)
+          (puts_from client serial symbol version frame cutting tiles storable tiled try_fits small (arc_value m.index.body) (arc_value m.element.body) m.index_spelled (ok_is_ok (entry_of (arc_value m.element.body)) _ m.element_spelled));
+      may_refer = λ more unreferred lawful own.
+          let same = as_it_was before more symbol unreferred in
+          let standing = subst (AreOwnPuts (more ++ before) client) puts_seen_are own in
+          subst (MayRefer (more ++ before) client symbol (reference before symbol) plan.entry) (sym changes_are)
+          (wrote_may_follow (more ++ before) client symbol frame at (reference before symbol) plan.entry (pruned (state_of before symbol) prune) m.row storable
+          (m.row_number ∙ (number ∙ sym (ap next_number same.state_is))) m.row_stamp m.row_rows
+          (subst (λ st. BuriesLive st (pruned (state_of before symbol) prune)) (sym same.state_is) (buries_staging (state_of before symbol) same.more (pruned (state_of before symbol) prune) (buries_pruned (state_of before symbol) prune)))
+          (link_put client serial symbol version frame cutting tiles storable tiled try_fits small (arc_value m.index.body) (arc_value m.element.body) m.index_spelled (more ++ before) m.row index_row standing)
+          (subst (λ k. IsPutEntry (more ++ before) client symbol k (record { prev = reference before symbol; changes = marks_of m.row (changes_on before symbol frame at prune) })) (sym key_is)
+          (entry_put client serial symbol version frame cutting tiles storable tiled try_fits small (arc_value m.index.body) (arc_value m.element.body) m.index_spelled (more ++ before) (reference before symbol) (marks_of m.row (changes_on before symbol frame at prune)) element_spells standing)));
+    };
+    changes = changes_are ∙ (λ i. changes.Wrote frame (sym at_is i) ∷ pruned (state_of before symbol) (sym prune_is i));
+    puts = ap length puts_seen_are ∙ (length-append (tile_puts (placed client symbol version serial tiles)) _ ∙ ap (λ n. n + 2) (tiles_counted ∙ ap (λ c. length (parts (grid_of frame c))) (sym cutting_is)));
   }
+    where
+      changes_are : arc_value plan.changes ≡ changes_on before symbol frame at prune
+      changes_are = m.changes_are ∙ ap (λ rest. changes.Wrote frame at ∷ rest) removed_are
+
+      tiles_counted : length (tile_puts (placed client symbol version serial tiles)) ≡ length (parts (grid_of frame cutting))
+      tiles_counted = counted serial tiles ∙ (sym (length-map tiles (λ (t : Tile). t.part)) ∙ ap length tiled.parts_are)
+        where
+          counted : (serial : ℕ) (tiles : List Tile) → length (tile_puts (placed client symbol version serial tiles)) ≡ length tiles
+          counted serial [] = refl
+          counted serial (t ∷ tiles) = ap suc (counted (suc serial) tiles)
 
 -- ---- the link
 

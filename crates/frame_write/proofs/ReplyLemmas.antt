@@ -1,21 +1,22 @@
 -- The reply made of the result of all tries is legal.
-use Rattle.std.proofs.Common.{◌≡◌, ℕ, ℤ, Bool, true, false, List, [], ◌∷◌, ◌++◌, refl, ap, sym, ◌∙◌, subst, inl, inr, cond, nat_eq, Result, Ok, Err}
+use Rattle.std.proofs.Common.{◌≡◌, ℕ, suc, ◌+◌, ◌≤◌, Bool, true, false, ◌&&◌, not, length, arith, length-append, List, [], ◌∷◌, ◌++◌, refl, ap, sym, ◌∙◌, subst, inl, inr, cond, nat_eq, Result, Ok, Err}
 use Rattle.std.specs.Prelude.{map, filter, reverse}
-use Rattle.std.specs.List.{AllByRecursion}
-use Rattle.std.proofs.lemmas.Bool.{eqb-true}
-use Rattle.std.proofs.lemmas.List.{reverse-reverse, reverse-append}
-use Rattle.frame_core.specs.Frames.{Frame}
+use Rattle.std.specs.List.{AllByRecursion, flat_map}
+use Rattle.std.proofs.lemmas.Bool.{eqb-true, eq-eqb}
+use Rattle.std.proofs.lemmas.List.{reverse-reverse, reverse-append, length-map, length-reverse}
+use Rattle.frame_core.specs.declared.refusal.Refusal.{Refusal}
 use Rattle.frame_core.specs.declared.refusal.Refused.{Refused}
 use Rattle.key_kind.specs.Names.{Name}
 use Rattle.bucket_core.specs.declared.event.Event.{Event}
 use Rattle.bucket_core.specs.declared.event.Event.TheVariants as events
 use Rattle.bucket_core.specs.History.{History, author}
+use Rattle.bucket_core.specs.Laws.{refers}
+use Rattle.segment_cut.proofs.Lists.{count_by-cons}
 use Rattle.reply_model.specs.Tries.{put_of}
 use Rattle.frame_write.specs.declared.options.Committed.{Committed}
-use Rattle.frame_write.specs.Traces.{Went}
-use Rattle.frame_write.specs.Plans.{changes_on}
-use Rattle.frame_write.specs.Tries.{DidCommit, DidTries}
-use Rattle.frame_write.specs.Writes.{GoesOn}
+use Rattle.frame_write.specs.Traces.{own_of, met_in, Went}
+use Rattle.frame_write.specs.Tries.{Made, DidCommit, DidTry, DidTries, DidRefused}
+use Rattle.frame_write.specs.Writes.{GoesOn, StandsAlone}
 use Rattle.frame_write.proofs.TraceLemmas.{own_of-append, own_of-one, went_then}
 
 -- ---- how the history went on
@@ -37,26 +38,82 @@ went_goes_on client sole old new own w = record {
 }
 
 -- a commit, with its Refer
-pub commit_went : (client : ℕ) (sole : Bool) (symbol : Name) (frame : Frame) (at : ℤ) (prune : Bool) (old new : History) (done : Committed) → (d : DidCommit client sole symbol frame at prune old new done)
-    → Went client sole old new (map (put_of client) d.puts ++ events.Refer client symbol d.was d.entry (changes_on d.before symbol frame at prune) ∷ [])
-commit_went client sole symbol frame at prune old new done d = record {
-  more = events.Refer client symbol d.was d.entry (changes_on d.before symbol frame at prune) ∷ d.went.more;
-  is = d.newest ∙ ap (λ h. events.Refer client symbol d.was d.entry (changes_on d.before symbol frame at prune) ∷ h) d.went.is;
-  own_are = own_of-append client (events.Refer client symbol d.was d.entry (changes_on d.before symbol frame at prune) ∷ []) d.went.more
-      ∙ (λ i. d.went.own_are i ++ own_of-one client (events.Refer client symbol d.was d.entry (changes_on d.before symbol frame at prune)) refl i);
-  alone = λ s. ap (λ l. events.Refer client symbol d.was d.entry (changes_on d.before symbol frame at prune) ∷ l) (d.went.alone s)
-      ∙ sym (reverse-append (map (put_of client) d.puts) (events.Refer client symbol d.was d.entry (changes_on d.before symbol frame at prune) ∷ []));
-  lawful = d.lawful;
-}
+pub commit_went : (client : ℕ) (sole : Bool) (symbol : Name) (Asked : Made → Type 0) (old new : History) (done : Committed) → (d : DidCommit client sole symbol Asked old new done)
+    → Went client sole old new (map (put_of client) d.made.puts ++ events.Refer client symbol d.was d.entry d.made.list ∷ [])
+commit_went client sole symbol Asked old new done d =
+    let refer : Event = events.Refer client symbol d.was d.entry d.made.list in
+    record {
+      more = refer ∷ d.went.more;
+      is = d.newest ∙ ap (λ h. refer ∷ h) d.went.is;
+      own_are = own_of-append client (refer ∷ []) d.went.more ∙ (λ i. d.went.own_are i ++ own_of-one client refer refl i);
+      alone = λ s. ap (λ l. refer ∷ l) (d.went.alone s) ∙ sym (reverse-append (map (put_of client) d.made.puts) (refer ∷ []));
+      lawful = d.lawful;
+    }
 
-pub goes_on : (client : ℕ) (sole : Bool) (symbol : Name) (frame : Frame) (at : ℤ) (prune : Bool) (most limit before now : ℕ) (old new : History) (r : Result Committed Refused)
-    → DidTries client sole symbol frame at prune most limit before now old new r → GoesOn client sole old new
-goes_on client sole symbol frame at prune most limit before now old new (Ok done) d =
-    went_goes_on client sole old new _ (went_then client sole old d.mid new _ _ d.refused.went (commit_went client sole symbol frame at prune d.mid new done d.last))
-goes_on client sole symbol frame at prune most limit before now old new (Err refused) d = elim d [
-  | inl all ↦ went_goes_on client sole old new _ all.all.went
-  | inr t ↦ elim t.last [
-    | inl stop ↦ went_goes_on client sole old new _ (went_then client sole old t.mid new _ _ t.refused.went stop.went)
-    | inr faulted ↦ went_goes_on client sole old new _ (went_then client sole old t.mid new _ _ t.refused.went (commit_went client sole symbol frame at prune t.mid new faulted.done faulted.commit))
+-- one try
+pub try_goes_on : (client : ℕ) (sole : Bool) (symbol : Name) (Asked : Made → Type 0) (limit before now from : ℕ) (old new : History) (r : Result Committed Refused)
+    → DidTry client sole symbol Asked limit before now from old new r → GoesOn client sole old new
+try_goes_on client sole symbol Asked limit before now from old new (Ok done) d = went_goes_on client sole old new _ (commit_went client sole symbol Asked old new done d)
+try_goes_on client sole symbol Asked limit before now from old new (Err refused) d = elim d [
+  | inl m ↦ went_goes_on client sole old new m.own m.went
+  | inr f ↦ elim f [
+    | inl s ↦ went_goes_on client sole old new s.own s.went
+    | inr s ↦ went_goes_on client sole old new _ (commit_went client sole symbol Asked old new s.done s.commit)
   ]
 ]
+
+-- all tries
+pub goes_on : (client : ℕ) (sole : Bool) (symbol : Name) (Asked : Made → Type 0) (Refuses : History → Refusal → Type 0) (Wants : History → Type 0) (most limit before now : ℕ) (old new : History) (r : Result Committed Refused)
+    → DidTries client sole symbol Asked Refuses Wants most limit before now old new r → GoesOn client sole old new
+goes_on client sole symbol Asked Refuses Wants most limit before now old new (Ok done) d =
+    went_goes_on client sole old new _ (went_then client sole old d.mid new _ _ d.refused.went (commit_went client sole symbol Asked d.mid new done d.last))
+goes_on client sole symbol Asked Refuses Wants most limit before now old new (Err refused) d = elim d [
+  | inl all ↦ went_goes_on client sole old new _ all.all.went
+  | inr t ↦ elim t.last [
+    | inl failed ↦ elim failed.0 [
+      | inl stop ↦ went_goes_on client sole old new _ (went_then client sole old t.mid new _ _ t.refused.went stop.went)
+      | inr faulted ↦ went_goes_on client sole old new _ (went_then client sole old t.mid new _ _ t.refused.went (commit_went client sole symbol Asked t.mid new faulted.done faulted.commit))
+    ]
+    | inr e ↦ went_goes_on client sole old new _ (went_then client sole old t.mid new _ _ t.refused.went e.went)
+  ]
+]
+
+-- ---- a client that is alone
+
+-- none of its tries is met, so that a commit stands right behind its puts
+pub stands_alone : (client : ℕ) (symbol : Name) (Asked : Made → Type 0) (most limit before now : ℕ) (Refuses : History → Refusal → Type 0) (Wants : History → Type 0) (old new : History) (done : Committed) (tiles : ℕ)
+    → ((m : Made) → Asked m → length m.puts ≡ tiles + 2) → DidTries client true symbol Asked Refuses Wants most limit before now old new (Ok done) → StandsAlone tiles old done
+stands_alone client symbol Asked most limit before now Refuses Wants old new done tiles counts d =
+    let c = d.last in
+    let none : d.count ≤ 0 = subst (λ n. d.count ≤ n) (no_others client symbol d.refused.went.more (flat_map (λ t. t) d.refused.tries) d.refused.went.own_are (d.refused.went.alone refl)) d.refused.met in
+    let start : d.mid ≡ old = no_tries client true symbol old d.mid d.count d.refused none refl in
+    let size : length c.made.before ≡ length (map (put_of client) c.made.puts) + length d.mid = ap length (c.went.is ∙ ap (λ l. l ++ d.mid) (c.went.alone refl)) ∙ (length-append (reverse (map (put_of client) c.made.puts)) d.mid
+    ∙ ap (λ n. n + length d.mid) (length-reverse (map (put_of client) c.made.puts))) in
+    let puts : length (map (put_of client) c.made.puts) ≡ tiles + 2 = length-map c.made.puts (put_of client) ∙ counts c.made c.asked in
+    let whole : length new ≡ suc (length c.made.before) = ap length c.newest in
+    omega (arith, c.place, whole, size, puts, ap length start)
+  where
+    -- own events are no Refers by others
+    own_not_met : (client : ℕ) (symbol : Name) (more : History) → AllByRecursion (λ (e : Event). author e ≡ client) more → met_in client symbol more ≡ 0
+    own_not_met client symbol [] own = refl
+    own_not_met client symbol (e ∷ more) own =
+        let step : met_in client symbol (e ∷ more) ≡ cond (refers symbol e && not (nat_eq (author e) client)) 1 0 + met_in client symbol more = count_by-cons (λ x. refers symbol x && not (nat_eq (author x) client)) e more in
+        let mine : (refers symbol e && not (nat_eq (author e) client)) ≡ false = (λ i. refers symbol e && not (eq-eqb (author e) client own.0 i)) ∙ and_false (refers symbol e) in
+        step ∙ ((λ i. cond (mine i) 1 0 + own_not_met client symbol more own.1 i))
+      where
+        and_false : (b : Bool) → (b && false) ≡ false
+        and_false true = refl
+        and_false false = refl
+
+    no_others : (client : ℕ) (symbol : Name) (more : History) (own : List Event) → own_of client more ≡ own → more ≡ reverse own → met_in client symbol more ≡ 0
+    no_others client symbol more own is alone = own_not_met client symbol more
+        (subst (AllByRecursion (λ (e : Event). author e ≡ client)) (sym (alone ∙ (ap reverse (sym is) ∙ reverse-reverse (filter (λ e. nat_eq (author e) client) more)))) (all_filtered client more))
+
+    no_tries : (client : ℕ) (sole : Bool) (symbol : Name) (old mid : History) (count : ℕ) → (r : DidRefused client sole symbol old mid count) → count ≤ 0 → sole ≡ true → mid ≡ old
+    no_tries client sole symbol old mid count r none alone =
+        let empty : r.tries ≡ [] = nothing r.tries (omega (arith, r.counted, none)) in
+        r.went.is ∙ ap (λ l. l ++ old) (r.went.alone alone ∙ ap (λ ts. reverse (flat_map (λ t. t) ts)) empty)
+      where
+        nothing : (ts : List (List Event)) → length ts ≤ 0 → ts ≡ []
+        nothing [] le = refl
+        nothing (t ∷ ts) le = absurd (omega (arith, le))

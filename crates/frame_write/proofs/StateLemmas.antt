@@ -1,21 +1,19 @@
 -- What a lawful history tells of a walked state: its reference is an element, and its numbers are those of the library.
-use Rattle.std.proofs.Common.{◌≡◌, ℕ, suc, pos, Bool, true, false, cond, not, List, [], ◌∷◌, ◌++◌, map, reverse, refl, ap, sym, ◌∙◌, subst, Option, Some, None, nat_eq}
+use Rattle.std.proofs.Common.{◌≡◌, ℕ, suc, Bool, true, false, cond, not, List, [], ◌∷◌, ◌++◌, map, reverse, refl, ap, sym, ◌∙◌, subst, Option, Some, None, nat_eq}
 use Rattle.std.specs.Prelude.{filter, IfSome}
 use Rattle.std.specs.List.{AllZip, list_any}
 use Rattle.std.proofs.lemmas.List.{reverse-append}
 use Rattle.std.proofs.lemmas.List.Elements.{filter-append}
-use Rattle.std.proofs.lemmas.Bool.{and_from}
 use denote.Struct.Props.{props}
 use mathlib.Core.Logic.{∥∥₁_elim, ∥∥₁_map}
 use mathlib.Core.List.{reverse_aux}
-use Rattle.key_kind.specs.declared.key.KeyKind.TheVariants as kinds
 use Rattle.key_kind.specs.declared.key.Key.{Key}
 use Rattle.key_kind.specs.Names.{Name}
 use Rattle.key_kind.specs.Keys.{IsKey, has_version, has_stamps}
-use Rattle.bucket_core.specs.History.{History, reference, body_put}
+use Rattle.bucket_core.specs.History.{History, reference}
 use Rattle.store_model.specs.declared.chain.LinkRow.{LinkRow}
 use Rattle.store_model.specs.Intact.{IsLinkOf}
-use Rattle.store_model.specs.Library.{State, Version, state_of, next_number, number_after, live_versions, is_buried}
+use Rattle.store_model.specs.Library.{State, Version, state_of, next_number, number_after, live_versions}
 use Rattle.store_model.specs.Links.{Linked, links, entries}
 use Rattle.store_model.specs.Commits.{Rising, IsFilled}
 use Rattle.store_model.specs.Law.{IsLawful}
@@ -24,7 +22,8 @@ use Rattle.store_model.proofs.Following.{entries-first, at_is_among, put_key}
 use Rattle.store_model.proofs.Numbering.{versions_numbered, live_may_be_buried}
 use Rattle.version_chain.specs.declared.state.SymbolState.{SymbolState}
 use Rattle.version_chain.specs.States.{IsStateOf, is_tomb}
-use Rattle.reply_model.specs.Answering.{live_numbers}
+use Rattle.reply_model.specs.Answering.{live_numbers, pruned}
+use Rattle.frame_write.specs.Links.{IsUnmoved}
 use Rattle.frame_write.specs.Placing.{IsElementKey, live_of, next_of, number_behind}
 
 -- ---- the reference
@@ -134,3 +133,7 @@ rising_live h symbol state lawful s = subst Rising (sym (live_told h symbol stat
 -- a walk's place is one of a lawful history
 pub walked_lawful : (h later before : History) → h ≡ later ++ before → ∥ IsLawful h ∥₁ → ∥ IsLawful before ∥₁
 walked_lawful h later before split lawful = ∥∥₁_map lawful (λ (l : IsLawful h). beginning_lawful later before (subst IsLawful split l))
+
+-- what prune buries is the same where only pieces were staged
+pub same_pruned : (st now : State) (prune : Bool) → IsUnmoved st now → pruned st prune ≡ pruned now prune
+same_pruned st now prune u = sym (ap (λ s. pruned s prune) u.is)

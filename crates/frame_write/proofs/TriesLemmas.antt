@@ -1,21 +1,23 @@
 -- Several tries, one after another.
-use Rattle.std.proofs.Common.{◌≡◌, ℕ, ◌+◌, ℤ, Bool, true, List, [], ◌∷◌, ◌++◌, length, refl, ap, sym, ◌∙◌, subst, inl, inr, arith, Result, Ok, Err, length-append}
+use Rattle.std.proofs.Common.{◌≡◌, ℕ, ◌+◌, ◌≤◌, Bool, true, List, [], ◌∷◌, ◌++◌, length, refl, ap, sym, ◌∙◌, subst, inl, inr, arith, Result, Ok, Err, length-append}
 use Rattle.std.specs.List.{flat_map}
-use Rattle.frame_core.specs.Frames.{Frame}
+use Rattle.frame_core.specs.declared.refusal.Refusal.{Refusal}
+use Rattle.frame_core.specs.declared.refusal.Refusal.TheVariants as refusals
 use Rattle.frame_core.specs.declared.refusal.Refused.{Refused}
 use Rattle.key_kind.specs.Names.{Name}
 use Rattle.bucket_core.specs.declared.event.Event.{Event}
 use Rattle.bucket_core.specs.History.{History}
 use Rattle.bucket_core.specs.Calls.{IsSteady}
 use Rattle.reply_model.specs.Tries.{IsRefused}
-use Rattle.frame_write.specs.declared.attempt.Tried.{Tried}
-use Rattle.frame_write.specs.declared.attempt.Tried.TheVariants as tried
 use Rattle.frame_write.specs.declared.options.Committed.{Committed}
 use Rattle.frame_write.specs.Traces.{met_in, Went}
-use Rattle.frame_write.specs.Tries.{DidCommit, DidMeet, DidTry, DidRefused, IsMet}
+use Rattle.frame_write.specs.Stops.{HasCause, StopsAt}
+use Rattle.frame_write.specs.Writes.{Always}
+use Rattle.frame_write.specs.Tries.{Made, DidCommit, DidMeet, DidFail, DidTry, DidRefused, IsBusy, IsMet, IsPart, no_event, some_puts, some_drops}
 use Rattle.frame_write.proofs.ListLemmas.{all_last}
 use Rattle.frame_write.proofs.TraceLemmas.{append_assoc, went_none, went_then, went_as, went_longer, same_front, met_in-append}
-use Rattle.frame_write.proofs.MeetLemmas.{met_sooner}
+use Rattle.frame_write.proofs.MeetLemmas.{met_sooner, met_once}
+use Rattle.frame_write.proofs.CommitLemmas.{later_stop}
 use Rattle.frame_write.proofs.SteadyLemmas.{cause_sooner, rose_sooner}
 
 pub flat_last : (ts : List (List Event)) (t : List Event) → flat_map (λ t. t) (ts ++ t ∷ []) ≡ flat_map (λ t. t) ts ++ t
@@ -29,54 +31,225 @@ flat_last (u ∷ ts) t = ap (λ l. u ++ l) (flat_last ts t) ∙ sym (append_asso
 pub tries_none : (client : ℕ) (sole : Bool) (symbol : Name) (old : History) → DidRefused client sole symbol old old 0
 tries_none client sole symbol old = record { tries = []; refused = tt; counted = refl; went = went_none client sole old; met = omega arith }
 
-pub tries_more : (client : ℕ) (sole : Bool) (symbol : Name) (old mid new : History) (n now : ℕ) → DidRefused client sole symbol old mid n → DidMeet client sole symbol mid new now → DidRefused client sole symbol old new (n + 1)
-tries_more client sole symbol old mid new n now a b =
+-- one refused try more, which was met behind the place where it began
+pub tries_more : (client : ℕ) (sole : Bool) (symbol : Name) (old mid new : History) (n : ℕ) (refused : Refused) → DidRefused client sole symbol old mid n → DidMeet client sole symbol (length mid) mid new refused → DidRefused client sole symbol old new (n + 1)
+tries_more client sole symbol old mid new n refused a b =
     let w : Went client sole old new (flat_map (λ t. t) (a.tries ++ b.own ∷ [])) =
     went_as client sole old new (flat_map (λ t. t) a.tries ++ b.own) (flat_map (λ t. t) (a.tries ++ b.own ∷ [])) (sym (flat_last a.tries b.own)) (went_then client sole old mid new (flat_map (λ t. t) a.tries) b.own a.went b.went) in
     let is : new ≡ (b.went.more ++ a.went.more) ++ old = b.went.is ∙ (ap (λ h. b.went.more ++ h) a.went.is ∙ sym (append_assoc b.went.more a.went.more old)) in
     let same : w.more ≡ b.went.more ++ a.went.more = same_front w.more (b.went.more ++ a.went.more) old (sym w.is ∙ is) in
     let count : met_in client symbol w.more ≡ met_in client symbol b.went.more + met_in client symbol a.went.more = ap (met_in client symbol) same ∙ met_in-append client symbol b.went.more a.went.more in
     let size : length (a.tries ++ b.own ∷ []) ≡ length a.tries + 1 = length-append a.tries (b.own ∷ []) in
+    let some : 1 ≤ met_in client symbol b.went.more = met_once client symbol mid b.went.more refused.place (subst (λ h. IsMet client symbol (length mid) h refused.place) b.went.is b.met) in
     record {
       tries = a.tries ++ b.own ∷ [];
-      refused = all_last (IsRefused client symbol true) a.tries b.own a.refused b.refused;
+      refused = all_last (IsRefused client symbol true) a.tries b.own a.refused b.is_refused;
       counted = omega (arith, size, a.counted);
       went = w;
-      met = omega (arith, count, a.met, b.some);
+      met = omega (arith, count, a.met, some);
     }
 
-pub last_met : (client : ℕ) (sole : Bool) (symbol : Name) (old mid new : History) (n now : ℕ) → DidRefused client sole symbol old mid n → DidMeet client sole symbol mid new now → IsMet client symbol old new now
-last_met client sole symbol old mid new n now a b = met_sooner client symbol mid old new now (went_longer client sole old mid (flat_map (λ t. t) a.tries) a.went) b.met
+pub last_met : (client : ℕ) (sole : Bool) (symbol : Name) (old mid new : History) (n : ℕ) (refused : Refused) → DidRefused client sole symbol old mid n → DidMeet client sole symbol (length mid) mid new refused
+    → IsMet client symbol (length old) new refused.place
+last_met client sole symbol old mid new n refused a b = met_sooner client symbol (length mid) (length old) new refused.place (went_longer client sole old mid (flat_map (λ t. t) a.tries) a.went) b.met
+
+-- ---- what the refusal of a try tells
+
+no_cause_moved : (limit before now : ℕ) (new : History) (refused : Refused) (why : Refusal) (at : ℕ) → why ≡ refusals.Moved at → HasCause limit before now new refused why → ⊥
+no_cause_moved limit before now new refused why at is c = subst (HasCause limit before now new refused) is c
+
+module _ (client : ℕ) (sole : Bool) (symbol : Name) (Asked : Made → Type 0) (limit before now from : ℕ) (old new : History) (refused : Refused) (d : DidTry client sole symbol Asked limit before now from old new (Err refused)) where
+  -- it was met where the refusal is Moved
+  pub met_where_moved : (at : ℕ) → refused.why ≡ refusals.Moved at → DidMeet client sole symbol from old new refused
+  met_where_moved at is = elim d [
+    | inl m ↦ m
+    | inr f ↦ elim f [
+      | inl s ↦ absurd (no_cause_moved limit before now new refused refused.why at is s.cause)
+      | inr s ↦ absurd (apart (sym s.why ∙ is))
+    ]
+  ]
+    where
+      apart : refusals.StoreFault ≡ refusals.Moved at → ⊥
+      apart e = cc
+
+  -- and failed where it is not
+  pub failed_else : ((at : ℕ) → refused.why ≡ refusals.Moved at → ⊥) → DidFail client sole symbol Asked limit before now from old new refused
+  failed_else apart = elim d [
+    | inl m ↦ absurd (apart refused.place m.why)
+    | inr f ↦ f
+  ]
+
+pub moved_place : (client : ℕ) (sole : Bool) (symbol : Name) (from : ℕ) (old new : History) (refused : Refused) (at : ℕ) → refused.why ≡ refusals.Moved at → DidMeet client sole symbol from old new refused → refused.place ≡ at
+moved_place client sole symbol from old new refused at is m = same (sym m.why ∙ is)
+  where
+    same : refusals.Moved refused.place ≡ refusals.Moved at → refused.place ≡ at
+    same e = cc
 
 -- what a try did, of the bucket as it was before earlier calls
-module _ {B : Type 0} (number limit faults : B → ℕ) (sole : B → Bool) (a b : B) (steady : IsSteady number limit faults sole a b) (symbol : Name) (frame : Frame) (at : ℤ) (prune : Bool) (now : ℕ) (x y : History) where
-  pub try_steady : (r : Result Tried Refused) → DidTry (number b) (sole b) symbol frame at prune (limit b) (faults b) now x y r → DidTry (number a) (sole a) symbol frame at prune (limit a) (faults a) now x y r
-  try_steady r d =
-      subst (λ n. DidTry n (sole a) symbol frame at prune (limit a) (faults a) now x y r) steady.same_number
-      (subst (λ l. DidTry (number b) (sole a) symbol frame at prune l (faults a) now x y r) steady.same_limit (weaker r d))
+module _ {B : Type 0} (number limit faults : B → ℕ) (sole : B → Bool) (a b : B) (steady : IsSteady number limit faults sole a b) (symbol : Name) (now from : ℕ) (x y : History) where
+  -- where its commit was asked for, for each client
+  pub try_steady : (Asked : ℕ → Made → Type 0) (r : Result Committed Refused) → DidTry (number b) (sole b) symbol (Asked (number b)) (limit b) (faults b) now from x y r → DidTry (number a) (sole a) symbol (Asked (number a)) (limit a) (faults a) now from x y r
+  try_steady Asked r d =
+      subst (λ n. DidTry n (sole a) symbol (Asked n) (limit a) (faults a) now from x y r) steady.same_number
+      (subst (λ l. DidTry (number b) (sole a) symbol (Asked (number b)) l (faults a) now from x y r) steady.same_limit (weaker r d))
     where
       went : (u v : History) (own : List Event) → Went (number b) (sole b) u v own → Went (number b) (sole a) u v own
       went u v own w = record { more = w.more; is = w.is; own_are = w.own_are; alone = λ t. w.alone (steady.stays_sole t); lawful = w.lawful }
 
-      commit : (done : Committed) → DidCommit (number b) (sole b) symbol frame at prune x y done → DidCommit (number b) (sole a) symbol frame at prune x y done
-      commit done d = record { puts = d.puts; was = d.was; entry = d.entry; is_try = d.is_try; before = d.before; newest = d.newest; went = went x d.before _ d.went; lawful = d.lawful; version = d.version; place = d.place }
-
-      weaker : (r : Result Tried Refused) → DidTry (number b) (sole b) symbol frame at prune (limit b) (faults b) now x y r → DidTry (number b) (sole a) symbol frame at prune (limit b) (faults a) now x y r
-      weaker (Ok (tried.Done done)) d = commit done d
-      weaker (Ok (tried.Met place)) d = record {
-        own = d.own;
-        refused = d.refused;
-        went = record { more = d.went.more; is = d.went.is; own_are = d.went.own_are; alone = λ t. d.went.alone (steady.stays_sole t); lawful = d.went.lawful };
-        some = d.some;
-        met = d.met;
+      commit : (done : Committed) → DidCommit (number b) (sole b) symbol (Asked (number b)) x y done → DidCommit (number b) (sole a) symbol (Asked (number b)) x y done
+      commit done d = record {
+        made = d.made;
+        was = d.was;
+        entry = d.entry;
+        is_try = d.is_try;
+        index = d.index;
+        asked = d.asked;
+        newest = d.newest;
+        went = went x d.made.before _ d.went;
+        lawful = d.lawful;
+        version = d.version;
+        place = d.place;
       }
+
+      weaker : (r : Result Committed Refused) → DidTry (number b) (sole b) symbol (Asked (number b)) (limit b) (faults b) now from x y r → DidTry (number b) (sole a) symbol (Asked (number b)) (limit b) (faults a) now from x y r
+      weaker (Ok done) d = commit done d
       weaker (Err refused) d = elim d [
-        | inl s ↦ inl (record {
-          own = s.own;
-          went = record { more = s.went.more; is = s.went.is; own_are = s.went.own_are; alone = λ t. s.went.alone (steady.stays_sole t); lawful = s.went.lawful };
-          part = s.part;
-          stops = s.stops;
-          cause = cause_sooner (faults a) (faults b) now (limit b) y steady.faults_rise refused refused.why s.cause;
+        | inl m ↦ inl (record {
+          own = m.own;
+          is_refused = m.is_refused;
+          went = record { more = m.went.more; is = m.went.is; own_are = m.went.own_are; alone = λ t. m.went.alone (steady.stays_sole t); lawful = m.went.lawful };
+          met = m.met;
+          why = m.why;
         })
-        | inr s ↦ inr (record { done = s.done; commit = commit s.done s.commit; why = s.why; stops = s.stops; rose = rose_sooner (faults a) (faults b) now steady.faults_rise s.rose })
+        | inr f ↦ elim f [
+          | inl s ↦ inr (inl (record {
+            own = s.own;
+            went = record { more = s.went.more; is = s.went.is; own_are = s.went.own_are; alone = λ t. s.went.alone (steady.stays_sole t); lawful = s.went.lawful };
+            part = s.part;
+            stops = s.stops;
+            cause = cause_sooner (faults a) (faults b) now (limit b) y steady.faults_rise refused refused.why s.cause;
+          }))
+          | inr s ↦ inr (inr (record { done = s.done; commit = commit s.done s.commit; why = s.why; stops = s.stops; rose = rose_sooner (faults a) (faults b) now steady.faults_rise s.rose }))
+        ]
       ]
+
+-- ---- a commit that makes what is asked makes what follows from it
+
+module _ (client : ℕ) (sole : Bool) (symbol : Name) (Asked Other : Made → Type 0) (follows : (m : Made) → Asked m → Other m) where
+  pub commit_weaker : (old new : History) (done : Committed) → DidCommit client sole symbol Asked old new done → DidCommit client sole symbol Other old new done
+  commit_weaker old new done d = record {
+    made = d.made;
+    was = d.was;
+    entry = d.entry;
+    is_try = d.is_try;
+    index = d.index;
+    asked = follows d.made d.asked;
+    newest = d.newest;
+    went = d.went;
+    lawful = d.lawful;
+    version = d.version;
+    place = d.place;
+  }
+
+  fail_weaker : (limit before now from : ℕ) (old new : History) (refused : Refused) → DidFail client sole symbol Asked limit before now from old new refused → DidFail client sole symbol Other limit before now from old new refused
+  fail_weaker limit before now from old new refused d = elim d [
+    | inl s ↦ inl s
+    | inr s ↦ inr (record { done = s.done; commit = commit_weaker old new s.done s.commit; why = s.why; stops = s.stops; rose = s.rose })
+  ]
+
+  pub try_weaker : (limit before now from : ℕ) (old new : History) (r : Result Committed Refused) → DidTry client sole symbol Asked limit before now from old new r → DidTry client sole symbol Other limit before now from old new r
+  try_weaker limit before now from old new (Ok done) d = commit_weaker old new done d
+  try_weaker limit before now from old new (Err refused) d = elim d [
+    | inl m ↦ inl m
+    | inr f ↦ inr (fail_weaker limit before now from old new refused f)
+  ]
+
+-- ---- a try that began with looks
+
+module _ (client : ℕ) (sole : Bool) (symbol : Name) (Asked : Made → Type 0) (limit before now from earlier : ℕ) (old mid new : History) (sooner : earlier ≤ from) (looks : Went client sole old mid []) where
+  commit_from : (done : Committed) → DidCommit client sole symbol Asked mid new done → DidCommit client sole symbol Asked old new done
+  commit_from done d = record {
+    made = d.made;
+    was = d.was;
+    entry = d.entry;
+    is_try = d.is_try;
+    index = d.index;
+    asked = d.asked;
+    newest = d.newest;
+    went = went_then client sole old mid d.made.before [] _ looks d.went;
+    lawful = λ l. d.lawful (looks.lawful l);
+    version = d.version;
+    place = d.place;
+  }
+
+  part_from : (own : List Event) → IsPart client symbol from new own → IsPart client symbol earlier new own
+  part_from _ no_event = no_event
+  part_from _ (some_puts n puts entry t) = some_puts n puts entry t
+  part_from _ (some_drops n puts entry t at m) = some_drops n puts entry t at (met_sooner client symbol from earlier new at sooner m)
+
+  fail_from : (refused : Refused) → DidFail client sole symbol Asked limit before now from mid new refused → DidFail client sole symbol Asked limit before now earlier old new refused
+  fail_from refused d = elim d [
+    | inl s ↦ inl (record {
+      own = s.own;
+      went = went_then client sole old mid new [] s.own looks s.went;
+      part = part_from s.own s.part;
+      stops = later_stop client old mid new refused (went_longer client sole old mid [] looks) s.stops;
+      cause = s.cause;
+    })
+    | inr s ↦ inr (record {
+      done = s.done;
+      commit = commit_from s.done s.commit;
+      why = s.why;
+      stops = later_stop client old mid new refused (went_longer client sole old mid [] looks) s.stops;
+      rose = s.rose;
+    })
+  ]
+
+  -- is a try from there on
+  pub try_from : (r : Result Committed Refused) → DidTry client sole symbol Asked limit before now from mid new r → DidTry client sole symbol Asked limit before now earlier old new r
+  try_from (Ok done) d = commit_from done d
+  try_from (Err refused) d = elim d [
+    | inl m ↦ inl (record {
+      own = m.own;
+      is_refused = m.is_refused;
+      went = went_then client sole old mid new [] m.own looks m.went;
+      met = met_sooner client symbol from earlier new refused.place sooner m.met;
+      why = m.why;
+    })
+    | inr f ↦ inr (fail_from refused f)
+  ]
+
+-- ---- a command that has a change to make in every history
+
+-- where the store was full
+pub busy_always : (client : ℕ) (sole : Bool) (symbol : Name) (Asked : Made → Type 0) (limit before now from : ℕ) (old new : History) (refused : Refused) → DidTry client sole symbol Asked limit before now from old new (Err refused)
+    → ((at : ℕ) → refused.why ≡ refusals.Moved at → ⊥) → IsBusy Always old new refused.place refused.why
+busy_always client sole symbol Asked limit before now from old new refused d apart =
+    busy refused.why (elim (failed_else client sole symbol Asked limit before now from old new refused d apart) [ inl s ↦ stops_within s.stops | inr s ↦ stops_within s.stops ])
+  where
+    stops_within : StopsAt client old new refused → length old ≤ refused.place
+    stops_within s = omega (arith, s.place, s.later)
+
+    busy : (why : Refusal) → length old ≤ refused.place → IsBusy Always old new refused.place why
+    busy (refusals.Spent count) le = (length old, omega arith, le, tt)
+    busy refusals.NoMemory le = tt
+    busy refusals.StoreFault le = tt
+    busy refusals.NoSuchSymbol le = tt
+    busy (refusals.NoSuchVersion asked) le = tt
+    busy (refusals.VersionGone version) le = tt
+    busy (refusals.Moved at) le = tt
+    busy (refusals.Unsorted row) le = tt
+    busy (refusals.SchemaDiffers column) le = tt
+    busy (refusals.AppendBefore last first) le = tt
+    busy (refusals.OutsideRange row) le = tt
+    busy refusals.EmptyUpdate le = tt
+    busy (refusals.NoSuchColumn clause position) le = tt
+    busy (refusals.TypeMismatch clause) le = tt
+    busy (refusals.Overflow clause row) le = tt
+    busy (refusals.GroupOverflow clause group) le = tt
+    busy (refusals.NotTimeIndexed clause) le = tt
+    busy refusals.SnapshotExists le = tt
+    busy refusals.NoSuchSnapshot le = tt
+    busy refusals.NoStaged le = tt
+    busy (refusals.StagedOverlap piece) le = tt
+    busy (refusals.TooLarge what most) le = tt

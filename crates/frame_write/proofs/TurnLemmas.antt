@@ -13,7 +13,7 @@ use Rattle.reply_model.specs.Answering.{Session}
 use Rattle.reply_model.specs.Windows.{Window, refers_by_others}
 use Rattle.reply_model.specs.Tries.{put_of, drop_of, IsTry, IsRefused, IsTurn}
 use Rattle.reply_model.specs.OwnEvents.{AnyMarks, IsBeginning}
-use Rattle.frame_write.specs.Tries.{IsPart, no_event, some_puts, some_drops}
+use Rattle.frame_write.specs.Tries.{IsMet, IsPart, no_event, some_puts, some_drops}
 use Rattle.frame_write.proofs.ListLemmas.{all_last, map_append}
 use Rattle.frame_write.proofs.TraceLemmas.{append_assoc}
 use Rattle.frame_write.proofs.TriesLemmas.{flat_last}
@@ -44,21 +44,22 @@ module _ (h : History) (s : Session) (w : Window) (symbol : Name) (tries : List 
   open_turn met few = record { tries = tries; last = []; is = sym (append_none (flat_map (λ t. t) tries)); refused = refused; met = met; few = omega (arith, few); ends = refl }
 
   -- refused tries and a part of one more
-  pub cut_turn : (own : List Event) (met_in_part : ℕ) → length tries < s.tries → length tries + met_in_part ≤ refers_by_others h s.client symbol w → IsPart s.client symbol met_in_part own
+  pub cut_turn : (own : List Event) (from : ℕ) (new : History) → length tries < s.tries → length tries ≤ refers_by_others h s.client symbol w → ((at : ℕ) → IsMet s.client symbol from new at → length tries + 1 ≤ refers_by_others h s.client symbol w)
+      → IsPart s.client symbol from new own
       → IsBeginning (IsTurn h s w symbol true true AnyMarks) (flat_map (λ t. t) tries ++ own) ⊎ IsBeginning (IsTurn h s w symbol true false AnyMarks) (flat_map (λ t. t) tries ++ own)
-  cut_turn _ m few met no_event = inr (record {
+  cut_turn _ from new few met more no_event = inr (record {
     more = [];
-    whole = subst (IsTurn h s w symbol true false AnyMarks) (sym (append_none (flat_map (λ t. t) tries ++ []) ∙ append_none (flat_map (λ t. t) tries))) (open_turn (omega (arith, met)) (omega (arith, few)));
+    whole = subst (IsTurn h s w symbol true false AnyMarks) (sym (append_none (flat_map (λ t. t) tries ++ []) ∙ append_none (flat_map (λ t. t) tries))) (open_turn met (omega (arith, few)));
   })
-  cut_turn _ m few met (some_puts n puts entry is_try) = inl (record {
+  cut_turn _ from new few met more (some_puts n puts entry is_try) = inl (record {
     more = map (put_of s.client) (drop n puts) ++ events.Refer s.client symbol None entry [] ∷ [];
     whole = subst (IsTurn h s w symbol true true AnyMarks)
         (sym (append_assoc (flat_map (λ t. t) tries) (map (put_of s.client) (take n puts)) (map (put_of s.client) (drop n puts) ++ events.Refer s.client symbol None entry [] ∷ [])
         ∙ ap (λ l. flat_map (λ t. t) tries ++ l) (sym (append_assoc (map (put_of s.client) (take n puts)) (map (put_of s.client) (drop n puts)) (events.Refer s.client symbol None entry [] ∷ []))
         ∙ ap (λ l. l ++ events.Refer s.client symbol None entry [] ∷ []) (sym (map_append (put_of s.client) (take n puts) (drop n puts)) ∙ ap (map (put_of s.client)) (split_at_count n puts)))))
-        (done_turn (omega (arith, met)) few puts None entry [] is_try);
+        (done_turn met few puts None entry [] is_try);
   })
-  cut_turn _ m few met (some_drops n puts entry is_try one) = inr (record {
+  cut_turn _ from new few met more (some_drops n puts entry is_try at m) = inr (record {
     more = map (drop_of s.client) (drop n puts);
     whole = record {
       tries = tries ++ (map (put_of s.client) puts ++ map (drop_of s.client) puts) ∷ [];
@@ -68,7 +69,7 @@ module _ (h : History) (s : Session) (w : Window) (symbol : Name) (tries : List 
           ∙ ap (λ l. map (put_of s.client) puts ++ l) (sym (map_append (drop_of s.client) (take n puts) (drop n puts)) ∙ ap (map (drop_of s.client)) (split_at_count n puts)))
           ∙ (sym (flat_last tries (map (put_of s.client) puts ++ map (drop_of s.client) puts)) ∙ sym (append_none (flat_map (λ t. t) (tries ++ (map (put_of s.client) puts ++ map (drop_of s.client) puts) ∷ [])))));
       refused = all_last (IsRefused s.client symbol true) tries (map (put_of s.client) puts ++ map (drop_of s.client) puts) refused (puts, entry, is_try, refl);
-      met = let size : length (tries ++ (map (put_of s.client) puts ++ map (drop_of s.client) puts) ∷ []) ≡ length tries + 1 = length-append tries ((map (put_of s.client) puts ++ map (drop_of s.client) puts) ∷ []) in omega (arith, size, met, one);
+      met = let size : length (tries ++ (map (put_of s.client) puts ++ map (drop_of s.client) puts) ∷ []) ≡ length tries + 1 = length-append tries ((map (put_of s.client) puts ++ map (drop_of s.client) puts) ∷ []) in let one = more at m in omega (arith, size, one);
       few = let size : length (tries ++ (map (put_of s.client) puts ++ map (drop_of s.client) puts) ∷ []) ≡ length tries + 1 = length-append tries ((map (put_of s.client) puts ++ map (drop_of s.client) puts) ∷ []) in omega (arith, size, few);
       ends = refl;
     };

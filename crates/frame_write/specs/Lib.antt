@@ -8,5 +8,4 @@ pub mod Tries
 pub mod Writes
 pub mod Pieces
 pub mod Links
-pub mod Laying
-pub mod Versions
+pub mod WritePlans

@@ -2,12 +2,10 @@
 --     IsTileOf, AreTilesOf      a tile of a frame; the tiles of its whole grid
 --     slot_at, placed     the slot of a tile under a serial; tiles with their slots, one serial after another
 --     tile_puts           their keys and bodies
---     MayMove             a run of slots that may be moved
---     first_of, last_of   the stamps of the first and of the last row of slots
 --     index_key, element_key      the keys of the index and of the element
 --     IsElementKey        the key of an element that stands before
 --     live_of, next_of    of a walked state: the numbers of the live versions, ascending, and the number of the next version
-use Rattle.std.specs.Prelude.{◌≡◌, ◌≤◌, ◌<◌, ◌^◌, ℕ, suc, ℤ, pos, not, List, [], ◌∷◌, ◌+◌, map, reverse, filter, slice_range, Some, Ok, FitsSigned}
+use Rattle.std.specs.Prelude.{◌≡◌, ℕ, suc, pos, not, List, [], ◌∷◌, ◌+◌, map, reverse, filter, slice_range, unwrap_or, Some, Ok, FitsSigned}
 use Rattle.std.specs.Int.{w64}
 use Rattle.std.specs.Arc.{arc_value}
 use Rattle.std.specs.List.{AllByRecursion}
@@ -25,7 +23,6 @@ use Rattle.store_model.specs.declared.chain.LinkRow.{LinkRow}
 use Rattle.version_chain.specs.declared.state.SymbolState.{SymbolState}
 use Rattle.version_chain.specs.States.{is_tomb}
 use Rattle.frame_write.specs.declared.tiles.Tile.{Tile}
-use Rattle.frame_write.specs.Pieces.{begin_of, end_of}
 
 -- the stamps of the part's first and last row, and the part's segment
 pub record IsTileOf (frame : Frame) (t : Tile) : Type 0 where
@@ -41,19 +38,19 @@ pub record AreTilesOf (frame : Frame) (cutting : Cutting) (tiles : List Tile) : 
   pub parts_are : map (λ (t : Tile). t.part) tiles ≡ parts (grid_of frame cutting)
   pub each : AllByRecursion (IsTileOf frame) tiles
 
--- the slot of a tile of a frame that begins at the row `begin`, with its key under this serial
-abbrev pub slot_at : ℕ → Name → ℕ → ℕ → ℕ → Tile → Slot
-slot_at client symbol version begin serial t = record {
+-- the slot of a tile, with its key under this serial
+abbrev pub slot_at : ℕ → Name → ℕ → ℕ → Tile → Slot
+slot_at client symbol version serial t = record {
   key = record { kind = kinds.TableData; name = symbol; client = client; serial = serial; version = version; first = t.first; last = t.last };
-  part = record t.part { first_row = t.part.first_row + begin };
+  part = t.part;
   first = t.first;
   last = t.last;
 }
 
 -- tiles with their slots, under one serial after another, and their bodies
-abbrev pub placed : ℕ → Name → ℕ → ℕ → ℕ → List Tile → List (Slot × Bytes)
-placed client symbol version begin serial [] = []
-placed client symbol version begin serial (t ∷ tiles) = (slot_at client symbol version begin serial t, arc_value t.body) ∷ placed client symbol version begin (suc serial) tiles
+abbrev pub placed : ℕ → Name → ℕ → ℕ → List Tile → List (Slot × Bytes)
+placed client symbol version serial [] = []
+placed client symbol version serial (t ∷ tiles) = (slot_at client symbol version serial t, arc_value t.body) ∷ placed client symbol version (suc serial) tiles
 
 -- the key and the body of a slot's tile
 abbrev pub tile_put : Slot × Bytes → Key × Bytes
@@ -63,31 +60,16 @@ tile_put w = (w.0.key, w.1)
 abbrev pub tile_puts : List (Slot × Bytes) → List (Key × Bytes)
 tile_puts = map tile_put
 
--- the slots begin with the first, and their numbers are small enough to be moved
-abbrev pub MayMove : List Slot → Type 0
-MayMove slots = (begin_of slots ≤ end_of slots) × AllByRecursion (λ (s : Slot). (begin_of slots ≤ s.part.first_row) × (s.part.first_row + s.part.rows < 2 ^ 32)) slots
-
--- the stamp of the first row of slots, or 0
-abbrev pub first_of : List Slot → ℤ
-first_of [] = pos 0
-first_of (s ∷ more) = s.first
-
--- the stamp of their last row, or 0
-abbrev pub last_of : List Slot → ℤ
-last_of [] = pos 0
-last_of (s ∷ []) = s.last
-last_of (s ∷ t ∷ more) = last_of (t ∷ more)
-
--- the key of the index of these slots: with the stamps of the first and the last row
-abbrev pub index_key : ℕ → Name → ℕ → ℕ → List Slot → Key
-index_key client symbol version serial slots = record {
+-- the key of the frame's index: with the stamps of its first and last row, or 0
+abbrev pub index_key : ℕ → Name → ℕ → ℕ → Frame → Key
+index_key client symbol version serial frame = record {
   kind = kinds.TableIndex;
   name = symbol;
   client = client;
   serial = serial;
   version = version;
-  first = first_of slots;
-  last = last_of slots;
+  first = unwrap_or (first_stamp frame.rows) (pos 0);
+  last = unwrap_or (last_stamp frame.rows) (pos 0);
 }
 
 -- the key of the element

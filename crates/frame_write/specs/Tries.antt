@@ -7,8 +7,9 @@
 --     IsPart, DidStop     a try of which a call failed
 --     DidTry              what one try did
 --     DidRefuse           a try that made no event, since the one-thread library refuses the command
+--     IsBusy, DidEnd      how the last try ended, if it was not met
 --     DidTries            what all did
-use Rattle.std.specs.Prelude.{◌≡◌, ◌≢◌, ◌⊎◌, ℕ, ◌<◌, ◌≤◌, Bool, true, List, [], ◌∷◌, ◌++◌, map, length, take, Option, Some, Result, Ok, Err}
+use Rattle.std.specs.Prelude.{◌≡◌, ◌≢◌, ◌⊎◌, ℕ, ◌<◌, ◌≤◌, Bool, true, List, [], ◌∷◌, ◌++◌, map, length, take, Option, Some, Result, Ok, Err, ⊤}
 use Rattle.std.specs.List.{flat_map, AllByRecursion}
 use Rattle.base_types.specs.Faults.{Rose}
 use Rattle.frame_core.specs.declared.refusal.Refusal.{Refusal}
@@ -142,14 +143,20 @@ pub record DidMeetAll (client : ℕ) (sole : Bool) (symbol : Name) (most : ℕ) 
   pub met : IsMet client symbol (length old) new refused.place
   pub why : refused.why ≡ refusals.Moved refused.place
 
--- how the last try ended, if it was not met: it failed, or the library refuses the command
-abbrev pub DidEnd : ℕ → Bool → Name → (Made → Type 0) → (History → Refusal → Type 0) → ℕ → ℕ → ℕ → History → History → Refused → Type 0
-DidEnd client sole symbol Asked Refuses limit before now old new refused =
-    DidFail client sole symbol Asked limit before now (length old) old new refused ⊎ DidRefuse client sole Refuses old new refused
+-- where the store was full, the command had a change to make at a place of the try
+abbrev pub IsBusy : (History → Type 0) → History → History → ℕ → Refusal → Type 0
+IsBusy Wants old new place (refusals.Spent count) = (q : ℕ) × (length old ≤ q) × (q ≤ place) × Wants (history_at new q)
+IsBusy Wants old new place _ = ⊤
 
--- what all tries did of a command that asks for this, and that the library refuses so
-abbrev pub DidTries : ℕ → Bool → Name → (Made → Type 0) → (History → Refusal → Type 0) → ℕ → ℕ → ℕ → ℕ → History → History → Result Committed Refused → Type 0
-DidTries client sole symbol Asked Refuses most limit before now old new (Ok done) =
+-- how the last try ended, if it was not met: it failed, or the library refuses the command
+abbrev pub DidEnd : ℕ → Bool → Name → (Made → Type 0) → (History → Refusal → Type 0) → (History → Type 0) → ℕ → ℕ → ℕ → History → History → Refused → Type 0
+DidEnd client sole symbol Asked Refuses Wants limit before now old new refused =
+    (DidFail client sole symbol Asked limit before now (length old) old new refused × IsBusy Wants old new refused.place refused.why)
+    ⊎ DidRefuse client sole Refuses old new refused
+
+-- what all tries did of a command that asks for this, that the library refuses so, and that has a change to make in these histories
+abbrev pub DidTries : ℕ → Bool → Name → (Made → Type 0) → (History → Refusal → Type 0) → (History → Type 0) → ℕ → ℕ → ℕ → ℕ → History → History → Result Committed Refused → Type 0
+DidTries client sole symbol Asked Refuses Wants most limit before now old new (Ok done) =
     Then client sole symbol most old new (λ mid. DidCommit client sole symbol Asked mid new done)
-DidTries client sole symbol Asked Refuses most limit before now old new (Err refused) =
-    DidMeetAll client sole symbol most old new refused ⊎ Then client sole symbol most old new (λ mid. DidEnd client sole symbol Asked Refuses limit before now mid new refused)
+DidTries client sole symbol Asked Refuses Wants most limit before now old new (Err refused) =
+    DidMeetAll client sole symbol most old new refused ⊎ Then client sole symbol most old new (λ mid. DidEnd client sole symbol Asked Refuses Wants limit before now mid new refused)

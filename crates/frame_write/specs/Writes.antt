@@ -3,9 +3,9 @@
 --     Brings              a session that brings the frame of a write, with its client, tries and stamp
 --     reply_to            the result as a reply
 --     IsLegalWrite        the reply to a write is legal for each such session
---     IsWritten, never    what a write asks of its commit, and that no library refuses it
+--     IsWritten, Never, Always      what a write asks of its commit; no library refuses it, and it has a change to make always
 --     StandsAlone         the place of a commit where nobody else makes events
-use Rattle.std.specs.Prelude.{◌≡◌, ℕ, ◌+◌, ℤ, Bool, true, [], ◌∷◌, ◌++◌, length, Option, Some, None, Result, Ok, Err}
+use Rattle.std.specs.Prelude.{◌≡◌, ℕ, ◌+◌, ℤ, Bool, true, [], ◌∷◌, ◌++◌, length, Option, Some, None, Result, Ok, Err, ⊤}
 use Rattle.std.specs.List.{AllByRecursion}
 use Rattle.base_types.specs.Faults.{Rose}
 use Rattle.frame_core.specs.Frames.{Frame}
@@ -65,8 +65,12 @@ pub record IsWritten (symbol : Name) (frame : Frame) (options : Options) (m : Ma
   pub puts : length m.puts ≡ length (parts (grid_of frame options.cutting)) + 2
 
 -- no library refuses a write
-abbrev pub never : History → Refusal → Type 0
-never h why = ⊥
+abbrev pub Never : History → Refusal → Type 0
+Never h why = ⊥
+
+-- a write has a change to make in every history
+abbrev pub Always : History → Type 0
+Always h = ⊤
 
 -- where nobody else makes events, a commit stands behind its puts: so many tiles, the index and the element
 abbrev pub StandsAlone : ℕ → History → Committed → Type 0

@@ -6,7 +6,6 @@ mod attempt;
 mod commit;
 mod drops;
 mod elements;
-mod laying;
 mod link;
 mod numbers;
 mod options;

@@ -1,63 +1,45 @@
-ghost use Rattle.std.specs.Prelude.{◌≡◌, ◌+◌, ◌≤◌, ◌<◌, ◌^◌, suc, [], ◌∷◌, ◌++◌, map, length, IfOk, OnOk, Ok};
+ghost use Rattle.std.specs.Prelude.{◌≡◌, ◌+◌, ◌<◌, ◌^◌, suc, [], ◌∷◌, ◌++◌, length, IfOk, OnOk, Ok};
 ghost use Rattle.std.specs.Arc.{arc_value};
-ghost use Rattle.std.specs.List.{AllByRecursion};
 ghost use Rattle.index_tree.specs.IndexText.{index_of};
 ghost use Rattle.index_tree.specs.IndexRules.{IsIndex};
+ghost use Rattle.key_kind.specs.Names.{IsName};
 ghost use Rattle.store_model.specs.OwnPuts.{slots_of};
 ghost use Rattle.frame_write.specs.Plans.{puts_seen};
-ghost use Rattle.frame_write.specs.Pieces.{begin_of, end_of, size_of, moved};
-ghost use Rattle.frame_write.specs.Placing.{slot_at, placed, tile_puts, first_of, last_of, index_key, MayMove};
+ghost use Rattle.frame_write.specs.Placing.{slot_at, placed, tile_puts, index_key};
 
 use crate::puts::Prepared;
 use crate::tiles::Tile;
 use base_types::{Items, Keep, NoMemory};
 use bucket_core::Body;
-use frame_core::{Part, Schema};
+use frame_core::Frame;
 use index_tree::{Index, Slot, build};
 use key_kind::{Key, KeyKind, Name, Symbol};
 use std::alloc::Global;
 use std::sync::Arc;
 
-/// Slots of a new index, and the tiles among them that are to be put.
+/// Tiles under the keys of a try.
 #[derive(Drop)]
 pub(crate) struct Placed {
-    /// The slots, from row 0 on.
+    /// Their slots in the index.
     pub(crate) slots: Items<Slot>,
-    /// The new tiles under keys of their own, as they are put.
+    /// The tiles as they are put.
     pub(crate) puts: Items<Prepared>,
-    /// How many rows the slots have.
-    pub(crate) rows: u64,
-    /// The serial behind the new keys.
+    /// The serial behind them.
     pub(crate) next: u64,
 }
 
 impl Placed {
-    /// No slots, where the first key gets this serial.
-    pub(crate) fn new(alloc: Global, serial: u64) -> Placed
-        ensures { result ≡ record { slots = []; puts = []; rows = 0; next = serial } }
-    {
-        Placed {
-            slots: Items::new(alloc),
-            puts: Items::new(alloc),
-            rows: 0,
-            next: serial,
-        }
-    }
-
-    /// Adds a new tile of a frame that begins at this row.
-    fn add_tile(
+    /// Puts a tile behind the others.
+    fn add(
         &mut self,
         alloc: Global,
         client: u32,
         name: &Name,
         version: u64,
-        begin: u64,
         tile: &Tile,
     ) -> Result<(), NoMemory>
-        requires { tile.now.part.first_row + begin < 2 ^ 64 }
-        ensures slots { OnOk result (self.new.slots ≡ self.old.slots ++ slot_at client name.now version begin self.old.next tile.now ∷ []) }
-        ensures puts { OnOk result (puts_seen self.new.puts ≡ puts_seen self.old.puts ++ ((slot_at client name.now version begin self.old.next tile.now).key, arc_value tile.now.body) ∷ []) }
-        ensures rows { OnOk result (self.new.rows ≡ self.old.rows) }
+        ensures slots { OnOk result (self.new.slots ≡ self.old.slots ++ slot_at client name.now version self.old.next tile.now ∷ []) }
+        ensures puts { OnOk result (puts_seen self.new.puts ≡ puts_seen self.old.puts ++ ((slot_at client name.now version self.old.next tile.now).key, arc_value tile.now.body) ∷ []) }
         ensures next { OnOk result (self.new.next ≡ suc self.old.next) }
         ensures fits { OnOk result (self.new.next < 2 ^ 64) }
     {
@@ -79,117 +61,55 @@ impl Placed {
         })?;
         self.slots.push(Slot {
             key,
-            part: moved_by(tile.part, begin),
+            part: tile.part,
             first: tile.first,
             last: tile.last,
         })?;
         self.next = next;
         Ok(())
     }
-
-    /// Adds the new tiles of a frame of so many rows, which begins behind the rows so far.
-    pub(crate) fn add_fresh(
-        &mut self,
-        alloc: Global,
-        client: u32,
-        name: &Name,
-        version: u64,
-        rows: u64,
-        tiles: &[Tile],
-    ) -> Result<(), NoMemory>
-        requires each { AllByRecursion (λ (tile : Tile). tile.part.first_row ≤ rows) tiles.now }
-        requires few { self.old.rows + rows < 2 ^ 64 }
-        ensures slots { OnOk result (self.new.slots ≡ self.old.slots ++ slots_of (placed client name.now version self.old.rows self.old.next tiles.now)) }
-        ensures puts { OnOk result (puts_seen self.new.puts ≡ puts_seen self.old.puts ++ tile_puts (placed client name.now version self.old.rows self.old.next tiles.now)) }
-        ensures rows { OnOk result (self.new.rows ≡ self.old.rows + rows) }
-        ensures next { OnOk result (self.new.next ≡ self.old.next + length tiles.now) }
-        ensures fits { OnOk result (self.old.next + length tiles.now < 2 ^ 64) }
-    {
-        let begin = self.rows;
-        for tile in tiles {
-            self.add_tile(alloc, client, name, version, begin, tile)?;
-        }
-        self.rows = begin + rows;
-        Ok(())
-    }
-
-    /// Adds the slots of a run, moved so that it begins behind the rows so far.
-    pub(crate) fn add_shared(&mut self, alloc: Global, run: &[Slot]) -> Result<(), NoMemory>
-        requires run { MayMove run.now }
-        requires few { self.old.rows < 2 ^ 32 }
-        ensures slots { OnOk result (self.new.slots ≡ self.old.slots ++ map (moved (begin_of run.now) self.old.rows) run.now) }
-        ensures puts { OnOk result (self.new.puts ≡ self.old.puts) }
-        ensures rows { OnOk result (self.new.rows ≡ self.old.rows + size_of run.now) }
-        ensures next { OnOk result (self.new.next ≡ self.old.next) }
-    {
-        let from = begin_of(run);
-        let to = self.rows;
-        for slot in run {
-            self.slots.push(moved(alloc, from, to, slot)?)?;
-        }
-        self.rows = to + (end_of(run) - from);
-        Ok(())
-    }
 }
 
-/// The part, so many rows further.
-fn moved_by(part: Part, rows: u64) -> Part
-    requires { part.first_row + rows < 2 ^ 64 }
-    ensures { result ≡ record part { first_row = part.first_row + rows } }
+/// The tiles under keys from this serial on.
+pub(crate) fn place_tiles(
+    alloc: Global,
+    client: u32,
+    serial: u64,
+    symbol: &Symbol,
+    version: u64,
+    tiles: &[Tile],
+) -> Result<Placed, NoMemory>
+    ensures slots { IfOk result (λ all. all.slots ≡ slots_of (placed client symbol.now version serial tiles.now)) }
+    ensures puts { IfOk result (λ all. puts_seen all.puts ≡ tile_puts (placed client symbol.now version serial tiles.now)) }
+    ensures next { IfOk result (λ all. all.next ≡ serial + length tiles.now) }
+    ensures fits { OnOk result (serial + length tiles.now < 2 ^ 64) }
+    ensures is_name { OnOk result (IsName symbol.now) }
 {
-    Part {
-        first_row: part.first_row + rows,
-        ..part
+    let name = symbol.name();
+    let mut all = Placed {
+        slots: Items::new(alloc),
+        puts: Items::new(alloc),
+        next: serial,
+    };
+    for tile in tiles {
+        all.add(alloc, client, name, version, tile)?;
     }
+    Ok(all)
 }
 
-/// The slot of a run that begins with the row `from`, where the run begins with the row `to` instead.
-fn moved(alloc: Global, from: u64, to: u64, slot: &Slot) -> Result<Slot, NoMemory>
-    requires behind { from ≤ slot.now.part.first_row }
-    requires few { slot.now.part.first_row < 2 ^ 32 }
-    requires fits { to < 2 ^ 32 }
-    ensures { IfOk result (λ copy. copy ≡ moved from to slot.now) }
-{
-    let mut copy = slot.copy(alloc)?;
-    copy.part.first_row = (slot.part.first_row - from) + to;
-    Ok(copy)
-}
-
-/// The first row of a run, or 0.
-fn begin_of(run: &[Slot]) -> u64
-    ensures { result ≡ begin_of run.now }
-{
-    match run.first() {
-        Some(slot) => slot.part.first_row,
-        None => 0,
-    }
-}
-
-/// The row behind the last of a run, or 0.
-fn end_of(run: &[Slot]) -> u64
-    requires { MayMove run.now }
-    ensures { result ≡ end_of run.now }
-{
-    match run.last() {
-        Some(slot) => slot.part.first_row + slot.part.rows,
-        None => 0,
-    }
-}
-
-/// The index of these slots under its key, which has the stamps of the first and of the last slot.
+/// The index of these slots under its key.
 pub(crate) fn place_index(
     alloc: Global,
     client: u32,
     serial: u64,
     symbol: &Symbol,
     version: u64,
-    schema: &Schema,
-    rows: u64,
+    frame: &Frame,
     slots: Items<Slot>,
 ) -> Result<Prepared, NoMemory>
-    requires { IsIndex (record { schema = schema.now; rows = rows; slots = slots }) }
-    ensures key { IfOk result (λ put. put.key ≡ index_key client symbol.now version serial slots) }
-    ensures body { IfOk result (λ put. index_of (arc_value put.body) ≡ Ok (record { schema = schema.now; rows = rows; slots = slots })) }
+    requires { IsIndex (record { schema = frame.now.schema; rows = length frame.now.rows; slots = slots }) }
+    ensures key { IfOk result (λ put. put.key ≡ index_key client symbol.now version serial frame.now) }
+    ensures body { IfOk result (λ put. index_of (arc_value put.body) ≡ Ok (record { schema = frame.now.schema; rows = length frame.now.rows; slots = slots })) }
 {
     let key = Key {
         kind: KeyKind::TableIndex,
@@ -197,34 +117,14 @@ pub(crate) fn place_index(
         client,
         serial,
         version,
-        first: first_of(slots.items()),
-        last: last_of(slots.items()),
+        first: frame.first_stamp().unwrap_or(0),
+        last: frame.last_stamp().unwrap_or(0),
     };
     let index = Index {
-        schema: schema.copy(alloc)?,
-        rows,
+        schema: frame.schema().copy(alloc)?,
+        rows: frame.rows(),
         slots,
     };
     let body = Arc::new(alloc, Body::make(build(alloc, &index)?))?;
     Ok(Prepared { key, body })
-}
-
-/// The stamp of the first row of these slots, or 0.
-fn first_of(slots: &[Slot]) -> i64
-    ensures { result ≡ first_of slots.now }
-{
-    match slots.first() {
-        Some(slot) => slot.first,
-        None => 0,
-    }
-}
-
-/// The stamp of their last row, or 0.
-fn last_of(slots: &[Slot]) -> i64
-    ensures { result ≡ last_of slots.now }
-{
-    match slots.last() {
-        Some(slot) => slot.last,
-        None => 0,
-    }
 }

@@ -1,27 +1,21 @@
-ghost use Rattle.std.specs.Prelude.{◌≡◌, ◌≤◌, ◌<◌, ◌^◌, ◌∷◌, [], IfOk, IfSome};
+ghost use Rattle.std.specs.Prelude.{◌≡◌, IfOk, IfSome};
 ghost use Rattle.frame_core.specs.Limits.{IsStorable};
-ghost use Rattle.bucket_core.specs.declared.event.Change.TheVariants.{Wrote};
 ghost use Rattle.bucket_core.specs.History.{History};
-ghost use Rattle.index_tree.specs.IndexRules.{IsIndex};
 ghost use Rattle.store_model.specs.Law.{IsLawful};
 ghost use Rattle.store_model.specs.Commits.{Rising};
 ghost use Rattle.version_chain.specs.States.{IsStateOf};
-ghost use Rattle.frame_write.specs.declared.pieces.Piece.TheVariants.{Fresh};
 ghost use Rattle.frame_write.specs.Placing.{AreTilesOf, IsElementKey, live_of};
-ghost use Rattle.frame_write.specs.Links.{FitsPlan};
-ghost use Rattle.frame_write.specs.Versions.{IsVersionPlan, IsPlanOf, MayPlan};
+ghost use Rattle.frame_write.specs.WritePlans.{IsWritePlan};
 
 use crate::elements::{mark_of, place_element};
-use crate::laying::lay_out;
-use crate::numbers::{buried_by, changes_of, copy_change, next_version};
+use crate::numbers::{buried_by, changes_of, next_version};
 use crate::options::Options;
-use crate::pieces::LinkPlan;
-use crate::placing::{Placed, place_index};
+use crate::placing::{Placed, place_index, place_tiles};
 use crate::puts::Prepared;
 use crate::tiles::Tile;
 use base_types::{Items, Keep, NoMemory};
-use bucket_core::{Body, Change, Changes};
-use frame_core::{Frame, Schema};
+use bucket_core::{Body, Changes};
+use frame_core::Frame;
 use key_kind::{Key, Symbol};
 use std::alloc::Global;
 use std::sync::Arc;
@@ -45,7 +39,7 @@ pub(crate) struct Plan {
     pub(crate) version: u64,
 }
 
-/// The plan of a try to write a frame on the symbol's state, for the client's puts from this serial on.
+/// The plan of a try on the symbol's state, for the client's puts from this serial on.
 pub(crate) fn plan_write(
     alloc: Global,
     client: u32,
@@ -60,98 +54,23 @@ pub(crate) fn plan_write(
     requires tiles { AreTilesOf frame.now options.now.cutting tiles.now }
     requires was { IfSome state.now.was (IsElementKey symbol.now) }
     requires rising { Rising (live_of state.now) }
-    ensures { IfOk result (λ plan. (before : History) → MayPlan client serial before symbol.now state.now → IsPlanOf client serial before symbol.now options.now (Wrote frame.now options.now.at) (Fresh frame.now ∷ []) plan) }
+    ensures { IfOk result (λ plan. (before : History) → ∥ IsLawful before ∥₁ → IsStateOf before symbol.now state.now → IsWritePlan client serial before symbol.now frame.now options.now plan) }
 {
+    let at = options.stamp();
     let version = next_version(state)?;
-    let mut placed = Placed::new(alloc, serial);
-    placed.add_fresh(alloc, client, symbol.name(), version, frame.rows(), tiles)?;
-    let change = Change::Wrote {
-        frame: frame.copy(alloc)?,
-        at: options.stamp(),
-    };
-    plan_version(
-        alloc,
-        client,
-        symbol,
-        state,
-        version,
-        placed,
-        frame.schema(),
-        change,
-        options,
-    )
-}
-
-/// The plan of a try to make a version in pieces on the symbol's state, for the client's puts from this serial on.
-pub(crate) fn plan_link(
-    alloc: Global,
-    client: u32,
-    serial: u64,
-    symbol: &Symbol,
-    state: &SymbolState,
-    plan: &LinkPlan,
-    options: &Options,
-) -> Result<Plan, NoMemory>
-    requires was { IfSome state.now.was (IsElementKey symbol.now) }
-    requires rising { Rising (live_of state.now) }
-    requires fits { (before : History) × MayPlan client serial before symbol.now state.now × FitsPlan before symbol.now options.now.at plan.now }
-    ensures { IfOk result (λ made. (before : History) → MayPlan client serial before symbol.now state.now → FitsPlan before symbol.now options.now.at plan.now → IsPlanOf client serial before symbol.now options.now plan.now.change plan.now.pieces made) }
-{
-    let version = next_version(state)?;
-    let placed = lay_out(
-        alloc,
-        client,
-        serial,
-        symbol,
-        version,
-        plan.pieces.items(),
-        options.cutting,
-    )?;
-    let change = copy_change(alloc, &plan.change)?;
-    plan_version(
-        alloc,
-        client,
-        symbol,
-        state,
-        version,
-        placed,
-        &plan.schema,
-        change,
-        options,
-    )
-}
-
-/// The plan of a version with these slots: the index and the element stand behind the new tiles.
-fn plan_version(
-    alloc: Global,
-    client: u32,
-    symbol: &Symbol,
-    state: &SymbolState,
-    version: u64,
-    placed: Placed,
-    schema: &Schema,
-    change: Change,
-    options: &Options,
-) -> Result<Plan, NoMemory>
-    requires index { IsIndex (record { schema = schema.now; rows = placed.rows; slots = placed.slots }) }
-    requires was { IfSome state.now.was (IsElementKey symbol.now) }
-    requires rising { Rising (live_of state.now) }
-    ensures { IfOk result (IsVersionPlan client version symbol.now state.now placed schema.now change options.now) }
-{
     let Placed {
         slots,
         mut puts,
-        rows,
         next,
-    } = placed;
+    } = place_tiles(alloc, client, serial, symbol, version, tiles)?;
     let Some(last) = next.checked_add(1) else {
         return Err(NoMemory);
     };
-    let index = place_index(alloc, client, next, symbol, version, schema, rows, slots)?;
+    let index = place_index(alloc, client, next, symbol, version, frame, slots)?;
     let row = LinkRow {
         version,
-        stamp: options.stamp(),
-        rows,
+        stamp: at,
+        rows: frame.rows(),
         index: index.key.copy(alloc)?,
     };
     puts.push(index)?;
@@ -173,7 +92,7 @@ fn plan_version(
         was,
         mark: mark_of(alloc, &entry)?,
         entry,
-        changes: changes_of(alloc, change, buried)?,
+        changes: changes_of(alloc, frame, at, buried)?,
         version,
     })
 }

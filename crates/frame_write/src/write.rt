@@ -4,7 +4,7 @@ ghost use Rattle.segment_cut.specs.Grids.{parts, grid_of};
 ghost use Rattle.bucket_core.specs.Calls.{IsSteady};
 ghost use Rattle.frame_write.specs.Placing.{AreTilesOf};
 ghost use Rattle.frame_write.specs.Tries.{DidTries};
-ghost use Rattle.frame_write.specs.Writes.{GoesOn, IsLegalWrite, IsWritten, never, StandsAlone};
+ghost use Rattle.frame_write.specs.Writes.{GoesOn, IsLegalWrite, IsWritten, Never, Always, StandsAlone};
 
 use crate::attempt::attempt;
 use crate::options::{Committed, Options};
@@ -30,17 +30,18 @@ fn try_all<R: Wait, B: Bucket<StoreLaw>>(
     requires tiles { AreTilesOf frame.now options.now.cutting tiles.now }
     requires some_tries { 1 ≤ options.now.tries }
     ensures steady { IsSteady B.number B.limit B.faults B.sole bucket.old bucket.new }
-    ensures did { DidTries (B.number bucket.old) (B.sole bucket.old) symbol.now (IsWritten symbol.now frame.now options.now) never options.now.tries (B.limit bucket.old) (B.faults bucket.old) (B.faults bucket.new) (B.seen bucket.old) (B.seen bucket.new) result }
+    ensures did { DidTries (B.number bucket.old) (B.sole bucket.old) symbol.now (IsWritten symbol.now frame.now options.now) Never Always options.now.tries (B.limit bucket.old) (B.faults bucket.old) (B.faults bucket.new) (B.seen bucket.old) (B.seen bucket.new) result }
 {
     let mut met = 0;
     for _ in 0..options.tries {
-        match attempt(rt, alloc, bucket, symbol, frame, tiles, options) {
-            Err(Refused {
-                why: Refusal::Moved { now },
-                ..
-            }) => met = now,
-            end => return end,
-        }
+        let refused = match attempt(rt, alloc, bucket, symbol, frame, tiles, options) {
+            Ok(committed) => return Ok(committed),
+            Err(refused) => refused,
+        };
+        let Refusal::Moved { now } = refused.why else {
+            return Err(refused);
+        };
+        met = now;
     }
     Err(Refused {
         place: met,

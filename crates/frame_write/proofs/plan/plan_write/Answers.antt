@@ -57,4 +57,4 @@ returns c = λ before lawful walked.
       row_stamp = c.stamp-at.ensures;
       row_rows = c.rows.ensures.rows;
       row_index = c.in_ok-copy.ensures;
-    }) before lawful walked
+    }) before lawful walked c.args.options.now refl refl refl
