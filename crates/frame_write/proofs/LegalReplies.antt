@@ -152,12 +152,13 @@ module _ (s : Session) (limit : ℕ) (asks : Command) (symbol : Name) (Asked : M
       }
 
   -- each try was met
-  pub moved_legal : (place : ℕ) (more : History) (tries : List (List Event)) → AllByRecursion (IsRefused s.client symbol true) tries → length tries ≡ s.tries → new ≡ more ++ old → length tries ≤ met_in s.client symbol more
+  pub moved_legal : (place : ℕ) (more : History) (tries : List (List Event)) → AllByRecursion (IsRefused s.client symbol true) tries → length tries ≤ s.tries → new ≡ more ++ old → s.tries ≤ met_in s.client symbol more
       → own_of s.client more ≡ flat_map (λ t. t) tries → IsMet s.client symbol (length old) new place → refer_places s.client (length old) new ≡ []
       → IsLegalSeen new client asks (reply_to (Err (record { place = place; why = refusals.Moved place }))) window
   moved_legal place more tries refused all is met own_are m none =
       let seen_own : own_events new s.client window ≡ flat_map (λ t. t) tries = own_in_window s.client old new more faulted is ∙ own_are in
-      let met_all : length tries ≤ refers_by_others new s.client symbol window = subst (λ n. length tries ≤ n) (sym (met_in_window s.client symbol old new more faulted is)) met in
+      let met_most : s.tries ≤ refers_by_others new s.client symbol window = subst (λ n. s.tries ≤ n) (sym (met_in_window s.client symbol old new more faulted is)) met in
+      let met_all : length tries ≤ refers_by_others new s.client symbol window = omega (arith, all, met_most) in
       let reply : Reply = reply_to (Err (record { place = place; why = refusals.Moved place })) in
       record {
         after = omega (arith, m.added);
@@ -180,7 +181,7 @@ module _ (s : Session) (limit : ℕ) (asks : Command) (symbol : Name) (Asked : M
           at = m.at;
           refers = m.refers;
           others = m.others;
-          enough = subst (λ n. n ≤ refers_by_others new s.client symbol window) all met_all;
+          enough = met_most;
         });
       }
 

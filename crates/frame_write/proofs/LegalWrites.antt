@@ -184,7 +184,7 @@ module _ (s : Session) (limit : ℕ) (asks : Command) (sole : Bool) (symbol : Na
 
   pub moved_is_legal : (place : ℕ) (r : DidRefused s.client sole symbol old new s.tries) → IsMet s.client symbol (length old) new place → IsLegalResult (Err (record { place = place; why = refusals.Moved place }))
   moved_is_legal place r m =
-      moved_legal s limit asks symbol Asked Refuses Wants k old new faulted place r.went.more r.tries r.refused r.counted r.went.is (omega (arith, r.counted, r.met)) r.went.own_are m
+      moved_legal s limit asks symbol Asked Refuses Wants k old new faulted place r.went.more r.tries r.refused r.counted r.went.is r.met r.went.own_are m
       (places_none s.client sole old new (flat_map (λ t. t) r.tries) r.went (tries_no_refer s.client symbol r.tries r.refused))
 
   -- the library refuses behind refused tries

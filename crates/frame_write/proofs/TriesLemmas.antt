@@ -29,7 +29,7 @@ flat_last [] t = append_nil t
 flat_last (u ∷ ts) t = ap (λ l. u ++ l) (flat_last ts t) ∙ sym (append_assoc u (flat_map (λ t. t) ts) t)
 
 pub tries_none : (client : ℕ) (sole : Bool) (symbol : Name) (old : History) → DidRefused client sole symbol old old 0
-tries_none client sole symbol old = record { tries = []; refused = tt; counted = refl; went = went_none client sole old; met = omega arith }
+tries_none client sole symbol old = record { tries = []; refused = tt; counted = omega arith; went = went_none client sole old; met = omega arith }
 
 -- one refused try more, which was met behind the place where it began
 pub tries_more : (client : ℕ) (sole : Bool) (symbol : Name) (old mid new : History) (n : ℕ) (refused : Refused) → DidRefused client sole symbol old mid n → DidMeet client sole symbol (length mid) mid new refused → DidRefused client sole symbol old new (n + 1)

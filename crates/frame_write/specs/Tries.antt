@@ -115,11 +115,11 @@ DidTry client sole symbol Asked limit before now from old new (Err refused) =
 
 -- ---- several tries
 
--- so many refused tries
+-- so many tries that were met: refused ones, and such as made no event
 pub record DidRefused (client : ℕ) (sole : Bool) (symbol : Name) (old new : History) (count : ℕ) : Type 0 where
   pub tries : List (List Event)
   pub refused : AllByRecursion (IsRefused client symbol true) tries
-  pub counted : length tries ≡ count
+  pub counted : length tries ≤ count
   pub went : Went client sole old new (flat_map (λ t. t) tries)
   pub met : count ≤ met_in client symbol went.more
 

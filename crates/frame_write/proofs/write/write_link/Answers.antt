@@ -24,7 +24,7 @@ none_tried client sole symbol frame options most limit before now old place some
   count = 0;
   few = some;
   mid = old;
-  refused = record { tries = []; refused = tt; counted = refl; went = went_looks client sole old old (looks_none client sole old); met = omega arith };
+  refused = record { tries = []; refused = tt; counted = omega arith; went = went_looks client sole old old (looks_none client sole old); met = omega arith };
   last = inl (inl (plan_stops client sole symbol limit before now (length old) old old place (looks_none client sole old) is), tt);
 })
 
