@@ -99,11 +99,11 @@ module _ (h : History) (symbol : Name) (state : SymbolState) (at : IsStateAt h s
         → (v : Version) × IsNewest (history_at h state.place) symbol v index
     one_found more new target index is lawful_new symbol_is key rules got =
         newest_is (history_at h state.place) symbol state row index (lawful_at h state.place lawful) (state_at h symbol state at) newest rules (λ l there row_is.
-            let whole : new ≡ (more ++ take (length h - state.place) h) ++ history_at h state.place =
-            is ∙ (ap (λ g. more ++ g) (goes_on h state.place) ∙ sym (append_assoc more (take (length h - state.place) h) (history_at h state.place))) in
-            let later : Contains (links new symbol) l = subst (λ g. Contains (links g symbol) l) (sym whole) (links_later (more ++ take (length h - state.place) h) (history_at h state.place) symbol l there) in
-            let link : Contains (links new symbol) got.link = subst (λ n. Contains (links new n) got.link) symbol_is got.link_is in
-            same_index new symbol l got.link lawful_new later link (ap (λ (r : LinkRow). r.index) row_is ∙ (sym key ∙ sym got.key)) ∙ got.is)
+        let whole : new ≡ (more ++ take (length h - state.place) h) ++ history_at h state.place =
+        is ∙ (ap (λ g. more ++ g) (goes_on h state.place) ∙ sym (append_assoc more (take (length h - state.place) h) (history_at h state.place))) in
+        let later : Contains (links new symbol) l = subst (λ g. Contains (links g symbol) l) (sym whole) (links_later (more ++ take (length h - state.place) h) (history_at h state.place) symbol l there) in
+        let link : Contains (links new symbol) got.link = subst (λ n. Contains (links new n) got.link) symbol_is got.link_is in
+        same_index new symbol l got.link lawful_new later link (ap (λ (r : LinkRow). r.index) row_is ∙ (sym key ∙ sym got.key)) ∙ got.is)
 
 -- ---- refusals of a look, as those of the call that made it
 

@@ -11,3 +11,5 @@ pub mod GoneLemmas
 pub mod AppendLemmas
 pub mod BaseLemmas
 pub mod UpdateLemmas
+pub mod UpdatePlans
+pub mod StubLemmas

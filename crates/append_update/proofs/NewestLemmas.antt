@@ -87,7 +87,6 @@ nat_told a b = told_prop (hlevel props)
 schema_told : (a b : Schema) → Told (a ≡ b)
 schema_told a b = told_prop (hlevel props)
 
-
 -- ---- the first that is not buried, in both
 
 module _ (tombs : List ℕ) where
@@ -179,21 +178,23 @@ pub newest_is : (h : History) (symbol : Name) (state : SymbolState) (row : LinkR
 newest_is h symbol state row index lawful is e rules same =
     let found = first_live (state_of h symbol).buried (links h symbol) (state_of h symbol).versions (lawful_is_paired h symbol lawful) row (newest_found h symbol state is (Some row) e) in
     let index_is : found.link.index ≡ index = same found.link found.link_is found.row_is in
-    let v = found.version in
-    (v, record {
-      is = found.first;
-      index_of = record {
-        storable = storable_told v.frame (∥∥₁_map found.pair (λ p. p.stamped.storable));
-        rules = rules;
-        schema = schema_told index.schema v.frame.schema (∥∥₁_map found.pair (λ p. ap (λ (i : Index). i.schema) (sym index_is) ∙ p.link.schema));
-        rows = nat_told index.rows (length v.frame.rows) (∥∥₁_map found.pair (λ p. ap (λ (i : Index). i.rows) (sym index_is) ∙ p.counted.rows));
-        stamps = told_all (HasSlotStamps v.frame) (stamps_told v.frame) index.slots (∥∥₁_map found.pair (λ p. subst (λ (i : Index). AllByRecursion (HasSlotStamps v.frame) i.slots) index_is p.stamped.stamps));
-      };
-      link = found.link;
-      link_is = found.link_is;
-      number = nat_told found.link.row.version v.number (∥∥₁_map found.pair (λ p. p.link.number));
-      index_is = index_is;
-    })
+    let v = found.version in (
+      v,
+      record {
+        is = found.first;
+        index_of = record {
+          storable = storable_told v.frame (∥∥₁_map found.pair (λ p. p.stamped.storable));
+          rules = rules;
+          schema = schema_told index.schema v.frame.schema (∥∥₁_map found.pair (λ p. ap (λ (i : Index). i.schema) (sym index_is) ∙ p.link.schema));
+          rows = nat_told index.rows (length v.frame.rows) (∥∥₁_map found.pair (λ p. ap (λ (i : Index). i.rows) (sym index_is) ∙ p.counted.rows));
+          stamps = told_all (HasSlotStamps v.frame) (stamps_told v.frame) index.slots (∥∥₁_map found.pair (λ p. subst (λ (i : Index). AllByRecursion (HasSlotStamps v.frame) i.slots) index_is p.stamped.stamps));
+        };
+        link = found.link;
+        link_is = found.link_is;
+        number = nat_told found.link.row.version v.number (∥∥₁_map found.pair (λ p. p.link.number));
+        index_is = index_is;
+      },
+    )
 
 -- the newest live link is a link of the symbol, and its version is not buried
 pub newest_linked : (h : History) (symbol : Name) (state : SymbolState) (row : LinkRow) → ∥ IsLawful h ∥₁ → IsStateOf h symbol state → newest_link state ≡ Some row

@@ -163,7 +163,14 @@ module _ (base : Frame) (index : Index) (of_base : IsIndexOf base index) (range 
   pub run_above : IsRun columns (drop (passing begins_by slots) slots)
   run_above = run-drop columns begins_by begins_by_of_blocks slots is_run falls-begins_by
 
-  rows_run : (run : List Slot) → AllByRecursion (IsSlot columns) run → IsRun columns run → slice_range base.rows (begin_of run) (end_of run) ≡ rows_of_slots base run
+  -- of the row blocks that are cut
+  pub run_cut_below : IsRun columns (slice_range slots (passing ends_below slots) (passing begins_below slots))
+  run_cut_below = run-between columns ends_below begins_below ends_of_blocks begins_of_blocks slots ends_then_begins is_run falls-ends falls-begins
+
+  pub run_cut_above : IsRun columns (slice_range slots (passing ends_by slots) (passing begins_by slots))
+  run_cut_above = run-between columns ends_by begins_by ends_by_of_blocks begins_by_of_blocks slots ends_then_begins_by is_run falls-ends_by falls-begins_by
+
+  pub rows_run : (run : List Slot) → AllByRecursion (IsSlot columns) run → IsRun columns run → slice_range base.rows (begin_of run) (end_of run) ≡ rows_of_slots base run
   rows_run run each is = sym (rows_of_run base columns run each is)
 
   module _ (cuts : Cuts) (divides : Divides range slots cuts) (edges : Edges) (are : AreEdges base range slots cuts edges) (frame : Frame) where
@@ -183,10 +190,10 @@ module _ (base : Frame) (index : Index) (of_base : IsIndexOf base index) (range 
         ∙ (ap (λ k. rows_above range (rows_of_slots base (slice_range slots k (passing begins_by slots))) ++ rows_of_slots base (drop (passing begins_by slots) slots)) (sym divides.ended)
         ∙ ap (λ n. rows_above range (rows_of_slots base (slice_range slots cuts.ended n)) ++ rows_of_slots base (drop n slots)) (sym divides.reached))
 
-    first_run : IsRun columns (take cuts.below slots)
+    pub first_run : IsRun columns (take cuts.below slots)
     first_run = subst (λ k. IsRun columns (take k slots)) (sym divides.below) run_below
 
-    last_run : IsRun columns (drop cuts.reached slots)
+    pub last_run : IsRun columns (drop cuts.reached slots)
     last_run = subst (λ k. IsRun columns (drop k slots)) (sym divides.reached) run_above
 
     -- the pieces hold the rows

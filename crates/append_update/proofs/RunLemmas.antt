@@ -9,7 +9,7 @@ use Rattle.std.proofs.lemmas.List.Sums.{length-filter, count_by-le-length}
 use Rattle.index_tree.specs.declared.index.Slot.{Slot}
 use Rattle.index_tree.specs.IndexRules.{SameBlock, NextBlock, LeadOn}
 use Rattle.frame_write.specs.Pieces.{begin_of, end_of, IsRun}
-use Rattle.append_update.proofs.ListLemmas.{FallsOff, passing, divided, none_passing, falls_later}
+use Rattle.append_update.proofs.ListLemmas.{FallsOff, passing, divided, none_passing, falls_later, take_all_of}
 use Rattle.append_update.proofs.SlotLemmas.{end-lead}
 
 -- the test says the same of slots of one row block
@@ -85,34 +85,28 @@ all_passing : {X : Type 0} (q : X → Bool) (xs : List X) → AllByRecursion (λ
 all_passing q [] all = refl
 all_passing q (x ∷ xs) all = rw all.0 (ap suc (all_passing q xs all.1))
 
-weaker : {X : Type 0} (P Q : X → Type 0) → ((x : X) → P x → Q x) → (xs : List X) → AllByRecursion P xs → AllByRecursion Q xs
-weaker P Q f [] all = tt
-weaker P Q f (x ∷ xs) all = (f x all.0, weaker P Q f xs all.1)
+both_pass : {X : Type 0} (p q : X → Bool) (xs : List X) → AllByRecursion (λ x. p x ≡ true → q x ≡ true) xs → AllByRecursion (λ x. p x ≡ true) xs → AllByRecursion (λ x. q x ≡ true) xs
+both_pass p q [] each all = tt
+both_pass p q (x ∷ xs) each all = (each.0 all.0, both_pass p q xs each.1 all.1)
+
+length_taken : {X : Type 0} (n : ℕ) (xs : List X) → n ≤ length xs → length (take n xs) ≡ n
+length_taken zero xs le = refl
+length_taken (suc n) [] le = absurd (omega (arith, le))
+length_taken (suc n) (x ∷ xs) le = ap suc (length_taken n xs (omega (arith, le)))
 
 -- how many pass the weaker test behind those that pass the other
-pub passing-behind : {X : Type 0} (p q : X → Bool) → ((x : X) → p x ≡ true → q x ≡ true) → (xs : List X) → FallsOff p xs → passing q (drop (passing p xs) xs) ≡ passing q xs - passing p xs
-passing-behind {X} p q weaker_is xs falls =
-    let pass = (divided p xs falls).pass in
-    let first : passing q (take (passing p xs) xs) ≡ passing p xs =
-    all_passing q (take (passing p xs) xs) (weaker (λ x. p x ≡ true) (λ x. q x ≡ true) weaker_is (take (passing p xs) xs) pass) ∙ length_of in
+pub passing-behind : {X : Type 0} (p q : X → Bool) (xs : List X) → AllByRecursion (λ x. p x ≡ true → q x ≡ true) xs → FallsOff p xs → passing q (drop (passing p xs) xs) ≡ passing q xs - passing p xs
+passing-behind p q xs each falls =
+    let pass = both_pass p q (take (passing p xs) xs) (take_all_of (λ x. p x ≡ true → q x ≡ true) (passing p xs) xs each) (divided p xs falls).pass in
+    let few : passing p xs ≤ length xs = omega (arith, length-filter p xs, count_by-le-length p xs) in
+    let first : passing q (take (passing p xs) xs) ≡ passing p xs = all_passing q (take (passing p xs) xs) pass ∙ length_taken (passing p xs) xs few in
     let sum : passing q xs ≡ passing q (take (passing p xs) xs) + passing q (drop (passing p xs) xs) =
     ap (passing q) (sym (take-append-drop (passing p xs) xs)) ∙ (ap length (filter-append q (take (passing p xs) xs) (drop (passing p xs) xs)) ∙ length-append (filter q (take (passing p xs) xs)) (filter q (drop (passing p xs) xs))) in
     omega (arith, first, sum)
-  where
-    few : passing p xs ≤ length xs
-    few = omega (arith, length-filter p xs, count_by-le-length p xs)
-
-    length_of : length (take (passing p xs) xs) ≡ passing p xs
-    length_of = short (passing p xs) xs few
-      where
-        short : (n : ℕ) (xs : List X) → n ≤ length xs → length (take n xs) ≡ n
-        short zero xs le = refl
-        short (suc n) [] le = absurd (omega (arith, le))
-        short (suc n) (x ∷ xs) le = ap suc (short n xs (omega (arith, le)))
 
 -- the slots between the two are a run
-pub run-between : (columns : ℕ) (p q : Slot → Bool) → IsOfBlocks columns p → IsOfBlocks columns q → ((s : Slot) → p s ≡ true → q s ≡ true) → (slots : List Slot) → IsRun columns slots → FallsOff p slots → FallsOff q slots
+pub run-between : (columns : ℕ) (p q : Slot → Bool) → IsOfBlocks columns p → IsOfBlocks columns q → (slots : List Slot) → AllByRecursion (λ s. p s ≡ true → q s ≡ true) slots → IsRun columns slots → FallsOff p slots → FallsOff q slots
     → IsRun columns (slice_range slots (passing p slots) (passing q slots))
-run-between columns p q of_p of_q weaker_is slots run falls_p falls_q =
-    subst (λ n. IsRun columns (take n (drop (passing p slots) slots))) (passing-behind p q weaker_is slots falls_p)
+run-between columns p q of_p of_q slots each run falls_p falls_q =
+    subst (λ n. IsRun columns (take n (drop (passing p slots) slots))) (passing-behind p q slots each falls_p)
     (run-take columns q of_q (drop (passing p slots) slots) (run-drop columns p of_p slots run falls_p) (falls-drop q (passing p slots) slots falls_q))

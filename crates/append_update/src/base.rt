@@ -67,12 +67,7 @@ pub(crate) fn base_of<R: Wait, B: Bucket<StoreLaw>>(
 }
 
 /// A link as a target of reads.
-fn target_of(
-    alloc: Global,
-    symbol: &Symbol,
-    row: &LinkRow,
-    place: u64,
-) -> Result<Target, NoMemory>
+fn target_of(alloc: Global, symbol: &Symbol, row: &LinkRow, place: u64) -> Result<Target, NoMemory>
     ensures { IfOk result (λ made. made ≡ record { symbol = symbol.now; version = row.now.version; index = row.now.index; place = place }) }
 {
     Ok(Target {

@@ -1,10 +1,14 @@
 //! Appends and updates: a new version of a symbol that shares the tiles of its newest live version.
 #![tactic(auto)]
 
+mod appending;
 mod base;
 mod cuts;
 mod judging;
 mod pieces;
+mod updating;
 
+pub use appending::append;
 pub use base_types::NoMemory;
 pub use frame_write::{Committed, Options};
+pub use updating::{delete_range, update};
