@@ -13,3 +13,5 @@ pub mod BaseLemmas
 pub mod UpdateLemmas
 pub mod UpdatePlans
 pub mod StubLemmas
+pub mod AttemptLemmas
+pub mod UpdateAnswers

@@ -3,3 +3,4 @@ pub mod Replacing
 pub mod Replies
 pub mod Newest
 pub mod Looking
+pub mod Attempts

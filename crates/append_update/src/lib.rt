@@ -6,6 +6,7 @@ mod base;
 mod cuts;
 mod judging;
 mod pieces;
+mod planning;
 mod updating;
 
 pub use appending::append;
