@@ -15,3 +15,5 @@ pub mod UpdatePlans
 pub mod StubLemmas
 pub mod AttemptLemmas
 pub mod UpdateAnswers
+pub mod CoverLemmas
+pub mod BlockLemmas
