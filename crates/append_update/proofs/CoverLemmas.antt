@@ -8,10 +8,10 @@ use Rattle.index_tree.specs.declared.index.Slot.{Slot}
 use Rattle.index_tree.specs.IndexRules.{IsSlot, SameBlock, NextBlock, LeadOn}
 use Rattle.frame_write.specs.Pieces.{begin_of, end_of, IsRun}
 
-row_in : (part : Part) (row : ℕ) → part.first_row ≤ row → row < part.first_row + part.rows → has_row part row ≡ true
+pub row_in : (part : Part) (row : ℕ) → part.first_row ≤ row → row < part.first_row + part.rows → has_row part row ≡ true
 row_in part row low high = and_from _ _ (le-leb part.first_row row low) (lt-ltb row (part.first_row + part.rows) high)
 
-cell_in : (part : Part) (row column : ℕ) → part.first_row ≤ row → row < part.first_row + part.rows → part.first_col ≤ column → column < part.first_col + part.cols → has_cell part row column ≡ true
+pub cell_in : (part : Part) (row column : ℕ) → part.first_row ≤ row → row < part.first_row + part.rows → part.first_col ≤ column → column < part.first_col + part.cols → has_cell part row column ≡ true
 cell_in part row column low high left right =
     and_from _ _ (and_from _ _ (row_in part row low high) (le-leb part.first_col column left)) (lt-ltb column (part.first_col + part.cols) right)
 

@@ -17,3 +17,5 @@ pub mod AttemptLemmas
 pub mod UpdateAnswers
 pub mod CoverLemmas
 pub mod BlockLemmas
+pub mod GotLemmas
+pub mod RunTiles

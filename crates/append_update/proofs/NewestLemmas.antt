@@ -193,6 +193,7 @@ newest_is h symbol state row index lawful is e rules same =
         link_is = found.link_is;
         number = nat_told found.link.row.version v.number (∥∥₁_map found.pair (λ p. p.link.number));
         index_is = index_is;
+        tiled = ∥∥₁_map found.pair (λ p. p.link.assembled);
       },
     )
 

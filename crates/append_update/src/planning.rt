@@ -15,11 +15,7 @@ use index_tree::Index;
 use std::alloc::Global;
 
 /// The frame as a version of its own, with this change.
-pub(crate) fn plan_alone(
-    alloc: Global,
-    frame: &Frame,
-    change: Change,
-) -> Result<LinkPlan, NoMemory>
+pub(crate) fn plan_alone(alloc: Global, frame: &Frame, change: Change) -> Result<LinkPlan, NoMemory>
     ensures { IfOk result (λ plan. plan ≡ record { schema = frame.now.schema; pieces = Fresh frame.now ∷ []; change = change }) }
 {
     let mut pieces = Items::new(alloc);
