@@ -1,11 +1,10 @@
 -- The plan of an append makes the version that the one-thread library makes, and the library answers as the checks do.
-use Rattle.std.proofs.Common.{◌≡◌, ℕ, ℤ, ◌≤ℤ◌, Bool, true, false, List, [], ◌∷◌, ◌++◌, length, refl, sym, ap, ◌∙◌, subst, inl, inr, cond, arith, Option, Some, None, Result, Ok, Err}
+use Rattle.std.proofs.Common.{◌≡◌, ℕ, ℤ, ◌≤ℤ◌, Bool, true, false, List, [], ◌∷◌, ◌++◌, length, refl, sym, ap, ◌∙◌, subst, inr, cond, arith, Option, Some, None, Ok, Err}
 use Rattle.std.specs.Prelude.{Contains, int_lt, slice_range}
-use Rattle.std.specs.List.{AllByRecursion, flat_map}
+use Rattle.std.specs.List.{AllByRecursion}
 use Rattle.std.proofs.lemmas.Bool.{true≢false}
 use Rattle.std.proofs.lemmas.Int.{ints}
 use Rattle.std.proofs.lemmas.List.{append-nil}
-use Rattle.frame_core.specs.declared.refusal.Refusal.{Refusal}
 use Rattle.frame_core.specs.declared.refusal.Refusal.TheVariants as refusals
 use Rattle.frame_core.specs.declared.refusal.Extent.{Extent}
 use Rattle.frame_core.specs.Ranges.{InOrder}
@@ -19,14 +18,13 @@ use Rattle.index_tree.specs.IndexRules.{Cover}
 use Rattle.key_kind.specs.Names.{Name}
 use Rattle.bucket_core.specs.declared.event.Change.TheVariants as changes
 use Rattle.bucket_core.specs.History.{History}
-use Rattle.store_model.specs.Library.{State, Version, state_of, base_of, on_base, version_of, new_version}
+use Rattle.store_model.specs.Library.{State, Version, state_of, base_of, on_base, version_of}
 use Rattle.store_model.proofs.Lists.{contains_first, contains_later}
-use Rattle.reply_model.specs.Answering.{Answer, committed, append_before}
+use Rattle.reply_model.specs.Answering.{committed, append_before}
 use Rattle.reply_model.specs.CommitAnswers.{append_answer}
-use Rattle.frame_write.specs.declared.pieces.LinkPlan.{LinkPlan}
-use Rattle.frame_write.specs.Pieces.{begin_of, end_of, IsRun, IsPiece, rows_held, HasBase, ArePieces}
+use Rattle.frame_write.specs.Pieces.{begin_of, end_of, IsRun, HasBase, ArePieces}
 use Rattle.frame_write.specs.Links.{FitsPlan}
-use Rattle.append_update.specs.Bases.{IsIndexOf, rows_of_slots}
+use Rattle.append_update.specs.Bases.{IsIndexOf}
 use Rattle.append_update.specs.Newest.{IsNewest}
 use Rattle.append_update.specs.Replacing.{appended}
 use Rattle.append_update.proofs.FrameLemmas.{all-both}

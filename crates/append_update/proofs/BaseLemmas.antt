@@ -1,10 +1,10 @@
 -- What a look at a base finds.
-use Rattle.std.proofs.Common.{◌≡◌, ℕ, zero, suc, ◌+◌, ◌-◌, ◌≤◌, Bool, true, false, ◌&&◌, List, [], ◌∷◌, ◌++◌, length, take, drop, refl, sym, ap, ◌∙◌, subst, inl, inr, arith, Option, Some, None, nat_eq, length-append}
+use Rattle.std.proofs.Common.{◌≡◌, ℕ, zero, suc, ◌+◌, ◌-◌, ◌≤◌, Bool, true, false, ◌&&◌, List, [], ◌∷◌, ◌++◌, length, take, drop, refl, sym, ap, ◌∙◌, subst, arith, Option, Some, None, nat_eq, length-append}
 use Rattle.std.specs.Prelude.{Contains, option_map, option_and_then}
 use Rattle.std.specs.List.{list_any}
 use Rattle.std.proofs.lemmas.Bool.{and_from, eq-eqb, or_right}
 use Rattle.std.proofs.lemmas.List.{take-append-drop, append_assoc}
-use mathlib.Core.Logic.{∥∥₁_elim, ∥∥₁_map}
+use mathlib.Core.Logic.{∥∥₁_map}
 use denote.Struct.Props.{props}
 use Rattle.frame_core.specs.declared.refusal.Refusal.TheVariants as refusals
 use Rattle.frame_core.specs.declared.refusal.Refusal.{Refusal}
@@ -25,7 +25,7 @@ use Rattle.store_model.specs.Law.{IsLawful}
 use Rattle.store_model.proofs.Lawful.{lawful_as_put}
 use Rattle.store_model.proofs.Lists.{passes}
 use Rattle.version_chain.specs.declared.state.SymbolState.{SymbolState}
-use Rattle.version_chain.specs.States.{newest_link, IsStateOf, IsStateAt, IsWithin, IsLookRefusal, RefusesWalk}
+use Rattle.version_chain.specs.States.{newest_link, IsStateAt, IsLookRefusal, RefusesWalk}
 use Rattle.frame_read.specs.declared.target.Target.{Target}
 use Rattle.frame_read.specs.Fetches.{IsTargetIndex}
 use Rattle.frame_read.proofs.FetchLemmas.{links_later}

@@ -1,5 +1,5 @@
 -- The tiles of a run of slots are those of the rows that the run has, as a frame of its own.
-use Rattle.std.proofs.Common.{◌≡◌, ℕ, zero, suc, ◌+◌, ◌-◌, ◌<◌, ◌≤◌, List, [], ◌∷◌, length, map, take, drop, refl, sym, ap, ◌∙◌, subst, arith, inl, inr, Ok}
+use Rattle.std.proofs.Common.{◌≡◌, ℕ, zero, suc, ◌+◌, ◌-◌, ◌≤◌, List, [], ◌∷◌, map, take, drop, refl, sym, ap, ◌∙◌, arith, inl, inr}
 use Rattle.std.specs.Prelude.{slice_range}
 use Rattle.std.specs.List.{AllByRecursion}
 use Rattle.std.proofs.lemmas.List.{drop-take, drop-drop}
@@ -7,7 +7,7 @@ use Rattle.frame_core.specs.declared.part.Part.{Part}
 use Rattle.frame_core.specs.Frames.{Row, Frame, slice}
 use Rattle.segment_cut.specs.Tiles.{cut, cut_row}
 use Rattle.index_tree.specs.declared.index.Slot.{Slot}
-use Rattle.index_tree.specs.IndexRules.{SameBlock, NextBlock, LeadOn}
+use Rattle.index_tree.specs.IndexRules.{LeadOn}
 use Rattle.frame_write.specs.Pieces.{begin_of, end_of, IsRun}
 use Rattle.append_update.proofs.SlotLemmas.{lead-reaches}
 

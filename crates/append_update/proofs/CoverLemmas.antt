@@ -1,11 +1,11 @@
 -- A run of slots has each row and each cell of its rows.
-use Rattle.std.proofs.Common.{◌≡◌, ℕ, suc, ◌+◌, ◌-◌, ◌<◌, ◌≤◌, Bool, true, false, ◌&&◌, List, [], ◌∷◌, length, refl, sym, ap, ◌∙◌, subst, arith, inl, inr}
-use Rattle.std.specs.List.{AllByRecursion, list_any}
+use Rattle.std.proofs.Common.{◌≡◌, ℕ, ◌+◌, ◌<◌, ◌≤◌, true, false, List, [], ◌∷◌, arith, inl, inr}
+use Rattle.std.specs.List.{list_any}
 use Rattle.std.proofs.lemmas.Bool.{cases_lt, le-leb, lt-ltb, and_from, or_left, or_right}
 use Rattle.frame_core.specs.declared.part.Part.{Part}
 use Rattle.segment_cut.specs.Tiles.{has_row, has_cell}
 use Rattle.index_tree.specs.declared.index.Slot.{Slot}
-use Rattle.index_tree.specs.IndexRules.{IsSlot, SameBlock, NextBlock, LeadOn}
+use Rattle.index_tree.specs.IndexRules.{LeadOn}
 use Rattle.frame_write.specs.Pieces.{begin_of, end_of, IsRun}
 
 pub row_in : (part : Part) (row : ℕ) → part.first_row ≤ row → row < part.first_row + part.rows → has_row part row ≡ true

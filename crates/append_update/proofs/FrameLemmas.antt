@@ -1,13 +1,12 @@
 -- Frames whose rows are some of a frame's, and rows of two frames.
-use Rattle.std.proofs.Common.{◌≡◌, ℕ, zero, suc, ◌+◌, ◌-◌, ◌*◌, ◌≤◌, max, ℤ, ◌≤ℤ◌, Bool, true, false, List, [], ◌∷◌, ◌++◌, length, map, Option, Some, None, refl, sym, ap, ◌∙◌, subst, arith, length-append}
+use Rattle.std.proofs.Common.{◌≡◌, ℕ, ◌+◌, ◌*◌, ◌≤◌, max, ℤ, ◌≤ℤ◌, Bool, true, false, List, [], ◌∷◌, ◌++◌, length, map, None, refl, ap, ◌∙◌, arith}
 use Rattle.std.specs.Prelude.{sum_by, fold, filter}
 use Rattle.std.specs.List.{AllByRecursion}
-use Rattle.std.proofs.lemmas.Bool.{true≢false}
 use Rattle.std.proofs.lemmas.Int.{ints}
 use Rattle.std.proofs.lemmas.Nat.{mul-le}
 use Rattle.std.proofs.lemmas.List.{map-append}
 use Rattle.std.proofs.lemmas.List.Sums.{sum_by-cons, sum_by-append, length-filter, count_by-le-length}
-use Rattle.frame_core.specs.Frames.{Row, Frame, IsFrame, NeverFall, stamps_of}
+use Rattle.frame_core.specs.Frames.{Row, Frame, NeverFall, stamps_of}
 use Rattle.frame_core.specs.Limits.{all_text_bytes, longest_text, too_large, frame_too_large, IsStorable}
 use Rattle.frame_core.proofs.FrameLimits.{fold_max_cons, fold_max-append}
 

@@ -1,20 +1,19 @@
 -- The tiles that were got of the base's slots make the rows of their run.
-use Rattle.std.proofs.Common.{◌≡◌, ℕ, ◌+◌, ◌-◌, ◌≤◌, List, [], ◌∷◌, ◌++◌, length, refl, sym, ap, ◌∙◌, subst, Option, Some, Result, Ok}
+use Rattle.std.proofs.Common.{◌≡◌, ℕ, ◌++◌, sym, subst, Result, Ok}
 use Rattle.std.specs.Prelude.{Contains}
-use Rattle.std.specs.List.{AllByRecursion, AllZip}
 use Rattle.std.specs.Arc.{arc_value}
 use Rattle.std.proofs.lemmas.List.Elements.{All-from_recursion, All-contains}
 use mathlib.Core.Logic.{∥∥₁_map₂}
 use denote.Struct.Props.{props}
 use Rattle.frame_core.specs.Frames.{Frame}
 use Rattle.segment_bytes.specs.Segments.{segment_of}
-use Rattle.segment_cut.specs.Tiles.{Tile, Tiled, cut}
+use Rattle.segment_cut.specs.Tiles.{Tile, cut}
 use Rattle.index_tree.specs.declared.index.Slot.{Slot}
 use Rattle.index_tree.specs.declared.index.Index.{Index}
 use Rattle.key_kind.specs.Names.{Name}
 use Rattle.bucket_core.specs.History.{History}
 use Rattle.store_model.specs.Library.{Version}
-use Rattle.store_model.specs.Links.{Linked, links}
+use Rattle.store_model.specs.Links.{links}
 use Rattle.store_model.specs.Law.{IsLawful}
 use Rattle.store_model.proofs.Lawful.{lawful_as_put}
 use Rattle.frame_read.specs.declared.tiles.FetchedTile.{FetchedTile}

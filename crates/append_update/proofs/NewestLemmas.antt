@@ -1,14 +1,13 @@
 -- The newest live link is that of the newest live version, whose frame its index tells.
 use Rattle.std.proofs.Common.{◌≡◌, ℕ, Bool, true, false, not, List, [], ◌∷◌, ◌++◌, length, map, reverse, cond, refl, sym, ap, ◌∙◌, subst, inl, inr, Option, Some, None}
 use Rattle.std.specs.Prelude.{Contains, find, filter, fold}
-use Rattle.std.specs.List.{AllZip, AllByRecursion, list_any}
+use Rattle.std.specs.List.{AllZip, AllByRecursion}
 use Rattle.std.proofs.lemmas.Bool.{true≢false}
 use Rattle.std.proofs.lemmas.List.{reverse-reverse}
 use mathlib.Core.Logic.{∥∥₁_elim, ∥∥₁_map}
 use mathlib.Core.HLevel.{⊥_prop}
 use denote.Struct.Props.{props}
 use Rattle.frame_core.specs.Schemas.{Schema}
-use Rattle.index_tree.specs.declared.index.Slot.{Slot}
 use Rattle.index_tree.specs.declared.index.Index.{Index}
 use Rattle.index_tree.specs.IndexRules.{IsIndex}
 use Rattle.key_kind.specs.declared.key.Key.{Key}
@@ -17,21 +16,18 @@ use Rattle.bucket_core.specs.declared.event.Change.{Change}
 use Rattle.bucket_core.specs.declared.event.Event.TheVariants as events
 use Rattle.bucket_core.specs.History.{History}
 use Rattle.store_model.specs.declared.chain.LinkRow.{LinkRow}
-use Rattle.store_model.specs.Library.{Version, state_of, base_of, first_of, is_buried, live_versions, after_change, after_changes}
-use Rattle.store_model.specs.Links.{Linked, links, links_at, links_of, linked, index_put}
+use Rattle.store_model.specs.Library.{Version, state_of, base_of, first_of, is_buried, after_change, after_changes}
+use Rattle.store_model.specs.Links.{Linked, links, links_at, links_of}
 use Rattle.store_model.specs.Commits.{MayRefer, HasSlotStamps}
 use Rattle.store_model.specs.Intact.{IsLinkOf}
 use Rattle.store_model.specs.Law.{IsLawful}
-use Rattle.store_model.proofs.Lawful.{lawful_is_intact, lawful_as_put}
+use Rattle.store_model.proofs.Lawful.{lawful_is_intact}
 use Rattle.store_model.proofs.Linking.{refer_makes}
 use Rattle.store_model.proofs.Referring.{at_symbol}
 use Rattle.store_model.proofs.Lists.{contains_first, contains_later}
 use Rattle.version_chain.specs.declared.state.SymbolState.{SymbolState}
 use Rattle.version_chain.specs.States.{is_tomb, newest_link, IsStateOf}
-use Rattle.frame_read.specs.declared.target.Target.{Target}
-use Rattle.frame_read.specs.Fetches.{IsTargetIndex}
 use Rattle.frame_read.proofs.StampLemmas.{IsStamped, lawful_is_stamped}
-use Rattle.append_update.specs.Bases.{IsIndexOf}
 use Rattle.append_update.specs.Newest.{IsNewest}
 use Rattle.append_update.proofs.ToldLemmas.{Told, told_prop, told_all, storable_told, stamps_told}
 

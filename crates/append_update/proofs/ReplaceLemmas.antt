@@ -1,33 +1,29 @@
 -- The pieces of an update hold the rows that it makes of the base.
-use Rattle.std.proofs.Common.{◌≡◌, ℕ, zero, suc, ◌+◌, ◌-◌, ◌<◌, ◌≤◌, ℤ, ◌≤ℤ◌, Bool, true, false, not, List, [], ◌∷◌, ◌++◌, length, take, drop, Option, Some, None, refl, sym, ap, ◌∙◌, subst, arith}
-use Rattle.std.specs.Prelude.{slice_range, filter, Contains, int_lt}
+use Rattle.std.proofs.Common.{◌≡◌, ℕ, ◌≤◌, Bool, true, false, not, List, [], ◌∷◌, ◌++◌, length, take, drop, Option, Some, None, refl, sym, ap, ◌∙◌, subst}
+use Rattle.std.specs.Prelude.{slice_range}
 use Rattle.std.specs.List.{AllByRecursion, flat_map}
 use Rattle.std.proofs.lemmas.Bool.{true≢false}
 use Rattle.std.proofs.lemmas.List.{take-append-drop, append_assoc, append-nil}
 use Rattle.std.proofs.lemmas.List.Folds.{drop_split}
 use Rattle.std.proofs.lemmas.List.Elements.{filter-append}
 use Rattle.std.proofs.lemmas.Grind.{flat_map-append}
-use Rattle.frame_core.specs.Schemas.{Schema}
 use Rattle.frame_core.specs.Ranges.{Range, is_below, is_above}
 use Rattle.frame_core.specs.Frames.{Row, Frame, NeverFall, stamps_of, rows_below, rows_above, replace_range}
-use Rattle.frame_core.specs.Limits.{IsStorable}
 use Rattle.index_tree.specs.declared.index.Slot.{Slot}
 use Rattle.index_tree.specs.declared.index.Index.{Index}
-use Rattle.index_tree.specs.IndexRules.{IsSlot, SameBlock, NextBlock, LeadOn, Cover, IsIndex}
+use Rattle.index_tree.specs.IndexRules.{IsSlot, Cover}
 use Rattle.store_model.specs.Commits.{HasSlotStamps}
 use Rattle.append_update.specs.Bases.{IsIndexOf, rows_at, rows_of_slots, Divides}
 use Rattle.frame_write.specs.Pieces.{begin_of, end_of, IsRun}
-use Rattle.frame_write.specs.Pieces.{IsPiece, rows_held}
+use Rattle.frame_write.specs.Pieces.{rows_held}
 use Rattle.append_update.specs.declared.cuts.Cuts.{Cuts}
 use Rattle.append_update.specs.declared.pieces.Edges.{Edges}
-use Rattle.frame_write.specs.declared.pieces.Piece.{Piece}
 use Rattle.frame_write.specs.declared.pieces.Piece.TheVariants as pieces
-use Rattle.append_update.specs.Replacing.{fresh, appended, replaced, IsLeft, AreEdges}
+use Rattle.append_update.specs.Replacing.{fresh, replaced, IsLeft, AreEdges}
 use Rattle.append_update.proofs.ListLemmas.{FallsOff, passing, divided, passing-le, take_all_of, drop_all_of}
 use Rattle.append_update.proofs.SlotLemmas.{rows_of_run, rows_of_all, cover_is_run}
 use Rattle.append_update.proofs.RunLemmas.{IsOfBlocks, run-take, run-drop, run-between}
 use Rattle.append_update.proofs.RangeLemmas.{below_before, above_behind, slots_below, slots_not_below, slots_above, slots_not_above, falls_below-last, falls_below-first, falls_by-last, falls_by-first}
-use Rattle.append_update.proofs.FrameLemmas.{storable-kept, all-both}
 
 -- a list in three parts
 pub in_three : {X : Type 0} (xs : List X) (from to : ℕ) → from ≤ to → xs ≡ take from xs ++ (slice_range xs from to ++ drop to xs)

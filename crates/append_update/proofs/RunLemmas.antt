@@ -1,14 +1,14 @@
 -- What a test leaves of a run of slots, where it does not tell slots of one row block apart.
-use Rattle.std.proofs.Common.{◌≡◌, ℕ, zero, suc, ◌+◌, ◌-◌, ◌<◌, ◌≤◌, Bool, true, false, List, [], ◌∷◌, ◌++◌, length, take, drop, refl, sym, ap, ◌∙◌, subst, arith, inl, inr, length-append}
+use Rattle.std.proofs.Common.{◌≡◌, ℕ, zero, suc, ◌+◌, ◌-◌, ◌≤◌, Bool, true, false, List, [], ◌∷◌, length, take, drop, refl, sym, ap, ◌∙◌, subst, arith, inl, inr, length-append}
 use Rattle.std.specs.Prelude.{slice_range, filter}
 use Rattle.std.specs.List.{AllByRecursion}
 use Rattle.std.proofs.lemmas.Bool.{true≢false}
-use Rattle.std.proofs.lemmas.List.{take-append-drop, length-take}
+use Rattle.std.proofs.lemmas.List.{take-append-drop}
 use Rattle.std.proofs.lemmas.List.Elements.{filter-append}
 use Rattle.std.proofs.lemmas.List.Sums.{length-filter, count_by-le-length}
 use Rattle.index_tree.specs.declared.index.Slot.{Slot}
-use Rattle.index_tree.specs.IndexRules.{SameBlock, NextBlock, LeadOn}
-use Rattle.frame_write.specs.Pieces.{begin_of, end_of, IsRun}
+use Rattle.index_tree.specs.IndexRules.{SameBlock, LeadOn}
+use Rattle.frame_write.specs.Pieces.{end_of, IsRun}
 use Rattle.append_update.proofs.ListLemmas.{FallsOff, passing, divided, none_passing, falls_later, take_all_of}
 use Rattle.append_update.proofs.SlotLemmas.{end-lead}
 

@@ -1,15 +1,13 @@
 -- The tiles of a run of the base's slots have all rows and cells of the run.
-use Rattle.std.proofs.Common.{◌≡◌, ℕ, zero, suc, ◌+◌, ◌-◌, ◌<◌, ◌≤◌, ℤ, Bool, true, false, ◌&&◌, List, [], ◌∷◌, ◌++◌, length, map, take, drop, refl, sym, ap, ◌∙◌, subst, arith, inl, inr, Option, Some, None, Result, Ok, length-take}
+use Rattle.std.proofs.Common.{◌≡◌, ℕ, zero, suc, ◌+◌, ◌-◌, ◌<◌, ◌≤◌, ℤ, Bool, true, ◌&&◌, List, [], ◌∷◌, ◌++◌, length, map, drop, refl, sym, ap, ◌∙◌, subst, arith, inl, inr, Some, None, Ok, length-take}
 use Rattle.std.specs.Prelude.{Contains, slice_range, slice_get, option_map, nat_le, nat_lt}
 use Rattle.std.specs.List.{AllByRecursion, AllZip, list_any}
-use Rattle.std.specs.Arc.{arc_value}
 use Rattle.std.proofs.lemmas.Bool.{true≢false, and_parts, leb-true, ltb-true, or_cases, or_left, or_right}
 use Rattle.frame_core.specs.declared.part.Part.{Part}
 use Rattle.frame_core.specs.Ranges.{Range}
 use Rattle.frame_core.specs.Schemas.{Schema, Head}
 use Rattle.frame_core.specs.Frames.{Row, Frame, slice}
-use Rattle.segment_bytes.specs.Segments.{segment_of}
-use Rattle.segment_cut.specs.Tiles.{has_row, has_cell, cut}
+use Rattle.segment_cut.specs.Tiles.{has_row, has_cell}
 use Rattle.index_tree.specs.declared.index.Slot.{Slot}
 use Rattle.index_tree.specs.declared.index.Index.{Index}
 use Rattle.key_kind.specs.Names.{Name}
@@ -17,7 +15,6 @@ use Rattle.bucket_core.specs.History.{History}
 use Rattle.store_model.specs.Library.{Version}
 use Rattle.store_model.specs.Law.{IsLawful}
 use Rattle.frame_read.specs.declared.tiles.FetchedTile.{FetchedTile}
-use Rattle.frame_read.specs.declared.tiles.Tiles.{Tiles}
 use Rattle.frame_read.specs.TileSets.{IsGot}
 use Rattle.frame_read.specs.Wholes.{HoldsPart, AreTilesOf}
 use Rattle.frame_write.specs.Pieces.{begin_of, end_of, IsRun}

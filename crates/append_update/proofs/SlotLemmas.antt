@@ -1,12 +1,12 @@
 -- The rows that slots of a frame have.
-use Rattle.std.proofs.Common.{◌≡◌, ℕ, zero, suc, ◌+◌, ◌-◌, ◌<◌, ◌≤◌, ℤ, ◌≤ℤ◌, Bool, true, false, not, cond, List, [], ◌∷◌, ◌++◌, length, take, drop, Some, refl, sym, ap, ◌∙◌, subst, arith, inl, inr}
-use Rattle.std.specs.Prelude.{slice_range, filter, nat_eq, int_lt}
-use Rattle.std.specs.List.{AllByRecursion, flat_map}
+use Rattle.std.proofs.Common.{◌≡◌, ℕ, zero, suc, ◌+◌, ◌-◌, ◌≤◌, false, List, [], ◌∷◌, ◌++◌, length, take, drop, refl, sym, ap, ◌∙◌, subst, arith, inl, inr}
+use Rattle.std.specs.Prelude.{slice_range, nat_eq}
+use Rattle.std.specs.List.{AllByRecursion}
 use Rattle.std.proofs.lemmas.Bool.{eq-eqb, ne_eqb}
 use Rattle.std.proofs.lemmas.List.{drop_all, take_all, drop-drop}
 use Rattle.frame_core.specs.Frames.{Row, Frame}
 use Rattle.index_tree.specs.declared.index.Slot.{Slot}
-use Rattle.index_tree.specs.IndexRules.{IsSlot, SameBlock, NextBlock, LeadOn, Cover}
+use Rattle.index_tree.specs.IndexRules.{IsSlot, LeadOn, Cover}
 use Rattle.append_update.specs.Bases.{rows_at, rows_of_slots}
 use Rattle.frame_write.specs.Pieces.{begin_of, end_of, IsRun}
 

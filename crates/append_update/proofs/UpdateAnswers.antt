@@ -1,5 +1,5 @@
 -- The library answers an update as the checks do, and the plan makes its version.
-use Rattle.std.proofs.Common.{◌≡◌, ℕ, ℤ, Bool, true, false, List, [], length, refl, sym, ap, ◌∙◌, Option, Some, None, Ok, Err}
+use Rattle.std.proofs.Common.{◌≡◌, ℕ, ℤ, Bool, true, false, refl, ap, Option, Some, None, Ok, Err}
 use Rattle.std.specs.List.{AllByRecursion}
 use Rattle.frame_core.specs.declared.refusal.Refusal.TheVariants as refusals
 use Rattle.frame_core.specs.declared.refusal.Asked.TheVariants as asks
@@ -15,7 +15,6 @@ use Rattle.bucket_core.specs.History.{History}
 use Rattle.store_model.specs.Library.{State, Version, state_of, base_of, on_base, version_of}
 use Rattle.reply_model.specs.Answering.{committed}
 use Rattle.reply_model.specs.CommitAnswers.{update_range, update_answer}
-use Rattle.frame_write.specs.declared.pieces.LinkPlan.{LinkPlan}
 use Rattle.frame_write.specs.Links.{FitsPlan}
 use Rattle.append_update.specs.declared.cuts.Cuts.{Cuts}
 use Rattle.append_update.specs.declared.pieces.Edges.{Edges}

@@ -1,35 +1,21 @@
 -- The plan of an update makes the version that the one-thread library makes.
-use Rattle.std.proofs.Common.{◌≡◌, ℕ, zero, suc, ◌+◌, ◌-◌, ◌*◌, ◌≤◌, max, ℤ, ◌≤ℤ◌, Bool, true, false, not, ◌&&◌, cond, List, [], ◌∷◌, ◌++◌, length, map, take, drop, refl, sym, ap, ◌∙◌, subst, inl, inr, arith, Option, Some, None}
-use Rattle.std.specs.Prelude.{Contains, sum_by, fold, slice_range, filter, int_lt}
-use Rattle.std.specs.List.{AllByRecursion, flat_map}
+use Rattle.std.proofs.Common.{◌≡◌, ℕ, zero, suc, ◌+◌, ◌-◌, ◌*◌, ◌≤◌, max, ℤ, ◌≤ℤ◌, Bool, true, false, not, cond, List, [], ◌∷◌, ◌++◌, length, map, take, drop, refl, sym, ap, ◌∙◌, subst, arith, Option, Some, None}
+use Rattle.std.specs.Prelude.{sum_by, fold, slice_range}
+use Rattle.std.specs.List.{AllByRecursion}
 use Rattle.std.proofs.lemmas.Bool.{true≢false, and_parts}
 use Rattle.std.proofs.lemmas.Int.{ints}
 use Rattle.std.proofs.lemmas.Nat.{mul-le}
-use Rattle.std.proofs.lemmas.List.{length-drop, length-take, append_assoc}
+use Rattle.std.proofs.lemmas.List.{length-drop, length-take}
 use Rattle.std.proofs.lemmas.List.Sums.{sum_by-cons}
 use Rattle.frame_core.specs.Ranges.{Range, InOrder, IsRange, is_below, is_above, is_within}
 use Rattle.frame_core.specs.Schemas.{Schema}
 use Rattle.frame_core.specs.Frames.{Row, Frame, FitsColumns, NeverFall, stamps_of, rows_below, rows_above, replace_range}
 use Rattle.frame_core.specs.Limits.{IsStorable, all_text_bytes, longest_text, frame_too_large}
 use Rattle.frame_core.proofs.FrameLimits.{fold_max_cons}
-use Rattle.index_tree.specs.declared.index.Slot.{Slot}
-use Rattle.index_tree.specs.declared.index.Index.{Index}
-use Rattle.key_kind.specs.Names.{Name}
-use Rattle.bucket_core.specs.History.{History}
-use Rattle.store_model.specs.Library.{Version}
 use Rattle.reply_model.specs.CommitAnswers.{outside}
-use Rattle.frame_write.specs.declared.pieces.Piece.{Piece}
-use Rattle.frame_write.specs.declared.pieces.Piece.TheVariants as pieces
-use Rattle.frame_write.specs.Pieces.{IsRun, IsPiece, rows_held, ArePieces}
-use Rattle.append_update.specs.declared.cuts.Cuts.{Cuts}
-use Rattle.append_update.specs.declared.pieces.Edges.{Edges}
-use Rattle.append_update.specs.Bases.{IsIndexOf, rows_of_slots, Divides}
-use Rattle.append_update.specs.Newest.{IsNewest}
-use Rattle.append_update.specs.Replacing.{fresh, replaced, IsLeft, AreEdges}
 use Rattle.append_update.proofs.ListLemmas.{take_all_of, drop_all_of}
 use Rattle.append_update.proofs.RangeLemmas.{rising-slice}
-use Rattle.append_update.proofs.FrameLemmas.{longest, bytes, IsWithin, within_to, frame_within, storable-kept, all-kept, all-passing, rising-kept, all-both, Ordered, rising-both, ordered-by}
-use Rattle.append_update.proofs.AppendLemmas.{all_contained, has_base}
+use Rattle.append_update.proofs.FrameLemmas.{longest, bytes, within_to, frame_within, all-kept, all-passing, rising-kept, all-both, rising-both, ordered-by}
 
 -- ---- rows of a place up to another
 

@@ -1,10 +1,10 @@
 -- The pieces of an update are those of the frame that it makes.
-use Rattle.std.proofs.Common.{◌≡◌, ℕ, not, List, [], ◌∷◌, ◌++◌, length, take, drop, refl, sym, ap, ◌∙◌, subst, inl, inr, Option, Some, None}
+use Rattle.std.proofs.Common.{◌≡◌, ℕ, not, List, length, take, drop, refl, sym, ap, ◌∙◌, subst, inr, Option, Some, None}
 use Rattle.std.specs.Prelude.{Contains, slice_range}
 use Rattle.std.specs.List.{AllByRecursion}
 use Rattle.frame_core.specs.Ranges.{Range, is_below, is_above}
 use Rattle.frame_core.specs.Schemas.{Schema}
-use Rattle.frame_core.specs.Frames.{Row, Frame, rows_below, rows_above, replace_range}
+use Rattle.frame_core.specs.Frames.{Row, Frame, replace_range}
 use Rattle.frame_core.specs.Limits.{IsStorable}
 use Rattle.index_tree.specs.declared.index.Slot.{Slot}
 use Rattle.index_tree.specs.declared.index.Index.{Index}
@@ -12,8 +12,6 @@ use Rattle.index_tree.specs.IndexRules.{IsSlot}
 use Rattle.key_kind.specs.Names.{Name}
 use Rattle.bucket_core.specs.History.{History}
 use Rattle.store_model.specs.Library.{Version}
-use Rattle.frame_write.specs.declared.pieces.Piece.{Piece}
-use Rattle.frame_write.specs.declared.pieces.Piece.TheVariants as pieces
 use Rattle.frame_write.specs.Pieces.{begin_of, end_of, IsRun, IsPiece, ArePieces}
 use Rattle.append_update.specs.declared.cuts.Cuts.{Cuts}
 use Rattle.append_update.specs.declared.pieces.Edges.{Edges}

@@ -2,7 +2,7 @@
 --     IsIndexOf           the index of a frame
 --     rows_at, rows_of_slots      the rows of the frame that slots have, each row block once
 --     Divides             where a range divides slots
-use Rattle.std.specs.Prelude.{◌≡◌, ℕ, ◌+◌, not, if◌then◌else◌, List, [], length, slice_range, filter, nat_eq}
+use Rattle.std.specs.Prelude.{◌≡◌, ◌+◌, not, if◌then◌else◌, List, [], length, slice_range, filter, nat_eq}
 use Rattle.std.specs.List.{flat_map, AllByRecursion}
 use Rattle.frame_core.specs.Ranges.{Range, is_below, is_above}
 use Rattle.frame_core.specs.Frames.{Row, Frame}

@@ -1,8 +1,6 @@
-use Rattle.std.proofs.Common.{◌≡◌, ◌+◌, ◌++◌, length, refl, sym, ap, ◌∙◌, subst, inl, inr, arith, option_copied, true, false}
-use Rattle.std.specs.List.{list_any}
-use Rattle.std.proofs.lemmas.List.{append_assoc}
-use Rattle.bucket_core.specs.History.{History, AllByOthers, history_at}
-use Rattle.store_model.specs.Law.{IsClaimed, IsLawful}
+use Rattle.std.proofs.Common.{◌≡◌, sym, ap, ◌∙◌, subst, inl, inr, option_copied, true}
+use Rattle.bucket_core.specs.History.{AllByOthers}
+use Rattle.store_model.specs.Law.{IsClaimed}
 use Rattle.store_model.specs.Links.{links}
 use Rattle.store_model.specs.Holders.{has_index}
 use Rattle.frame_read.specs.declared.target.Target.{Target}

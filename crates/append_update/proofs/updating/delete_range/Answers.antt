@@ -1,4 +1,4 @@
-use Rattle.std.proofs.Common.{◌≡◌, ◌≤◌, [], refl, sym, subst, arith}
+use Rattle.std.proofs.Common.{◌≤◌, [], refl, sym, subst}
 use Rattle.expr_clause.specs.declared.command.Command.TheVariants as commands
 use Rattle.frame_write.proofs.CommandLemmas.{of_delete_range}
 use Rattle.append_update.proofs.StubLemmas.{no_memory_is_legal}
