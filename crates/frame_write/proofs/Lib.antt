@@ -24,3 +24,10 @@ pub mod CoverTiles
 pub mod BaseLinks
 pub mod Runs
 pub mod SharedSlots
+pub mod Stretches
+pub mod FewSlots
+pub mod VersionRefers
+pub mod ApartKeys
+pub mod BaseTold
+pub mod LaidPieces
+pub mod LaidPuts

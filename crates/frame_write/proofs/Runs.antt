@@ -22,6 +22,7 @@ pub record IsMoved (from to : ℕ) (s t : Slot) : Type 0 where
   pub cols : t.part.cols ≡ s.part.cols
   pub first : t.first ≡ s.first
   pub last : t.last ≡ s.last
+  pub key : t.key ≡ s.key
 
 moved_same : (columns from to : ℕ) (s s2 t t2 : Slot) → IsMoved from to s t → IsMoved from to s2 t2 → SameBlock columns s s2 → SameBlock columns t t2
 moved_same columns from to s s2 t t2 m n b = record {
@@ -70,7 +71,7 @@ lead_between columns end s (t ∷ more) l =
     later le (x ∷ xs) all = ((omega (arith, le, all.0.0), all.0.1), later le xs all.1)
 
 pub moved_is : (from to : ℕ) (s : Slot) → from ≤ s.part.first_row → IsMoved from to s (moved from to s)
-moved_is from to s le = record { first_row = omega (arith, le); rows = refl; first_col = refl; cols = refl; first = refl; last = refl }
+moved_is from to s le = record { first_row = omega (arith, le); rows = refl; first_col = refl; cols = refl; first = refl; last = refl; key = refl }
 
 -- ---- one run behind another
 

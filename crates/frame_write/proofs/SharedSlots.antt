@@ -6,7 +6,7 @@ use Rattle.std.proofs.lemmas.Bool.{and_from, or_left, eq-eqb}
 use Rattle.frame_core.specs.Frames.{Row, Frame}
 use Rattle.frame_core.specs.Schemas.{Schema}
 use Rattle.frame_core.specs.declared.part.Part.{Part}
-use Rattle.segment_cut.specs.Tiles.{Tile, cut}
+use Rattle.segment_cut.specs.Tiles.{Tile, LiesIn, cut}
 use Rattle.index_tree.specs.declared.index.Slot.{Slot}
 use Rattle.index_tree.specs.declared.index.Index.{Index}
 use Rattle.index_tree.specs.IndexRules.{IsSlot}
@@ -68,6 +68,16 @@ slot_frame h frame s (x ∷ slots) tiles e all c =
       | inr later ↦ slot_frame h frame s slots w.1 w.3 each.1 later
     ]
 
+slot_lies : (h : History) (frame : Frame) (s : Slot) (slots : List Slot) (tiles : List Tile) → tiles_put h slots ≡ Some tiles → AllByRecursion (λ (t : Tile). LiesIn frame t.0) tiles → Contains slots s → LiesIn frame s.part
+slot_lies h frame s [] tiles e all c = absurd (contains_none s c)
+slot_lies h frame s (x ∷ slots) tiles e all c =
+    let w = with_parts x.part (frame_put h x.key) (tiles_put h slots) tiles e in
+    let each = subst (AllByRecursion (λ (t : Tile). LiesIn frame t.0)) (sym w.4) all in
+    elim (contains_cases s x slots c) [
+      | inl same ↦ subst (λ (y : Slot). LiesIn frame y.part) same each.0
+      | inr later ↦ slot_lies h frame s slots w.1 w.3 each.1 later
+    ]
+
 stamps_in : (frame : Frame) (s : Slot) (slots : List Slot) → AllByRecursion (HasSlotStamps frame) slots → Contains slots s → HasSlotStamps frame s
 stamps_in frame s [] all c = absurd (contains_none s c)
 stamps_in frame s (x ∷ slots) all c = elim (contains_cases s x slots c) [ inl same ↦ subst (HasSlotStamps frame) same all.0 | inr later ↦ stamps_in frame s slots all.1 later ]
@@ -104,10 +114,16 @@ module _ (h : History) (lawful : IsLawful h) (symbol : Name) (schema : Schema) (
     pub shared_put : frame_put h s.key ≡ Some (cut b.version.frame s.part)
     shared_put = slot_frame h b.version.frame s b.link.index.slots b.link.tiles (linked_parts h b.link.row b.link (links_as_put h (lawful_is_intact h lawful).once symbol b.link b.link_is)) facts.0.0.assembled.parts in_link
 
+    pub shared_lies : LiesIn b.version.frame s.part
+    shared_lies = slot_lies h b.version.frame s b.link.index.slots b.link.tiles (linked_parts h b.link.row b.link (links_as_put h (lawful_is_intact h lawful).once symbol b.link b.link_is)) facts.0.0.assembled.inside in_link
+
+    pub shared_reaches : newest_reaches (state_of h symbol) (links h symbol) s.key ≡ true
+    shared_reaches = facts.1 s.key ∙ passes (λ k. same_key k s.key) (reached b.link) s.key in_reached (same_key_self s.key)
+
     pub shared_may_name : (client columns : ℕ) → IsSlot columns s → MayNameKey h client symbol s.key
     shared_may_name client columns rule = record {
       kind = rule.is_tile;
       name = ((lawful_is_intact h lawful).table_keys symbol b.link s.key b.link_is in_reached).name;
       stands = ap is_some ((lawful_is_intact h lawful).needed symbol b.link s.key b.link_is (or_left _ _ lives) in_reached).stands;
-      fresh_or_shared = inr (facts.1 s.key ∙ passes (λ k. same_key k s.key) (reached b.link) s.key in_reached (same_key_self s.key));
+      fresh_or_shared = inr shared_reaches;
     }

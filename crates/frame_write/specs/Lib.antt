@@ -9,3 +9,4 @@ pub mod Writes
 pub mod Pieces
 pub mod Links
 pub mod WritePlans
+pub mod Laying

@@ -1,3 +1,7 @@
+use Rattle.frame_write.proofs.LaidPieces.{laid_index}
+use Rattle.frame_write.proofs.LaidPuts.{puts_counted}
+use Rattle.frame_write.proofs.VersionRefers.{version_may_follow}
+use Rattle.frame_write.proofs.ApartKeys.{new_keys}
 use Rattle.std.proofs.Common.{[], refl, inl, inr}
 use Rattle.version_chain.proofs.Walked.{looks_none}
 use Rattle.frame_write.proofs.CommitLemmas.{plan_stops}
