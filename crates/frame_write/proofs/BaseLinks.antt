@@ -3,6 +3,7 @@ use Rattle.std.proofs.Common.{◌≡◌, ℕ, suc, ◌<◌, ◌≤◌, Bool, tru
 use Rattle.std.specs.Prelude.{⊤, Contains, filter, fold}
 use Rattle.std.specs.List.{AllZip, AllByRecursion, list_any}
 use Rattle.std.proofs.lemmas.Bool.{true≢false, and_from, eq-eqb}
+use Rattle.frame_core.specs.Limits.{IsStorable}
 use Rattle.key_kind.specs.declared.key.Key.{Key}
 use Rattle.key_kind.specs.Names.{Name}
 use Rattle.bucket_core.specs.declared.event.Change.{Change}
@@ -19,9 +20,9 @@ use Rattle.store_model.proofs.Numbering.{AreNumbered}
 
 -- ---- stamps
 
--- the slots of a version's link have the stamps of their rows
+-- the slots of a version's link have the stamps of their rows, in a frame that may be written
 abbrev pub IsStamped : Linked → Version → Type 0
-IsStamped l v = AllByRecursion (HasSlotStamps v.frame) l.index.slots
+IsStamped l v = AllByRecursion (HasSlotStamps v.frame) l.index.slots × IsStorable v.frame
 
 refer_stamps : (h : History) (client : ℕ) (symbol : Name) (was : Option Key) (entry : Key) (list : List Change) → MayRefer h client symbol was entry list → AllZip IsStamped (links h symbol) (state_of h symbol).versions
     → AllZip IsStamped (links_at h entry ++ links h symbol) (fold after_change (state_of h symbol) list).versions
@@ -34,7 +35,7 @@ refer_stamps h client symbol was entry list may z =
       | inr one ↦
           let more : links_at h entry ++ links h symbol ≡ one.fits.link ∷ links h symbol = ap (λ ls. ls ++ links h symbol) (here ∙ one.links) in
           subst (λ vs. AllZip IsStamped (links_at h entry ++ links h symbol) vs) (sym one.versions)
-          (subst (λ ls. AllZip IsStamped ls (one.made ∷ (state_of h symbol).versions)) (sym more) (one.fits.stamps, z))
+          (subst (λ ls. AllZip IsStamped ls (one.made ∷ (state_of h symbol).versions)) (sym more) ((one.fits.stamps, one.fits.storable), z))
     ]
 
 pub links_stamped : (h : History) (symbol : Name) → IsLawful h → AllZip IsStamped (links h symbol) (state_of h symbol).versions

@@ -1,5 +1,5 @@
 -- A slot of the newest live version, where a history is only known to be lawful, and not why.
-use Rattle.std.proofs.Common.{◌≡◌, ℕ, ◌+◌, ◌≤◌, true, false, List, ◌++◌, length, sym, ap, ◌∙◌, subst, inr, Option, Some}
+use Rattle.std.proofs.Common.{◌≡◌, ℕ, ◌+◌, ◌<◌, ◌≤◌, ◌^◌, true, false, List, ◌++◌, length, refl, sym, ap, ◌∙◌, subst, inr, Option, Some, arith}
 use Rattle.std.specs.Prelude.{Contains, is_some}
 use Rattle.std.specs.List.{list_any}
 use denote.Struct.Props.{props}
@@ -20,7 +20,8 @@ use Rattle.store_model.specs.Law.{IsLawful}
 use Rattle.store_model.specs.Links.{Linked}
 use Rattle.store_model.proofs.Untouched.{as_it_was}
 use Rattle.frame_write.specs.Pieces.{HasBase}
-use Rattle.frame_write.proofs.SharedSlots.{shared_stamps, shared_put, shared_lies, shared_reaches, shared_may_name}
+use Rattle.frame_write.proofs.SharedSlots.{base_storable, shared_stamps, shared_put, shared_lies, shared_reaches, shared_may_name}
+use Rattle.frame_write.proofs.PlanLemmas.{small_rows}
 
 -- the frame was put under the key, which a new link may name
 pub record IsSharedIn (h : History) (client : ℕ) (symbol : Name) (frame : Frame) (key : Key) : Type 0 where
@@ -36,6 +37,12 @@ module _ (h : History) (lawful : ∥ IsLawful h ∥₁) (symbol : Name) (schema 
 
   pub lies_told : s.part.first_row + s.part.rows ≤ length b.version.frame.rows
   lies_told = ∥∥₁_elim lawful (hlevel props) (λ l. (shared_lies h l symbol schema rows slots b s there).0)
+
+  pub small_told : s.part.first_row + s.part.rows < 2 ^ 32
+  small_told = ∥∥₁_elim lawful (hlevel props) (λ l.
+    let lies = (shared_lies h l symbol schema rows slots b s there).0 in
+    let few = small_rows b.version.frame (base_storable h l symbol schema rows slots b) (length b.version.frame.rows) refl in
+    omega (arith, lies, few))
 
   pub shared_told : (client columns : ℕ) → IsSlot columns s → IsSharedIn h client symbol (cut b.version.frame s.part) s.key
   shared_told client columns rule = record {

@@ -22,7 +22,7 @@ use Rattle.frame_write.specs.declared.pieces.Piece.TheVariants as pieces
 use Rattle.frame_write.specs.declared.tiles.Tile.{Tile}
 use Rattle.frame_write.specs.Pieces.{begin_of, end_of, size_of, IsRun, HasBase, IsPiece, rows_held, moved}
 use Rattle.frame_write.specs.Placing.{IsTileOf, AreTilesOf, slot_at, placed}
-use Rattle.frame_write.specs.Laying.{Laid, slots_laid, behind, fresh_laid, rows_in, tiles_in, IsTiledPiece, laid_pieces}
+use Rattle.frame_write.specs.Laying.{Laid, slots_laid, behind, fresh_laid, rows_in, tiles_in, MayMove, MayLay, IsTiledPiece, laid_pieces}
 use Rattle.frame_write.proofs.RowStamps.{length_slice}
 use Rattle.frame_write.proofs.CutLimits.{frame_within}
 use Rattle.frame_write.proofs.GridSlots.{grid_covers, slot_rules}
@@ -30,7 +30,7 @@ use Rattle.frame_write.proofs.PlanLemmas.{FitsTry, slot_stamps, slot_keys, slot_
 use Rattle.frame_write.proofs.CoverTiles.{cover_tiled}
 use Rattle.frame_write.proofs.Runs.{IsMoved, CoverFrom, moved_is}
 use Rattle.frame_write.proofs.Stretches.{Holds, IsPlaced, IsStretch, IsLaidSlot, AreBetween, cover_between, AreStretches, no_stretch, stretch, stretches_slots, stretches_cover}
-use Rattle.frame_write.proofs.BaseTold.{IsSharedIn, stamps_told, lies_told, shared_told}
+use Rattle.frame_write.proofs.BaseTold.{IsSharedIn, stamps_told, lies_told, small_told, shared_told}
 use Rattle.frame_write.proofs.FewSlots.{few_slots}
 
 -- ---- a run
@@ -177,19 +177,55 @@ behind_rows to size xs ys zs within is long =
       within = omega (arith, within, both, long, length-drop to xs);
     }
 
-module _ (h : History) (lawful : ∥ IsLawful h ∥₁) (client : ℕ) (symbol : Name) (version : ℕ) (cutting : Cutting) (f : Frame) (rows : List Row) (slots : List Slot)
-    (base : (slots ≡ []) ⊎ HasBase h symbol f.schema rows slots) (fits : FitsTry client symbol version) where
-  -- a run, and how many rows it has
-  run_laid : (run : List Slot) → AllByRecursion (λ (s : Slot). Contains slots s × IsSlot (length f.schema.columns) s) run → IsRun (length f.schema.columns) run → (to : ℕ) (rest : List Row)
-      → drop to f.rows ≡ slice_range rows (begin_of run) (end_of run) ++ rest
-      → IsStretch (IsSharedIn h client symbol) f to (size_of run) (map {B = Laid} (λ (s : Slot). (moved (begin_of run) to s, None)) run) × (length (slice_range rows (begin_of run) (end_of run)) ≡ size_of run)
-  run_laid [] each r to rest is = (no_run (IsSharedIn h client symbol) f to, refl)
-  run_laid (s ∷ more) each r to rest is = elim base [
+module _ (h : History) (lawful : ∥ IsLawful h ∥₁) (symbol : Name) (f : Frame) (rows : List Row) (slots : List Slot) (base : (slots ≡ []) ⊎ HasBase h symbol f.schema rows slots) where
+  -- how many rows a run has
+  run_size : (run : List Slot) → AllByRecursion (λ (s : Slot). Contains slots s × IsSlot (length f.schema.columns) s) run → length (slice_range rows (begin_of run) (end_of run)) ≡ size_of run
+  run_size [] each = refl
+  run_size (s ∷ more) each = elim base [
     | inl none ↦ absurd (contains_none s (subst (λ xs. Contains xs s) none each.0.0))
     | inr b ↦
-        let one = run_stretch h lawful client symbol f rows slots b (s ∷ more) each r to rest is in
         let within : end_of (s ∷ more) ≤ length rows = subst (λ (rs : List Row). end_of (s ∷ more) ≤ length rs) b.rows_are (run_ends h lawful symbol f.schema rows slots b (s ∷ more) each) in
-        (one, length_slice (begin_of (s ∷ more)) (end_of (s ∷ more)) rows within)
+        length_slice (begin_of (s ∷ more)) (end_of (s ∷ more)) rows within
+  ]
+
+  -- a run may be moved
+  run_may_move : (run : List Slot) → AllByRecursion (λ (s : Slot). Contains slots s × IsSlot (length f.schema.columns) s) run → IsRun (length f.schema.columns) run → MayMove run
+  run_may_move [] each r = (omega arith, tt)
+  run_may_move (s ∷ more) each r = elim base [
+    | inl none ↦ absurd (contains_none s (subst (λ xs. Contains xs s) none each.0.0))
+    | inr b ↦ (run_ordered (length f.schema.columns) (s ∷ more) r, both (begin_of (s ∷ more)) (end_of (s ∷ more)) (s ∷ more) (run_between (length f.schema.columns) (s ∷ more) r)
+        (all_weaker _ (λ (t : Slot). t.part.first_row + t.part.rows < 2 ^ 32) (λ t e. small_told h lawful symbol f.schema rows slots b t e.0) (s ∷ more) each))
+  ]
+    where
+      both : (from end : ℕ) (run : List Slot) → AreBetween from end run → AllByRecursion (λ (t : Slot). t.part.first_row + t.part.rows < 2 ^ 32) run
+          → AllByRecursion (λ (t : Slot). (from ≤ t.part.first_row) × (t.part.first_row + t.part.rows < 2 ^ 32)) run
+      both from end [] a b = tt
+      both from end (t ∷ run) a b = ((a.0.0, b.0), both from end run a.1 b.1)
+
+  -- the pieces may be laid out, and have as many rows as they hold
+  pub pieces_may_lay : (list : List Piece) → AllByRecursion (IsPiece f.schema slots) list → AllByRecursion MayLay list
+  pieces_may_lay [] each = tt
+  pieces_may_lay (pieces.Shared run ∷ list) each = (run_may_move run each.0.0 each.0.1, pieces_may_lay list each.1)
+  pieces_may_lay (pieces.Fresh g ∷ list) each = (each.0.0, pieces_may_lay list each.1)
+
+  pub pieces_rows : (list : List Piece) → AllByRecursion (IsPiece f.schema slots) list → length (flat_map (rows_held rows) list) ≡ rows_in list
+  pieces_rows [] each = refl
+  pieces_rows (pieces.Shared run ∷ list) each =
+      let rest = pieces_rows list each.1 in
+      let here = run_size run each.0.0 in
+      length-append (slice_range rows (begin_of run) (end_of run)) (flat_map (rows_held rows) list) ∙ (λ i. here i + rest i)
+  pieces_rows (pieces.Fresh g ∷ list) each = length-append g.rows (flat_map (rows_held rows) list) ∙ ap (λ n. length g.rows + n) (pieces_rows list each.1)
+
+module _ (h : History) (lawful : ∥ IsLawful h ∥₁) (client : ℕ) (symbol : Name) (version : ℕ) (cutting : Cutting) (f : Frame) (rows : List Row) (slots : List Slot)
+    (base : (slots ≡ []) ⊎ HasBase h symbol f.schema rows slots) (fits : FitsTry client symbol version) where
+  -- a run is a stretch
+  run_laid : (run : List Slot) → AllByRecursion (λ (s : Slot). Contains slots s × IsSlot (length f.schema.columns) s) run → IsRun (length f.schema.columns) run → (to : ℕ) (rest : List Row)
+      → drop to f.rows ≡ slice_range rows (begin_of run) (end_of run) ++ rest
+      → IsStretch (IsSharedIn h client symbol) f to (size_of run) (map {B = Laid} (λ (s : Slot). (moved (begin_of run) to s, None)) run)
+  run_laid [] each r to rest is = no_run (IsSharedIn h client symbol) f to
+  run_laid (s ∷ more) each r to rest is = elim base [
+    | inl none ↦ absurd (contains_none s (subst (λ xs. Contains xs s) none each.0.0))
+    | inr b ↦ run_stretch h lawful client symbol f rows slots b (s ∷ more) each r to rest is
   ]
 
   -- the pieces are the frame's rows from the row `to` on
@@ -203,9 +239,9 @@ module _ (h : History) (lawful : ∥ IsLawful h ∥₁) (client : ℕ) (symbol :
   pieces_laid (p ∷ list) [] to serial each z small within is = absurd z
   pieces_laid (pieces.Shared run ∷ list) (t ∷ tiles) to serial each z small within is =
       let one = run_laid run each.0.0 each.0.1 to (flat_map (rows_held rows) list) is in
-      let next = behind_rows to (size_of run) f.rows (slice_range rows (begin_of run) (end_of run)) (flat_map (rows_held rows) list) within is one.1 in
+      let next = behind_rows to (size_of run) f.rows (slice_range rows (begin_of run) (end_of run)) (flat_map (rows_held rows) list) within is (run_size h lawful symbol f rows slots base run each.0.0) in
       let rest = pieces_laid list tiles (to + size_of run) (serial + length t) each.1 z.1 (omega (arith, small)) next.within next.rows_are in
-      (stretch (size_of run) one.0 rest.0, omega (arith, rest.1))
+      (stretch (size_of run) one rest.0, omega (arith, rest.1))
   pieces_laid (pieces.Fresh g ∷ list) (t ∷ tiles) to serial each z small within is =
       let one = fresh_stretch (IsSharedIn h client symbol) client symbol version g cutting each.0.0 fits serial t f (sym each.0.1) z.0 (omega (arith, small)) to (flat_map (rows_held rows) list) is in
       let next = behind_rows to (length g.rows) f.rows g.rows (flat_map (rows_held rows) list) within is refl in

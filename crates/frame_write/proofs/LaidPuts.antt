@@ -32,14 +32,14 @@ puts_append ((s, None) ∷ xs) ys = puts_append xs ys
 puts_append ((s, Some body) ∷ xs) ys = ap (λ l. (s.key, body) ∷ l) (puts_append xs ys)
 
 -- a run puts nothing
-abbrev run_laid : ℕ → ℕ → List Slot → List Laid
+abbrev pub run_laid : ℕ → ℕ → List Slot → List Laid
 run_laid from to run = map {B = Laid} (λ (s : Slot). (moved from to s, None)) run
 
 pub shared_puts : (from to : ℕ) (run : List Slot) → puts_laid (run_laid from to run) ≡ []
 shared_puts from to [] = refl
 shared_puts from to (s ∷ run) = shared_puts from to run
 
-run_slots : (from to : ℕ) (run : List Slot) → slots_laid (run_laid from to run) ≡ map (moved from to) run
+pub run_slots : (from to : ℕ) (run : List Slot) → slots_laid (run_laid from to run) ≡ map (moved from to) run
 run_slots from to [] = refl
 run_slots from to (s ∷ run) = ap (λ l. moved from to s ∷ l) (run_slots from to run)
 

@@ -31,3 +31,6 @@ pub mod ApartKeys
 pub mod BaseTold
 pub mod LaidPieces
 pub mod LaidPuts
+pub mod LayoutLemmas
+pub mod VersionPlans
+pub mod LinkLemmas

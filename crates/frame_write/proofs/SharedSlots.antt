@@ -5,6 +5,7 @@ use Rattle.std.specs.List.{AllZip, AllByRecursion, list_any}
 use Rattle.std.proofs.lemmas.Bool.{and_from, or_left, eq-eqb}
 use Rattle.frame_core.specs.Frames.{Row, Frame}
 use Rattle.frame_core.specs.Schemas.{Schema}
+use Rattle.frame_core.specs.Limits.{IsStorable}
 use Rattle.frame_core.specs.declared.part.Part.{Part}
 use Rattle.segment_cut.specs.Tiles.{Tile, LiesIn, cut}
 use Rattle.index_tree.specs.declared.index.Slot.{Slot}
@@ -101,6 +102,9 @@ module _ (h : History) (lawful : IsLawful h) (symbol : Name) (schema : Schema) (
       and_from _ _ (passes (λ (w : Version). nat_eq b.link.row.version w.number) (state_of h symbol).versions b.version among.0 (eq-eqb b.link.row.version b.version.number b.number))
       (ap (λ n. not (is_buried (state_of h symbol) n)) b.number ∙ among.1)
 
+  pub base_storable : IsStorable b.version.frame
+  base_storable = facts.0.1.1
+
   module _ (s : Slot) (there : Contains slots s) where
     in_link : Contains b.link.index.slots s
     in_link = subst (λ xs. Contains xs s) (sym b.slots_are) there
@@ -109,7 +113,7 @@ module _ (h : History) (lawful : IsLawful h) (symbol : Name) (schema : Schema) (
     in_reached = contains_later s.key b.link.row.index (map (λ (x : Slot). x.key) b.link.index.slots) (key_in s b.link.index.slots in_link)
 
     pub shared_stamps : HasSlotStamps b.version.frame s
-    shared_stamps = stamps_in b.version.frame s b.link.index.slots facts.0.1 in_link
+    shared_stamps = stamps_in b.version.frame s b.link.index.slots facts.0.1.0 in_link
 
     pub shared_put : frame_put h s.key ≡ Some (cut b.version.frame s.part)
     shared_put = slot_frame h b.version.frame s b.link.index.slots b.link.tiles (linked_parts h b.link.row b.link (links_as_put h (lawful_is_intact h lawful).once symbol b.link b.link_is)) facts.0.0.assembled.parts in_link

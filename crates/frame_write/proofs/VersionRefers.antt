@@ -87,7 +87,7 @@ link_fits h client symbol row v number stamp rows storable p = record {
 
 -- ---- the change
 
-makes_version : (st : State) (c : Change) (v : Version) → new_version st c ≡ Some v → is_version c ≡ true
+pub makes_version : (st : State) (c : Change) (v : Version) → new_version st c ≡ Some v → is_version c ≡ true
 makes_version st (changes.Wrote frame at) v e = refl
 makes_version st (changes.Appended frame at) v e = refl
 makes_version st (changes.Updated frame range at) v e = refl

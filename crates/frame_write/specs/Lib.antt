@@ -10,3 +10,6 @@ pub mod Pieces
 pub mod Links
 pub mod WritePlans
 pub mod Laying
+pub mod Layouts
+pub mod SlotKeys
+pub mod Versions
