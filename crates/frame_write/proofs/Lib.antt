@@ -34,3 +34,4 @@ pub mod LaidPuts
 pub mod LayoutLemmas
 pub mod VersionPlans
 pub mod LinkLemmas
+pub mod VersionKeys

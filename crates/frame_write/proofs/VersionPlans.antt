@@ -68,10 +68,13 @@ if_ok_weaker P Q (Err e) f p = tt
 
 -- ---- the version
 
+some_number : (x v : Version) → Some x ≡ Some v → v.number ≡ x.number
+some_number x v e = let same : x ≡ v = cc in sym (ap (λ (w : Version). w.number) same)
+
 version_number : (st : State) (c : Change) (v : Version) → new_version st c ≡ Some v → v.number ≡ next_number st
-version_number st (changes.Wrote frame at) v e = let same : record { number = next_number st; stamp = at; frame = _ } ≡ v = cc in sym (ap (λ (w : Version). w.number) same)
-version_number st (changes.Appended frame at) v e = let same : record { number = next_number st; stamp = at; frame = _ } ≡ v = cc in sym (ap (λ (w : Version). w.number) same)
-version_number st (changes.Updated frame range at) v e = let same : record { number = next_number st; stamp = at; frame = _ } ≡ v = cc in sym (ap (λ (w : Version). w.number) same)
+version_number st (changes.Wrote frame at) v e = some_number _ v e
+version_number st (changes.Appended frame at) v e = some_number _ v e
+version_number st (changes.Updated frame range at) v e = some_number _ v e
 version_number st (changes.Removed versions) v e = absurd cc
 version_number st (changes.Held holder version) v e = absurd cc
 version_number st (changes.Released holder) v e = absurd cc
