@@ -29,7 +29,8 @@ use Rattle.version_chain.specs.declared.state.SymbolState.{SymbolState}
 use Rattle.version_chain.specs.States.{is_tomb, IsStateOf}
 use Rattle.reply_model.specs.Answering.{version_or, or_refuse, refuse_if}
 use Rattle.reply_model.specs.ReadAnswers.{back, read_version}
-use Rattle.frame_read.specs.Targets.{asked_as, live_rows, row_asked, IsOfNumber, IsChosen}
+use Rattle.frame_read.specs.Targets.{asked_as, row_asked, IsOfNumber, IsChosen}
+use Rattle.version_chain.specs.States.{live_links}
 
 -- ---- links one for one with versions
 
@@ -123,7 +124,7 @@ read_asked h symbol (asks.Moment t) = refl
 newest_first : (h : History) (symbol : Name) (state : SymbolState) → IsStateOf h symbol state → reverse state.links ≡ rows_of h symbol
 newest_first h symbol state is = ap reverse is.links ∙ reverse-reverse (rows_of h symbol)
 
-live_alike : (h : History) (symbol : Name) (state : SymbolState) → ∥ IsLawful h ∥₁ → IsStateOf h symbol state → AllZip IsLike (live_rows state) (live_versions (state_of h symbol))
+live_alike : (h : History) (symbol : Name) (state : SymbolState) → ∥ IsLawful h ∥₁ → IsStateOf h symbol state → AllZip IsLike (live_links state) (live_versions (state_of h symbol))
 live_alike h symbol state lawful is =
     filter_both IsLike (λ row. not (is_tomb state.tombs row.version)) (λ v. not (is_buried (state_of h symbol) v.number))
     (λ row v like. ap (λ (n : ℕ). not (is_tomb state.tombs n)) like.0 ∙ ap (λ (tombs : List ℕ). not (is_tomb tombs v.number)) is.tombs)
@@ -131,23 +132,23 @@ live_alike h symbol state lawful is =
     (subst (λ rows. AllZip IsLike rows (state_of h symbol).versions) (sym (newest_first h symbol state is)) (alike_told h symbol lawful))
 
 -- the link so many back, with one newer
-row_back : (state : SymbolState) (k : ℕ) → row_asked state (asks.Back (suc k)) ≡ slice_get (live_rows state) k
+row_back : (state : SymbolState) (k : ℕ) → row_asked state (asks.Back (suc k)) ≡ slice_get (live_links state) k
 row_back state k =
     let positive : nat_eq (suc k) 0 ≡ false = grind (arith, nat_tests) in
     let newer : suc k - 1 ≡ k = omega arith in
-    ap (λ b. cond b None (slice_get (live_rows state) (suc k - 1))) positive ∙ ap (λ n. slice_get (live_rows state) n) newer
+    ap (λ b. cond b None (slice_get (live_links state) (suc k - 1))) positive ∙ ap (λ n. slice_get (live_links state) n) newer
 
 asked_alike : (h : History) (symbol : Name) (state : SymbolState) (asked : Asked) → ∥ IsLawful h ∥₁ → IsStateOf h symbol state → Both IsLike (row_asked state asked) (version_asked (state_of h symbol) asked)
 asked_alike h symbol state (asks.Number n) lawful is =
     find_both IsLike (λ row. nat_eq row.version n) (λ v. nat_eq v.number n) (λ row v like. ap (λ (m : ℕ). nat_eq m n) like.0)
-    (live_rows state) (live_versions (state_of h symbol)) (live_alike h symbol state lawful is)
+    (live_links state) (live_versions (state_of h symbol)) (live_alike h symbol state lawful is)
 asked_alike h symbol state (asks.Back zero) lawful is = tt
 asked_alike h symbol state (asks.Back (suc k)) lawful is =
     subst (λ o. Both IsLike o (version_asked (state_of h symbol) (asks.Back (suc k)))) (sym (row_back state k))
-    (get_both IsLike (live_rows state) (live_versions (state_of h symbol)) k (live_alike h symbol state lawful is))
+    (get_both IsLike (live_links state) (live_versions (state_of h symbol)) k (live_alike h symbol state lawful is))
 asked_alike h symbol state (asks.Moment t) lawful is =
     find_both IsLike (λ row. int_le row.stamp t) (λ v. int_le v.stamp t) (λ row v like. ap (λ (s : ℤ). int_le s t) like.1)
-    (live_rows state) (live_versions (state_of h symbol)) (live_alike h symbol state lawful is)
+    (live_links state) (live_versions (state_of h symbol)) (live_alike h symbol state lawful is)
 
 -- ---- what is asked is among the live links, which are among the symbol's
 
@@ -176,14 +177,14 @@ get_in {X} (y ∷ ys) zero x e = subst (λ z. Contains (y ∷ ys) z) (same y x e
     same y x e = cc
 get_in (y ∷ ys) (suc k) x e = contains_later x y ys (get_in ys k x e)
 
-asked_in : (state : SymbolState) (asked : Asked) (row : LinkRow) → row_asked state asked ≡ Some row → Contains (live_rows state) row
-asked_in state (asks.Number n) row e = find_in (λ row. nat_eq row.version n) (live_rows state) row e
+asked_in : (state : SymbolState) (asked : Asked) (row : LinkRow) → row_asked state asked ≡ Some row → Contains (live_links state) row
+asked_in state (asks.Number n) row e = find_in (λ row. nat_eq row.version n) (live_links state) row e
 asked_in state (asks.Back zero) row e = absurd (none_some row e)
   where
     none_some : (x : LinkRow) → None ≡ Some x → ⊥
     none_some x e = cc
-asked_in state (asks.Back (suc k)) row e = get_in (live_rows state) k row (sym (row_back state k) ∙ e)
-asked_in state (asks.Moment t) row e = find_in (λ row. int_le row.stamp t) (live_rows state) row e
+asked_in state (asks.Back (suc k)) row e = get_in (live_links state) k row (sym (row_back state k) ∙ e)
+asked_in state (asks.Moment t) row e = find_in (λ row. int_le row.stamp t) (live_links state) row e
 
 row_has_index : (list : List Linked) (row : LinkRow) → Contains (map row_in list) row → has_index list row.version row.index ≡ true
 row_has_index list row there = passes (λ l. nat_eq row.version l.row.version && same_key row.index l.row.index) list (linked_of list row there).0 (linked_of list row there).1

@@ -1,6 +1,6 @@
 -- The version that a read takes.
 --     asked_as            what is asked, as the request that a command makes
---     live_rows, row_asked      the live links of a state, and the one that is asked
+--     row_asked           the live link that is asked
 --     IsChosen            the version that is read in a history, with the index key of its link
 --     IsTarget            the same at a place of a call
 --     RefusesResolve      the refusals
@@ -20,7 +20,7 @@ use Rattle.store_model.specs.Links.{links}
 use Rattle.store_model.specs.Holders.{has_index}
 use Rattle.store_model.specs.Snapshots.{library_of}
 use Rattle.version_chain.specs.declared.state.SymbolState.{SymbolState}
-use Rattle.version_chain.specs.States.{is_tomb, IsWithin}
+use Rattle.version_chain.specs.States.{live_links, IsWithin}
 use Rattle.expr_clause.specs.declared.command.AsOf.{AsOf}
 use Rattle.expr_clause.specs.declared.command.AsOf.TheVariants as moments
 use Rattle.reply_model.specs.ReadAnswers.{read_version}
@@ -32,15 +32,11 @@ asked_as (asks.Number n) = moments.Number n
 asked_as (asks.Back k) = moments.Back k
 asked_as (asks.Moment t) = moments.Moment t
 
--- the live links, the newest first
-abbrev pub live_rows : SymbolState → List LinkRow
-live_rows state = filter (λ row. not (is_tomb state.tombs row.version)) (reverse state.links)
-
 -- the live link that is asked; there is no 0th
 abbrev pub row_asked : SymbolState → Asked → Option LinkRow
-row_asked state (asks.Number n) = find (λ row. nat_eq row.version n) (live_rows state)
-row_asked state (asks.Back k) = if nat_eq k 0 then None else slice_get (live_rows state) (k - 1)
-row_asked state (asks.Moment t) = find (λ row. int_le row.stamp t) (live_rows state)
+row_asked state (asks.Number n) = find (λ row. nat_eq row.version n) (live_links state)
+row_asked state (asks.Back k) = if nat_eq k 0 then None else slice_get (live_links state) (k - 1)
+row_asked state (asks.Moment t) = find (λ row. int_le row.stamp t) (live_links state)
 
 -- ---- of a history
 

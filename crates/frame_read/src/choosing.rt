@@ -7,7 +7,8 @@ ghost use Rattle.store_model.specs.Law.{IsLawful};
 ghost use Rattle.store_model.specs.Snapshots.{library_of};
 ghost use Rattle.version_chain.specs.States.{is_tomb, IsStateOf};
 ghost use Rattle.reply_model.specs.ReadAnswers.{read_version};
-ghost use Rattle.frame_read.specs.Targets.{asked_as, live_rows, row_asked, IsChosen};
+ghost use Rattle.frame_read.specs.Targets.{asked_as, row_asked, IsChosen};
+ghost use Rattle.version_chain.specs.States.{live_links};
 
 use frame_core::{Asked, Refusal};
 use store_model::LinkRow;
@@ -40,7 +41,7 @@ fn asked_row(state: &SymbolState, asked: Asked) -> Option<&LinkRow>
 
 /// The live link so many back, the latest being 1.
 fn live_back(state: &SymbolState, back: u64) -> Option<&LinkRow>
-    ensures { option_copied result ≡ (if nat_eq back 0 then None else slice_get (live_rows state.now) (back - 1)) }
+    ensures { option_copied result ≡ (if nat_eq back 0 then None else slice_get (live_links state.now) (back - 1)) }
 {
     if back == 0 {
         return None;

@@ -1,8 +1,10 @@
 use crate::choose;
 use crate::gathering::gathered_stamps;
+use crate::versions::version_rows;
 use base_types::{Items, Keep};
 use frame_core::{Asked, Frame, Part, Range, RawFrame, Refusal};
 use key_kind::{Key, KeyKind, Symbol};
+use reply_model::VersionRow;
 use std::alloc::Global;
 use std::test::Fail;
 use store_model::LinkRow;
@@ -122,5 +124,20 @@ fn stamps_in_range(alloc: Global) -> Result<Items<i64>, Fail> {
 fn each_row_in_the_range_is_gathered_once(rt: HostRuntime) -> Result<(), Fail> {
     let stamps = stamps_in_range(rt.alloc())?;
     assert!(rt; stamps.items() == [20, 20, 40].as_slice());
+    Ok(())
+}
+
+#[test]
+fn buried_versions_are_listed_too(rt: HostRuntime) -> Result<(), Fail> {
+    let state = state(rt.alloc())?;
+    let rows = version_rows(rt.alloc(), &state)?;
+    assert!(rt; rows.len() == 4);
+    let buried = VersionRow {
+        version: 1,
+        stamp: 40,
+        live: false,
+        holds: 0,
+    };
+    assert!(rt; rows.items().get(1) == Some(&buried));
     Ok(())
 }
