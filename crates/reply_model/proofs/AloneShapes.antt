@@ -196,8 +196,14 @@ module _ (c : Cutting) (client : ℕ) (symbol : Name) (makes : Bool) (old behind
   own_shape : (m : Bool) → m ≡ makes → Makes c (r.library.state symbol) (r.shape symbol) m (first_of (links new symbol)) puts.tiles first rest
       → HasShape new symbol (record (with_version (blocks_made c (r.library.state symbol) (r.shape symbol) first) (r.shape symbol)) { elements = suc (r.shape symbol).elements })
   own_shape true e made = subst (λ o. HasShape new symbol (record (with_version o (r.shape symbol)) { elements = suc (r.shape symbol).elements })) (sym made.is) (record {
-    tiles = omega (arith, keys_are symbol kinds.TableData refl, all_own puts.tiles, (stands.shapes symbol).tiles, made.counted,
-        sum_by-append (λ (b : Block). b.tiles) (made_for (next_number (r.library.state symbol)) made.blocks) (r.shape symbol).blocks);
+    tiles = omega (
+      arith,
+      keys_are symbol kinds.TableData refl,
+      all_own puts.tiles,
+      (stands.shapes symbol).tiles,
+      made.counted,
+      sum_by-append (λ (b : Block). b.tiles) (made_for (next_number (r.library.state symbol)) made.blocks) (r.shape symbol).blocks,
+    );
     indexes = omega (arith, keys_are symbol kinds.TableIndex refl, all_own puts.indexes, puts.with_index (sym e), (stands.shapes symbol).indexes);
     elements = elements_behind;
     references = referred_behind;

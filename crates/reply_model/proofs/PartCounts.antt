@@ -1,8 +1,8 @@
 -- The blocks of a new version by its parts: how many tiles are new, and the rows of each block.
-use Rattle.std.proofs.Common.{◌≡◌, ℕ, suc, ◌+◌, ◌-◌, ◌≤◌, ◌<◌, Bool, true, false, List, [], ◌∷◌, ◌++◌, map, length, Option, Some, None, refl, sym, ◌∙◌, ap, subst, arith, cond}
+use Rattle.std.proofs.Common.{◌≡◌, ℕ, suc, ◌+◌, ◌-◌, ◌<◌, Bool, true, false, List, [], ◌∷◌, ◌++◌, map, length, Option, Some, None, refl, sym, ◌∙◌, ap, subst, arith, cond}
 use Rattle.std.specs.Prelude.{◌*◌, ⊤, nat_eq, nat_le, find}
 use Rattle.std.specs.Option.{option_map_or}
-use Rattle.std.specs.List.{AllByRecursion, AllZip}
+use Rattle.std.specs.List.{AllZip}
 use Rattle.std.proofs.Math.Nat.{suc-mul}
 use Rattle.std.proofs.lemmas.Bool.{eqb-true, eq-eqb}
 use Rattle.std.proofs.lemmas.List.Sums.{sum_by-cons}
@@ -11,18 +11,18 @@ use Rattle.bucket_core.specs.declared.event.Change.{Change}
 use Rattle.bucket_core.specs.declared.event.Change.TheVariants as changes
 use Rattle.store_model.specs.Library.{Version}
 use Rattle.store_model.specs.Links.{Linked}
-use Rattle.reply_model.specs.Blocks.{Cutting, Block, Part, shared, fresh, some_rows, block_sizes, cut_rows, parts_before, parts_behind, parts_replaced, parts_of, blocks_from, Shape, base_blocks, tiles_in, made_for}
+use Rattle.reply_model.specs.Blocks.{Cutting, Block, Part, shared, fresh, some_rows, block_sizes, cut_rows, parts_before, parts_behind, parts_of, blocks_from, Shape, base_blocks, tiles_in, made_for}
 use Rattle.reply_model.specs.Standing.{row_sizes, HasBlocks, rows_of_version, bare_block, part_rows, fresh_in}
 use Rattle.reply_model.proofs.AloneShapes.{AreMade}
 
 -- ---- parts
 
 -- the block by its rows alone
-abbrev bare : Block → Block
+abbrev pub bare : Block → Block
 bare x = bare_block x.rows
 
 -- the part, with its block by its rows alone
-abbrev bare_part : Part → Part
+abbrev pub bare_part : Part → Part
 bare_part (shared x) = shared (bare x)
 bare_part (fresh rows) = fresh rows
 
