@@ -3,6 +3,8 @@
 
 mod meanwhile;
 #[cfg(test)]
+mod read_tests;
+#[cfg(test)]
 mod tests;
 
 pub use meanwhile::{Act, Meanwhile};
