@@ -1,3 +1,5 @@
+ghost use Rattle.std.specs.Prelude.{◌≡◌};
+
 use bucket_core::{Gate, GatePoint};
 use std::sync::{Mutex, Wait};
 
@@ -23,7 +25,9 @@ pub struct Meanwhile<A> {
 
 impl<A: Act + Drop> Meanwhile<A> {
     /// The gate at which this is done when the point is passed for this time, counted from 1.
-    pub fn make(at: GatePoint, time: u64, act: A) -> Meanwhile<A> {
+    pub fn make(at: GatePoint, time: u64, act: A) -> Meanwhile<A>
+        ensures { result.at ≡ at }
+    {
         Meanwhile {
             at,
             due: Mutex::new(Due { passes: time, act }),
