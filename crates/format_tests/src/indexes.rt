@@ -1,5 +1,5 @@
-use crate::{Index, IndexFault, Keep, build, covering, read};
 use frame_core::{ColType, Range};
+use index_tree::{Index, IndexFault, Keep, build, covering, read};
 use key_kind::KeyKind;
 use std::alloc::Global;
 use std::test::Fail;

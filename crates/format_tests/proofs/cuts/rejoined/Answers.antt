@@ -3,7 +3,7 @@ use Rattle.std.specs.List.Sorted.{IsPermutation}
 use Rattle.segment_cut.specs.Grids.{tiles_of}
 use Rattle.segment_cut.proofs.GridLemmas.{tiled-grid}
 use Rattle.segment_cut.proofs.Orders.{Tiled-permutation}
-use Rattle.segment_cut.proofs.tests.rejoined.Goals as goal
+use Rattle.format_tests.proofs.cuts.rejoined.Goals as goal
 
 pub join-requires : goal.join-requires
 join-requires c =

@@ -1,38 +1,25 @@
-use crate::{Cutting, Grid, NoMemory, join, tiles_of};
-use frame_core::{CellRef, ColName, Column, Frame, Items, Part, RawFrame, TextList};
+use crate::columns::{cell_of, ints_of, names_of, texts_of};
+use frame_core::{CellRef, Column, Frame, Items, Part, RawFrame};
+use segment_cut::{Cutting, Grid, NoMemory, join, tiles_of};
 use std::alloc::Global;
 use std::test::Fail;
 
-// Stamps 1 to 5, the whole numbers 10 to 50 in `a`, flags in `b`, and the texts v, none, xy, none, z in `c`.
-fn sample(alloc: Global) -> Result<Frame, Fail> {
-    let mut names = Items::new(alloc);
-    for name in ["a", "b", "c"] {
-        names.push(ColName::make(alloc, name)?)?;
-    }
-    let mut texts = TextList::new(alloc);
-    for text in ["v", "", "xy", "", "z"] {
-        texts.push(text)?;
-    }
+fn sample_columns(alloc: Global) -> Result<Items<Column>, Fail> {
     let mut columns = Items::new(alloc);
-    columns.push(Column::Ints(Items::from_slice(alloc, &[10, 20, 30, 40, 50])?))?;
+    columns.push(ints_of(alloc, &[10, 20, 30, 40, 50])?)?;
     columns.push(Column::Flags(Items::from_slice(alloc, &[true, false, true, false, true])?))?;
-    columns.push(Column::Texts(texts))?;
-    let raw = RawFrame {
-        stamps: Items::from_slice(alloc, &[1, 2, 3, 4, 5])?,
-        names,
-        columns,
-    };
-    Ok(Frame::make(alloc, &raw)?)
+    columns.push(texts_of(alloc, &["v", "", "xy", "", "z"])?)?;
+    Ok(columns)
 }
 
-// The cell of a row at a column, where the frame has both.
-fn cell_of(frame: &Frame, row: u64, column: u64) -> Option<CellRef<'_>> {
-    if row < frame.rows() {
-        if column < frame.schema().len() as u64 {
-            return Some(frame.cell(row, column));
-        }
-    }
-    None
+// Stamps 1 to 5, the whole numbers 10 to 50 in `a`, flags in `b`, and the texts v, none, xy, none, z in `c`.
+fn sample(alloc: Global) -> Result<Frame, Fail> {
+    let raw = RawFrame {
+        stamps: Items::from_slice(alloc, &[1, 2, 3, 4, 5])?,
+        names: names_of(alloc, &["a", "b", "c"])?,
+        columns: sample_columns(alloc)?,
+    };
+    Ok(Frame::make(alloc, &raw)?)
 }
 
 // The frame of its tiles, which are taken in the other order.

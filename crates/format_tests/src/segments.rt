@@ -1,8 +1,8 @@
 ghost use Rattle.std.specs.Prelude.{IfOk};
 ghost use Rattle.frame_core.specs.Limits.{IsStorable};
 
-use crate::{SegView, encode, view};
 use frame_core::{CellRef, ColName, ColType, Column, Frame, Items, RawFrame, TextList};
+use segment_bytes::{SegView, encode, view};
 use std::alloc::Global;
 use std::test::Fail;
 
@@ -24,9 +24,27 @@ fn one_column(alloc: Global, stamps: &[i64], name: &str, column: Column) -> Resu
 }
 
 // Stamp 1, and column `a` of the whole number 5.
-const ONE_NUMBER: &[u8] = b"ASG1\0\0\0\x01\0\x01\0\0\0\0\0\0\0\x01\x01\x01a\0\0\0\0\0\0\0\x05";
+fn one_number(alloc: Global) -> Result<Frame, Fail>
+    ensures { IfOk result IsStorable }
+{
+    let column = Column::Ints(Items::from_slice(alloc, &[5])?);
+    one_column(alloc, &[1], "a", column)
+}
 
 // Stamps 1 and 2, and column `s` of the text x and the empty text.
+fn two_texts(alloc: Global) -> Result<Frame, Fail>
+    ensures { IfOk result IsStorable }
+{
+    let mut texts = TextList::new(alloc);
+    texts.push("x")?;
+    texts.push("")?;
+    one_column(alloc, &[1, 2], "s", Column::Texts(texts))
+}
+
+// The spelling of the first.
+const ONE_NUMBER: &[u8] = b"ASG1\0\0\0\x01\0\x01\0\0\0\0\0\0\0\x01\x01\x01a\0\0\0\0\0\0\0\x05";
+
+// The spelling of the second.
 const TWO_TEXTS: &[u8] =
     b"ASG1\0\0\0\x02\0\x01\0\0\0\0\0\0\0\x01\0\0\0\0\0\0\0\x02\x03\x01s\0\0\0\x01\0\0\0\x01x";
 
@@ -43,6 +61,22 @@ fn fault_at(bytes: &[u8]) -> Option<u64> {
         Ok(_) => None,
         Err(fault) => Some(fault.at),
     }
+}
+
+// The bytes with a byte of 0 behind them.
+fn with_a_byte_more(alloc: Global, bytes: &[u8]) -> Result<Vec<u8>, Fail> {
+    let mut longer = Vec::from_slice(alloc, bytes)?;
+    longer.push(0)?;
+    Ok(longer)
+}
+
+// The bytes with another byte at a place.
+fn with(alloc: Global, bytes: &[u8], place: usize, byte: u8) -> Result<Vec<u8>, Fail> {
+    let mut changed = Vec::from_slice(alloc, bytes)?;
+    if let Some(old) = changed.get_mut(place) {
+        *old = byte;
+    }
+    Ok(changed)
 }
 
 // The view of bytes that spell a frame.
@@ -97,10 +131,8 @@ fn cell<'a>(seen: &SegView<'a>, column: u64, row: u64) -> Option<CellRef<'a>> {
 
 #[test]
 fn one_whole_number_has_these_29_bytes(rt: HostRuntime) -> Result<(), Fail> {
-    let alloc = rt.alloc();
-    let column = Column::Ints(Items::from_slice(alloc, &[5])?);
-    let frame = one_column(alloc, &[1], "a", column)?;
-    assert_eq!(rt; spelled(alloc, &frame)?.as_slice(), ONE_NUMBER);
+    let bytes = spelled(rt.alloc(), &one_number(rt.alloc())?)?;
+    assert_eq!(rt; bytes.as_slice(), ONE_NUMBER);
     let seen = seen(ONE_NUMBER)?;
     assert!(rt; seen.rows() == 1 && seen.cols() == 1);
     assert!(rt; stamp(&seen, 0) == Some(1));
@@ -111,12 +143,8 @@ fn one_whole_number_has_these_29_bytes(rt: HostRuntime) -> Result<(), Fail> {
 
 #[test]
 fn a_text_and_the_empty_text_have_these_38_bytes(rt: HostRuntime) -> Result<(), Fail> {
-    let alloc = rt.alloc();
-    let mut texts = TextList::new(alloc);
-    texts.push("x")?;
-    texts.push("")?;
-    let frame = one_column(alloc, &[1, 2], "s", Column::Texts(texts))?;
-    assert_eq!(rt; spelled(alloc, &frame)?.as_slice(), TWO_TEXTS);
+    let bytes = spelled(rt.alloc(), &two_texts(rt.alloc())?)?;
+    assert_eq!(rt; bytes.as_slice(), TWO_TEXTS);
     let seen = seen(TWO_TEXTS)?;
     assert!(rt; matches!(cell(&seen, 0, 0), Some(CellRef::Text("x"))));
     assert!(rt; matches!(cell(&seen, 0, 1), Some(CellRef::Text(""))));
@@ -145,8 +173,7 @@ fn a_view_in_memory_is_spelled_as_before(rt: HostRuntime) -> Result<(), Fail> {
 
 #[test]
 fn a_byte_more_or_less_is_a_fault_at_its_field(rt: HostRuntime) -> Result<(), Fail> {
-    let mut longer = Vec::from_slice(rt.alloc(), ONE_NUMBER)?;
-    longer.push(0)?;
+    let longer = with_a_byte_more(rt.alloc(), ONE_NUMBER)?;
     assert!(rt; fault_at(&longer) == Some(29));
     assert!(rt; fault_at(&ONE_NUMBER[..28]) == Some(21));
     Ok(())
@@ -178,9 +205,7 @@ fn each_broken_rule_is_a_fault_at_its_field(rt: HostRuntime) -> Result<(), Fail>
         (61, 255, 61), // a text that is not UTF-8
     ];
     for (place, byte, at) in changes {
-        let mut bytes = Vec::from_slice(rt.alloc(), ALL_TYPES)?;
-        assert!(rt; place < bytes.len());
-        bytes[place] = byte;
+        let bytes = with(rt.alloc(), ALL_TYPES, place, byte)?;
         assert!(rt; fault_at(&bytes) == Some(at), "at {place}");
     }
     // 2,000,000 rows of 5 columns are more than 8,000,000 cells.
