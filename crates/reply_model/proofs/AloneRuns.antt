@@ -95,7 +95,7 @@ begins = record {
   symbols = refl;
   states = λ symbol. refl;
   snapshots = refl;
-  shapes = λ symbol. record { tiles = refl; indexes = refl; elements = refl; references = refl; pieces = refl; made = tt };
+  shapes = λ symbol. record { tiles = refl; indexes = refl; elements = refl; references = refl; pieces = refl; made = tt; versions = tt };
 }
 
 pub runs_are_sole : RunsAreSole

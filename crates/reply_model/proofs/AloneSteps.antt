@@ -18,8 +18,8 @@ use Rattle.expr_clause.specs.declared.command.AsOf.TheVariants as moments
 use Rattle.expr_clause.specs.declared.command.Command.{Command}
 use Rattle.expr_clause.specs.declared.command.Command.TheVariants as commands
 use Rattle.reply_model.specs.declared.reply.Reply.{Reply}
-use Rattle.reply_model.specs.CommitAnswers.{append_answer, delete_answer, prune_answer}
-use Rattle.reply_model.specs.Answering.{Session, Answer, ◌then◌, answered, with_frame, stamp_of, committed, version_or, or_refuse}
+use Rattle.reply_model.specs.CommitAnswers.{append_answer, update_answer, delete_answer, prune_answer}
+use Rattle.reply_model.specs.Answering.{Session, Answer, base_or, ◌then◌, answered, with_frame, stamp_of, committed, version_or, or_refuse}
 use Rattle.reply_model.specs.Answers.{answer, symbol_row}
 use Rattle.reply_model.specs.ReadAnswers.{versions_answer, read_version, back, numbered, picked}
 use Rattle.reply_model.specs.Windows.{symbol_of}
@@ -60,8 +60,9 @@ answer_told s list other l m p q (commands.Prune a) told same = ap (λ (st : Sta
 answer_told s list other l m p q (commands.Versions a) told same = ap (λ (st : State). Some (answered (versions_answer st))) (same.states a)
 answer_told s list other l m p q (commands.Read a as_of range columns) told same = ap (λ v. Some (answered (v then λ x. whole x range columns))) (read_same l m a as_of same)
 answer_told s list other l m p q (commands.Append a frame at prune) told same = ap (λ (st : State). with_frame s frame (λ f. append_answer st prune (stamp_of s at) f)) (same.states a)
-answer_told s list other l m p q (commands.Update a frame range upsert at prune) told same = absurd (true≢false (sym told))
-answer_told s list other l m p q (commands.DeleteRange a range at prune) told same = absurd (true≢false (sym told))
+answer_told s list other l m p q (commands.Update a frame range upsert at prune) told same = ap (λ (st : State). with_frame s frame (λ f. update_answer st upsert prune (stamp_of s at) range f)) (same.states a)
+answer_told s list other l m p q (commands.DeleteRange a range at prune) told same =
+    ap (λ (st : State). Some (answered (base_or st then λ v. update_answer st false prune (stamp_of s at) (Some range) (record v.frame { rows = [] })))) (same.states a)
 answer_told s list other l m p q (commands.Finalize a append sorted at prune) told same = absurd (true≢false (sym told))
 answer_told s list other l m p q (commands.Discard a) told same = absurd (true≢false (sym told))
 answer_told s list other l m p q (commands.Stage a frame) told same = absurd (true≢false (sym told))
@@ -118,8 +119,8 @@ step_is c s (commands.Prune a) r told = refl
 step_is c s (commands.Versions a) r told = refl
 step_is c s (commands.Read a as_of range columns) r told = refl
 step_is c s (commands.Append a frame at prune) r told = refl
-step_is c s (commands.Update a frame range upsert at prune) r told = absurd (true≢false (sym told))
-step_is c s (commands.DeleteRange a range at prune) r told = absurd (true≢false (sym told))
+step_is c s (commands.Update a frame range upsert at prune) r told = refl
+step_is c s (commands.DeleteRange a range at prune) r told = refl
 step_is c s (commands.Finalize a append sorted at prune) r told = absurd (true≢false (sym told))
 step_is c s (commands.Discard a) r told = absurd (true≢false (sym told))
 step_is c s (commands.Stage a frame) r told = absurd (true≢false (sym told))
