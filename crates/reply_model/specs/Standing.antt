@@ -8,7 +8,7 @@
 --     tiles_cut, parts_laid, IsLaid, LaysOut      how a commit cuts its version, which a legal reply leaves open
 --     LegalAloneSteps      each legal reply is such a step
 --     RunsTo, RunsAlone    a run alone gives these replies to a list of commands
---     RunsGrow, RunsAreSole      runs grow by steps, and from the empty history they are the replies of one client alone
+--     RunsGrow, RunsAreSole, BlocksAreSole      runs grow by steps, and from the empty history they are the replies of one client alone
 use Rattle.std.specs.Prelude.{◌≡◌, ℕ, suc, ◌+◌, ◌*◌, ◌<◌, if◌then◌else◌, Bool, true, false, List, [], ◌∷◌, ◌++◌, map, filter, find, length, Option, Some, None, nat_eq}
 use Rattle.std.specs.Option.{option_map_or}
 use Rattle.std.specs.List.{AllByRecursion, AllZip}
@@ -167,13 +167,23 @@ RunsTo (Some x) replies new = (replies ≡ x.0) × StandsAs new x.1
 abbrev pub RunsAlone : Cutting → Session → List Command → List Reply → History → History → Type 0
 RunsAlone c s list replies old new = (r : Alone) → StandsAs old r → RunsTo (alone c s list r) replies new
 
--- no commands run to no replies, and one more step makes a run of one command more
+-- no commands run to no replies, and one more step makes a run of one command more; so it does where run and step are known of what
+-- grows by events of this client alone
 pub record RunsGrow : Type 0 where
   pub none : (c : Cutting) (s : Session) (h : History) → RunsAlone c s [] [] h h
   pub one_more : (c : Cutting) (s : Session) (list : List Command) (replies : List Reply) (command : Command) (reply : Reply) (first old new : History)
       → RunsAlone c s list replies first old → IsStep c s command reply old new → RunsAlone c s (list ++ command ∷ []) (replies ++ reply ∷ []) first new
+  pub one_more_alone : (c : Cutting) (s : Session) (list : List Command) (replies : List Reply) (command : Command) (reply : Reply) (first old new before more : History)
+      → old ≡ before ++ first → new ≡ more ++ old → (GrowsAlone s.client first old → RunsAlone c s list replies first old) → (GrowsAlone s.client old new → IsStep c s command reply old new)
+      → GrowsAlone s.client first new → RunsAlone c s (list ++ command ∷ []) (replies ++ reply ∷ []) first new
 
 -- a run of client 1 from the empty history has the replies of one client alone, whatever its session's tries
 abbrev pub RunsAreSole : Type 0
 RunsAreSole = (c : Cutting) (s : Session) (list : List Command) (replies : List Reply) (h : History) → s.client ≡ 1 → RunsAlone c s list replies [] h
     → sole c s.frames s.moment list [] [] ≡ Some (record { first = replies; block = []; last = []; events = length h })
+
+-- so have first commands of client 1, a block of client 2 behind them, and last commands of client 1 behind the block
+abbrev pub BlocksAreSole : Type 0
+BlocksAreSole = (c : Cutting) (s t : Session) (first block last : List Command) (begun met ended : List Reply) (h g k : History) → s.client ≡ 1 → t.client ≡ 2 → t.frames ≡ s.frames → t.moment ≡ s.moment
+    → RunsAlone c s first begun [] h → RunsAlone c t block met h g → RunsAlone c s last ended g k
+    → sole c s.frames s.moment first block last ≡ Some (record { first = begun; block = met; last = ended; events = length k })
