@@ -37,7 +37,7 @@ use Rattle.reply_model.proofs.Places.{history_at_end}
 use Rattle.reply_model.proofs.Covering.{event_at_end, some_is}
 use Rattle.reply_model.proofs.Isolated.{some_answer}
 use Rattle.reply_model.proofs.TryCounts.{PutsKeys}
-use Rattle.reply_model.proofs.AloneShapes.{Makes, shapes_behind}
+use Rattle.reply_model.proofs.AloneShapes.{Makes, shapes_behind, cut_behind}
 use Rattle.reply_model.proofs.AloneWindows.{Commits}
 use Rattle.reply_model.proofs.AloneSteps.{TellsSame, is_told, run_tells, told_step, commit_step}
 
@@ -149,7 +149,7 @@ pub record IsCounted (c : Cutting) (r : Alone) (symbol : Name) (makes : Bool) (o
   pub blocks : Makes c (r.library.state symbol) (r.shape symbol) makes (first_of (links new symbol)) puts.tiles first rest
 
 -- a commit's events are the puts of the blocks that it makes, its index, its element and its Refer
-pub made_events : (c : Cutting) (r : Alone) (symbol : Name) (makes : Bool) (old new behind : History) (puts : PutsKeys symbol makes behind) (first : Change) (rest : List Change) → StandsAs old r
+pub made_events : (c : Cutting) (r : Alone) (symbol : Name) (makes : Bool) (old new behind : History) (puts : PutsKeys symbol makes behind) (first : Change) (rest : List Change) → StandsAs c old r
     → Makes c (r.library.state symbol) (r.shape symbol) makes (first_of (links new symbol)) puts.tiles first rest → IsCounted c r symbol makes old new behind puts first rest
 made_events c r symbol makes old new behind puts first rest stands made = record { events = by_blocks makes puts made; blocks = made }
   where
@@ -168,13 +168,13 @@ pub record Plain (s : Session) (command : Command) (reply : Reply) (old new : Hi
   pub commits : reply.commits ≡ refer_places s.client (length old) new
 
 -- nothing was added, and the reply has no commit
-pub looking : (c : Cutting) (client : Client) (command : Command) (r : Alone) (reply : Reply) (old : History) → StandsAs old r → Plain client.session command reply old old
-    → refer_places client.session.client (length old) old ≡ [] → IsAnswer old client command reply → StepsTo (step_alone c client.session command r) reply old
+pub looking : (c : Cutting) (client : Client) (command : Command) (r : Alone) (reply : Reply) (old : History) → StandsAs c old r → Plain client.session command reply old old
+    → refer_places client.session.client (length old) old ≡ [] → IsAnswer old client command reply → StepsTo c (step_alone c client.session command r) reply old
 looking c client command r reply old stands plain none is =
     let here : reply.place ≡ length old = omega (arith, plain.after, plain.before) in
     elim is [
       | inl told ↦ told_step c client.session command r reply old (library_at old (listed_at reply)) (library_at old reply.place) reply.place plain.told stands
-          (subst (λ h. TellsSame r.library (library_of h)) (sym (ap (history_at old) here ∙ history_at_end old)) (run_tells old r stands))
+          (subst (λ h. TellsSame r.library (library_of h)) (sym (ap (history_at old) here ∙ history_at_end old)) (run_tells c old r stands))
           here plain.unlisted told.1 plain.unleft told.0
       | inr made ↦ absurd (not_none reply.place [] (sym none ∙ (sym plain.commits ∙ made.6)))
     ]
@@ -185,11 +185,11 @@ list_of (events.Refer client symbol was entry list) = list
 list_of e = []
 
 -- a commit stands
-pub committing_reply : (c : Cutting) (client : Client) (command : Command) (symbol : Name) (makes : Bool) (r : Alone) (reply : Reply) (old new : History) → StandsAs old r → symbol_of command ≡ Some symbol
+pub committing_reply : (c : Cutting) (client : Client) (command : Command) (symbol : Name) (makes : Bool) (r : Alone) (reply : Reply) (old new : History) → StandsAs c old r → symbol_of command ≡ Some symbol
     → IsLawful new → Plain client.session command reply old new → (k : Commits client.session.client symbol makes old new) → IsAnswer new client command reply
     → ((list : Library) (q : ℕ) (first : Change) (rest : List Change) → answer client.session list (library_of (k.behind ++ old)) q command ≡ Some (record { outcome = reply.outcome; marks = first ∷ rest })
     → reply.place ≡ suc (length (k.behind ++ old)) → IsCounted c r symbol makes old new k.behind k.puts first rest)
-    → StepsTo (step_alone c client.session command r) reply new
+    → StepsTo c (step_alone c client.session command r) reply new
 committing_reply c client command symbol makes r reply old new stands named lawful plain k is counted =
     let own : ℕ = client.session.client in
     let before : History = k.behind ++ old in
@@ -213,9 +213,10 @@ committing_reply c client command symbol makes r reply old new stands named lawf
           (sym (event_at_end (events.Refer own symbol k.was k.entry k.list) before) ∙ (ap (λ h. event_at h (suc (length before))) (sym k.is) ∙ (ap (event_at new) (sym here) ∙ made.5.2)))) in
           let new_is : new ≡ events.Refer own symbol k.was k.entry (made.0 ∷ made.1) ∷ before = k.is ∙ ap (λ list. events.Refer own symbol k.was k.entry list ∷ before) list_is in
           let count = counted (library_at new (listed_at reply)) (reply.place - 1) made.0 made.1 answered_is here in
-          subst (λ h. StepsTo (step_alone c client.session command r) reply h) (sym new_is)
+          let lawful_is = subst (λ h. IsLawful h) new_is lawful in
+          let makes_is = subst (λ h. Makes c (r.library.state symbol) (r.shape symbol) makes (first_of (links h symbol)) k.puts.tiles made.0 made.1) new_is count.blocks in
+          subst (λ h. StepsTo c (step_alone c client.session command r) reply h) (sym new_is)
           (commit_step c client.session command symbol r reply old before k.was k.entry made.0 made.1 (library_at new (listed_at reply)) (reply.place - 1) plain.told named stands k.kept
           here plain.unlisted made.6 plain.unleft answered_is count.events
-          (shapes_behind c own symbol makes old k.behind k.was k.entry made.0 made.1 r stands k.kept k.puts (subst (λ h. IsLawful h) new_is lawful)
-          (subst (λ h. Makes c (r.library.state symbol) (r.shape symbol) makes (first_of (links h symbol)) k.puts.tiles made.0 made.1) new_is count.blocks)))
+          (shapes_behind c own symbol makes old k.behind k.was k.entry made.0 made.1 r stands k.kept k.puts lawful_is makes_is) (cut_behind c own symbol makes old k.behind k.was k.entry made.0 made.1 r stands k.kept k.puts lawful_is makes_is))
     ]

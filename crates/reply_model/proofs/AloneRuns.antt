@@ -48,14 +48,14 @@ alone-append c s (command ∷ xs) ys r = of_step (λ x. alone-append c s xs ys x
 one_more : (c : Cutting) (s : Session) (list : List Command) (replies : List Reply) (command : Command) (reply : Reply) (first old new : History)
     → RunsAlone c s list replies first old → IsStep c s command reply old new → RunsAlone c s (list ++ command ∷ []) (replies ++ reply ∷ []) first new
 one_more c s list replies command reply first old new runs step r stands =
-    subst (λ o. RunsTo o (replies ++ reply ∷ []) new) (sym (alone-append c s list (command ∷ []) r)) (of_run (alone c s list r) (runs r stands))
+    subst (λ o. RunsTo c o (replies ++ reply ∷ []) new) (sym (alone-append c s list (command ∷ []) r)) (of_run (alone c s list r) (runs r stands))
   where
-    of_step : (x : List Reply × Alone) (o : Option (Reply × Alone)) → replies ≡ x.0 → StepsTo o reply new
-        → RunsTo (option_map {U = List Reply × Alone} (λ (y : List Reply × Alone). (x.0 ++ y.0, y.1)) (option_and_then {U = List Reply × Alone} (λ (z : Reply × Alone). Some (z.0 ∷ [], z.1)) o)) (replies ++ reply ∷ []) new
+    of_step : (x : List Reply × Alone) (o : Option (Reply × Alone)) → replies ≡ x.0 → StepsTo c o reply new
+        → RunsTo c (option_map {U = List Reply × Alone} (λ (y : List Reply × Alone). (x.0 ++ y.0, y.1)) (option_and_then {U = List Reply × Alone} (λ (z : Reply × Alone). Some (z.0 ∷ [], z.1)) o)) (replies ++ reply ∷ []) new
     of_step x None is to = absurd to
     of_step x (Some z) is to = (ap (λ xs. xs ++ reply ∷ []) is ∙ ap (λ y. x.0 ++ y ∷ []) to.0, to.1)
 
-    of_run : (o : Option (List Reply × Alone)) → RunsTo o replies old → RunsTo (behind o (λ x. alone c s (command ∷ []) x)) (replies ++ reply ∷ []) new
+    of_run : (o : Option (List Reply × Alone)) → RunsTo c o replies old → RunsTo c (behind o (λ x. alone c s (command ∷ []) x)) (replies ++ reply ∷ []) new
     of_run None to = absurd to
     of_run (Some x) to = of_step x (step_alone c s command x.1) to.0 (step x.1 to.1)
 
@@ -109,26 +109,27 @@ same_alone c s client (command ∷ list) r is =
     of_step same (Some x) = ap (option_map {U = List Reply × Alone} (λ (y : List Reply × Alone). (x.0 ∷ y.0, y.1))) (same x.1)
 
 -- the empty history
-begins : StandsAs [] beginning
-begins = record {
+begins : (c : Cutting) → StandsAs c [] beginning
+begins c = record {
   events = refl;
   symbols = refl;
   states = λ symbol. refl;
   snapshots = refl;
   shapes = λ symbol. record { tiles = refl; indexes = refl; elements = refl; references = refl; pieces = refl; made = tt; versions = tt };
+  cut = λ symbol. tt;
 }
 
 -- a run of a client of the frames and the moment
 of_session : (c : Cutting) (s : Session) (frames : List Table) (moment : ℤ) (client : ℕ) (list : List Command) (replies : List Reply) (old new : History) → s.frames ≡ frames → s.moment ≡ moment → s.client ≡ client
-    → RunsAlone c s list replies old new → (r : Alone) → StandsAs old r → RunsTo (alone c (session_of frames moment client) list r) replies new
+    → RunsAlone c s list replies old new → (r : Alone) → StandsAs c old r → RunsTo c (alone c (session_of frames moment client) list r) replies new
 of_session c s frames moment client list replies old new frames_are moment_is is runs r stands =
-    subst (λ (x : List Table). RunsTo (alone c (session_of x moment client) list r) replies new) frames_are
-    (subst (λ (x : ℤ). RunsTo (alone c (session_of s.frames x client) list r) replies new) moment_is
-    (subst (λ o. RunsTo o replies new) (same_alone c s client list r is) (runs r stands)))
+    subst (λ (x : List Table). RunsTo c (alone c (session_of x moment client) list r) replies new) frames_are
+    (subst (λ (x : ℤ). RunsTo c (alone c (session_of s.frames x client) list r) replies new) moment_is
+    (subst (λ o. RunsTo c o replies new) (same_alone c s client list r is) (runs r stands)))
 
 pub blocks_are_sole : BlocksAreSole
 blocks_are_sole c s t first block last begun met ended h g k is other frames_are moment_is runs_first runs_block runs_last =
-    of_first (alone c (session_of s.frames s.moment 1) first beginning) (of_session c s s.frames s.moment 1 first begun [] h refl refl is runs_first beginning begins)
+    of_first (alone c (session_of s.frames s.moment 1) first beginning) (of_session c s s.frames s.moment 1 first begun [] h refl refl is runs_first beginning (begins c))
   where
     made : List Reply × Alone → List Reply × Alone → Option (List Reply × Alone) → Option SoleRun
     made x y o = option_map {U = SoleRun} (λ (z : List Reply × Alone). record { first = x.0; block = y.0; last = z.0; events = z.1.events }) o
@@ -136,7 +137,7 @@ blocks_are_sole c s t first block last begun met ended h g k is other frames_are
     result : Option SoleRun
     result = Some (record { first = begun; block = met; last = ended; events = length k })
 
-    of_last : (x y : List Reply × Alone) (o : Option (List Reply × Alone)) → begun ≡ x.0 → met ≡ y.0 → RunsTo o ended k → made x y o ≡ result
+    of_last : (x y : List Reply × Alone) (o : Option (List Reply × Alone)) → begun ≡ x.0 → met ≡ y.0 → RunsTo c o ended k → made x y o ≡ result
     of_last x y None begun_is met_is to = absurd to
     of_last x y (Some z) begun_is met_is to =
         ap {B = Option SoleRun} (λ rs. Some (record { first = rs; block = y.0; last = z.0; events = z.1.events })) (sym begun_is)
@@ -144,13 +145,13 @@ blocks_are_sole c s t first block last begun met ended h g k is other frames_are
         ∙ (ap {B = Option SoleRun} (λ rs. Some (record { first = begun; block = met; last = rs; events = z.1.events })) (sym to.0)
         ∙ ap {B = Option SoleRun} (λ n. Some (record { first = begun; block = met; last = ended; events = n })) to.1.events))
 
-    of_block : (x : List Reply × Alone) (o : Option (List Reply × Alone)) → begun ≡ x.0 → RunsTo o met g
+    of_block : (x : List Reply × Alone) (o : Option (List Reply × Alone)) → begun ≡ x.0 → RunsTo c o met g
         → option_and_then {U = SoleRun} (λ (y : List Reply × Alone). made x y (alone c (session_of s.frames s.moment 1) last y.1)) o ≡ result
     of_block x None begun_is to = absurd to
     of_block x (Some y) begun_is to =
         of_last x y (alone c (session_of s.frames s.moment 1) last y.1) begun_is to.0 (of_session c s s.frames s.moment 1 last ended g k refl refl is runs_last y.1 to.1)
 
-    of_first : (o : Option (List Reply × Alone)) → RunsTo o begun h
+    of_first : (o : Option (List Reply × Alone)) → RunsTo c o begun h
         → option_and_then {U = SoleRun} (λ (x : List Reply × Alone).
           option_and_then {U = SoleRun} (λ (y : List Reply × Alone). made x y (alone c (session_of s.frames s.moment 1) last y.1)) (alone c (session_of s.frames s.moment 2) block x.1)) o ≡ result
     of_first None to = absurd to

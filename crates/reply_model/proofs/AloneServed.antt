@@ -107,19 +107,19 @@ Counts c client command symbol makes reply more old r =
     → reply.place ≡ suc (length (behind ++ old)) → Makes c (r.library.state symbol) (r.shape symbol) makes (first_of (links (more ++ old) symbol)) puts.tiles first rest
 
 -- a command that commits, or had nothing to do
-turn_step : (c : Cutting) (client : Client) (command : Command) (symbol : Name) (makes : Bool) (reply : Reply) (more old : History) (r : Alone) → StandsAs old r → symbol_of command ≡ Some symbol
+turn_step : (c : Cutting) (client : Client) (command : Command) (symbol : Name) (makes : Bool) (reply : Reply) (more old : History) (r : Alone) → StandsAs c old r → symbol_of command ≡ Some symbol
     → IsLawful (more ++ old) → Plain client.session command reply old (more ++ old) → IsAnswer (more ++ old) client command reply → (done : Bool) → Counts c client command symbol makes reply more old r
-    → MatchBool done (Commits client.session.client symbol makes old (more ++ old)) (more ≡ []) → StepsTo (step_alone c client.session command r) reply (more ++ old)
+    → MatchBool done (Commits client.session.client symbol makes old (more ++ old)) (more ≡ []) → StepsTo c (step_alone c client.session command r) reply (more ++ old)
 turn_step c client command symbol makes reply more old r stands named lawful plain is true counts k =
     committing_reply c client command symbol makes r reply old (more ++ old) stands named lawful plain k is
     (λ list q first rest answered here. made_events c r symbol makes old (more ++ old) k.behind k.puts first rest stands (counts k.behind k.kept k.puts list q first rest answered here))
 turn_step c client command symbol makes reply more old r stands named lawful plain is false counts none =
-    subst (λ es. StepsTo (step_alone c client.session command r) reply (es ++ old)) (sym none)
+    subst (λ es. StepsTo c (step_alone c client.session command r) reply (es ++ old)) (sym none)
     (looking c client command r reply old stands (subst (λ es. Plain client.session command reply old (es ++ old)) none plain) (none_behind client.session.client (length old) old (omega arith))
     (subst (λ es. IsAnswer (es ++ old) client command reply) none is))
 
 -- a commit of a version that is laid out
-version_counts : (c : Cutting) (client : Client) (command : Command) (symbol : Name) (reply : Reply) (more old : History) (r : Alone) → StandsAs old r → is_told command ≡ true → symbol_of command ≡ Some symbol
+version_counts : (c : Cutting) (client : Client) (command : Command) (symbol : Name) (reply : Reply) (more old : History) (r : Alone) → StandsAs c old r → is_told command ≡ true → symbol_of command ≡ Some symbol
     → LaysOut c client.session command reply old (more ++ old)
     → ((list l : Library) (q : ℕ) (first : Change) (rest : List Change) → answer client.session list l q command ≡ Some (record { outcome = reply.outcome; marks = first ∷ rest }) → is_version first ≡ true)
     → Counts c client command symbol true reply more old r
@@ -127,9 +127,9 @@ version_counts c client command symbol reply more old r stands told named laid v
     let same : TellsSame (library_of old) (library_of (behind ++ old)) = record { symbols = sym kept.symbols; states = λ x. sym (kept.states x); snapshots = sym kept.snapshots } in
     let answered_before = answer_told client.session (library_of old) list (library_of old) (library_of (behind ++ old)) (length old) q command told same ∙ answered in
     let makes = version list (library_of (behind ++ old)) q first rest answered in
-    let is_laid = laid symbol first rest named answered_before makes in
+    let is_laid = laid stands.cut symbol first rest named answered_before makes in
     subst (λ (st : State). MakesVersion c st (r.shape symbol) (first_of (links (more ++ old) symbol)) puts.tiles first rest) (sym (stands.states symbol))
-    (laid_makes c (r.shape symbol) symbol puts.tiles reply.place first rest old (more ++ old) makes (stands.shapes symbol) is_laid
+    (laid_makes c (r.shape symbol) symbol puts.tiles reply.place first rest old (more ++ old) makes (stands.shapes symbol) stands.cut is_laid
     (omega (arith, here, is_laid.tiles, length-append behind old, puts.size, puts.with_index refl)))
 
 -- a command that makes a version
@@ -264,14 +264,14 @@ versions_step c client symbol reply old faulted heard r stands =
 -- ---- the lists of the library
 
 -- a reply to a list has its outcome, at the place where the window begins and ends
-listed_step : (client : Client) (command : Command) (reply : Reply) (r : Alone) (old : History) (faulted : Bool) (outcome : Outcome) → StandsAs old r → Heard client command reply [] old faulted
-    → reply.listed ≡ None → reply.left ≡ [] → reply.outcome ≡ outcome → StepsTo (Some (next_turn (plain_reply r.events None outcome, r))) reply old
-listed_step client command reply r old faulted outcome stands heard unlisted unleft is =
+listed_step : (c : Cutting) (client : Client) (command : Command) (reply : Reply) (r : Alone) (old : History) (faulted : Bool) (outcome : Outcome) → StandsAs c old r → Heard client command reply [] old faulted
+    → reply.listed ≡ None → reply.left ≡ [] → reply.outcome ≡ outcome → StepsTo c (Some (next_turn (plain_reply r.events None outcome, r))) reply old
+listed_step c client command reply r old faulted outcome stands heard unlisted unleft is =
     let here : reply.place ≡ length old = omega (arith, heard.seen.after, heard.seen.before) in (
       reply_is reply r.events None [] (here ∙ sym stands.events) unlisted
           (commits_are client command reply [] old faulted heard ∙ none_behind client.session.client (length old) old (omega arith)) unleft
           ∙ ap (λ o. plain_reply r.events None o) is,
-      record { events = stands.events; symbols = stands.symbols; states = stands.states; snapshots = stands.snapshots; shapes = stands.shapes },
+      record { events = stands.events; symbols = stands.symbols; states = stands.states; snapshots = stands.snapshots; shapes = stands.shapes; cut = stands.cut },
     )
 
 no_symbol : (symbol : Name) → None ≡ Some symbol → ⊥
@@ -294,8 +294,8 @@ snapshots_step c client reply old faulted heard r stands =
     let here : reply.place ≡ length old = omega (arith, heard.seen.after, heard.seen.before) in
     elim (snapshots_answered old client reply (added [] old faulted) reply.outcome heard.cut heard.seen.outcome) [
       | inl told ↦
-          let same : TellsSame r.library (library_at old reply.place) = subst (λ h. TellsSame r.library (library_of h)) (sym (ap (history_at old) here ∙ history_at_end old)) (run_tells old r stands) in
-          listed_step client commands.Snapshots reply r old faulted (outcomes.Snapshots (map (λ y. y.0) r.library.snapshots)) stands heard heard.seen.listed heard.seen.left.left
+          let same : TellsSame r.library (library_at old reply.place) = subst (λ h. TellsSame r.library (library_of h)) (sym (ap (history_at old) here ∙ history_at_end old)) (run_tells c old r stands) in
+          listed_step c client commands.Snapshots reply r old faulted (outcomes.Snapshots (map (λ y. y.0) r.library.snapshots)) stands heard heard.seen.listed heard.seen.left.left
           (sym (ap (λ (a : Answer). a.outcome) (some_answer (record { outcome = outcomes.Snapshots (map (λ y. y.0) (library_at old reply.place).snapshots); marks = [] }) (record { outcome = reply.outcome; marks = [] }) told.0))
           ∙ sym (ap (λ (xs : List (Name × Snapshot)). outcomes.Snapshots (map (λ y. y.0) xs)) same.snapshots))
       | inr made ↦ absurd (no_symbol made.2 made.4)
@@ -340,11 +340,11 @@ symbols_step c client reply old faulted heard r stands =
     let here : reply.place ≡ length old = omega (arith, heard.seen.after, heard.seen.before) in
     let rows = symbols_rows old client reply (added [] old faulted) reply.outcome refl heard.cut heard.seen.outcome in
     let at_end : history_at old reply.place ≡ old = ap (history_at old) here ∙ history_at_end old in
-    listed_step client commands.Symbols reply r old faulted (outcomes.Symbols (map (symbol_row r.library r.events) r.library.symbols)) stands heard heard.seen.listed heard.seen.left.left
+    listed_step c client commands.Symbols reply r old faulted (outcomes.Symbols (map (symbol_row r.library r.events) r.library.symbols)) stands heard heard.seen.listed heard.seen.left.left
     (rows.1 ∙ ap outcomes.Symbols (rows_are old reply.place (library_at old reply.place).symbols rows.0 here rows.2
     ∙ (ap (λ (g : History). map (symbol_row (library_of old) reply.place) (library_of g).symbols) at_end
     ∙ (ap (λ p. map (symbol_row (library_of old) p) (library_of old).symbols) (here ∙ sym stands.events)
-    ∙ (ap (map (symbol_row (library_of old) r.events)) (sym stands.symbols) ∙ sym (rows_same r.library (library_of old) r.events (run_tells old r stands) r.library.symbols))))))
+    ∙ (ap (map (symbol_row (library_of old) r.events)) (sym stands.symbols) ∙ sym (rows_same r.library (library_of old) r.events (run_tells c old r stands) r.library.symbols))))))
 
 -- ---- keys
 
@@ -372,7 +372,7 @@ keys_step c client symbol reply old faulted heard r stands =
     let here : reply.place ≡ length old = omega (arith, heard.seen.after, heard.seen.before) in
     let shape = stands.shapes symbol in
     let st : State = r.library.state symbol in
-    listed_step client (commands.Keys symbol) reply r old faulted (keys_alone st (r.shape symbol)) stands heard heard.seen.listed heard.seen.left.left
+    listed_step c client (commands.Keys symbol) reply r old faulted (keys_alone st (r.shape symbol)) stands heard heard.seen.listed heard.seen.left.left
     (keys_counted old client symbol reply (added [] old faulted) reply.outcome heard.cut heard.seen.outcome
     ∙ (ap (λ (g : History). keys_outcome g symbol) (ap (history_at old) here ∙ history_at_end old)
     ∙ (ap (λ n. outcomes.Keys n (keys_of old symbol kinds.TableIndex) (keys_of old symbol kinds.Version) (keys_of old symbol kinds.VersionRef) (keys_of old symbol kinds.Staged)) shape.tiles

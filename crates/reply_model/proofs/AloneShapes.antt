@@ -26,7 +26,7 @@ use Rattle.store_model.proofs.Lawful.{lawful_is_intact}
 use Rattle.reply_model.specs.Rows.{keys_of}
 use Rattle.reply_model.specs.Blocks.{Cutting, Block, Shape, tiles_in, made_for, blocks_made, with_version, shape_after}
 use Rattle.reply_model.specs.Sole.{Alone, committing}
-use Rattle.reply_model.specs.Standing.{row_sizes, HasBlocks, HasShape, StandsAs}
+use Rattle.reply_model.specs.Standing.{row_sizes, IsCutBy, HasBlocks, HasShape, StandsAs}
 use Rattle.reply_model.proofs.StoredCounts.{keys_behind_refer, reference_behind}
 use Rattle.reply_model.proofs.TryCounts.{is_no_put, keys_behind_puts, PutsKeys}
 use Rattle.reply_model.proofs.AloneWindows.{IsKept}
@@ -68,6 +68,7 @@ pub record MakesVersion (c : Cutting) (st : State) (s : Shape) (newest : Option 
   pub link : Linked
   pub link_is : newest ≡ Some link
   pub rows : map (λ (b : Block). b.rows) blocks ≡ row_sizes link.index.slots
+  pub within : AllByRecursion (λ n. n ≤ c.rows) (row_sizes link.index.slots)
 
 -- or it makes none
 pub record MakesMark (c : Cutting) (st : State) (s : Shape) (first : Change) : Type 0 where
@@ -96,7 +97,7 @@ mark_makes_none h client symbol row first rest mark (marking c other) = marks_ma
 same_some : (a b : Linked) → Some a ≡ Some b → a ≡ b
 same_some a b e = cc
 
-module _ (c : Cutting) (client : ℕ) (symbol : Name) (makes : Bool) (old behind : History) (was : Option Key) (entry : Key) (first : Change) (rest : List Change) (r : Alone) (stands : StandsAs old r)
+module _ (c : Cutting) (client : ℕ) (symbol : Name) (makes : Bool) (old behind : History) (was : Option Key) (entry : Key) (first : Change) (rest : List Change) (r : Alone) (stands : StandsAs c old r)
     (kept : IsKept client old (behind ++ old)) (puts : PutsKeys symbol makes behind) (lawful : IsLawful (events.Refer client symbol was entry (first ∷ rest) ∷ (behind ++ old))) where
   abbrev before : History
   before = behind ++ old
@@ -120,6 +121,10 @@ module _ (c : Cutting) (client : ℕ) (symbol : Name) (makes : Bool) (old behind
   references_before other = omega (arith, keys_behind_puts other kinds.VersionRef behind old puts.none (lawful_is_intact new lawful).once, puts.counted other kinds.VersionRef)
       ∙ ((stands.shapes other).references ∙ ap (λ (st : State). cond st.has_reference 1 0) (sym (kept.states other)))
 
+  -- another symbol keeps its links
+  other_links : (other : Name) → same_name symbol other ≡ false → links new other ≡ links old other
+  other_links other differs = ap (λ b. cond b (links_at before entry ++ links before other) (links before other)) differs ∙ links_kept other behind old puts.none
+
   -- another symbol keeps its shape
   other_shape : (other : Name) → same_name symbol other ≡ false → HasShape new other (r.shape other)
   other_shape other differs =
@@ -134,8 +139,7 @@ module _ (c : Cutting) (client : ℕ) (symbol : Name) (makes : Bool) (old behind
             ∙ (references_before other ∙ ap (λ (st : State). cond st.has_reference 1 0) (kept.states other ∙ sym same));
         pieces = omega (arith, keys_are other kinds.Staged refl, was_shape.pieces);
         made = subst (λ (st : State). AllByRecursion (λ (x : ℕ × List Block). AreMade (next_number st) x.1) (r.shape other).versions) (sym same) was_shape.made;
-        versions = subst (λ (ls : List Linked). AllZip HasBlocks ls (r.shape other).versions)
-            (sym (ap (λ b. cond b (links_at before entry ++ links before other) (links before other)) differs ∙ links_kept other behind old puts.none)) was_shape.versions;
+        versions = subst (λ (ls : List Linked). AllZip HasBlocks ls (r.shape other).versions) (sym (other_links other differs)) was_shape.versions;
       }
 
   -- what is told of the symbol behind the commit
@@ -157,9 +161,9 @@ module _ (c : Cutting) (client : ℕ) (symbol : Name) (makes : Bool) (old behind
       ∙ (ap (λ ls. ls ++ links before symbol) (ap (links_of before) may.spelled) ∙ ap (λ ls. links_in before (marks_of may.row (first ∷ rest)) ++ ls) (links_kept symbol behind old puts.none))
 
   -- the version that is made is that of the newest link
-  versions_behind : (x : MakesVersion c (r.library.state symbol) (r.shape symbol) (first_of (links new symbol)) puts.tiles first rest)
-      → AllZip HasBlocks (links new symbol) ((next_number (r.library.state symbol), x.blocks) ∷ (r.shape symbol).versions)
-  versions_behind x = elim (refer_makes before client symbol may.row (first ∷ rest) may.form may.fits) [
+  links_made : (x : MakesVersion c (r.library.state symbol) (r.shape symbol) (first_of (links new symbol)) puts.tiles first rest)
+      → (links new symbol ≡ x.link ∷ links old symbol) × (x.link.row.version ≡ next_number (r.library.state symbol))
+  links_made x = elim (refer_makes before client symbol may.row (first ∷ rest) may.form may.fits) [
     | inl none ↦
         let same : next_number (fold after_change (state_of before symbol) (first ∷ rest)) ≡ next_number (state_of before symbol) = ap number_after none.versions in
         let here : r.library.state symbol ≡ state_of before symbol = stands.states symbol ∙ sym (kept.states symbol) in
@@ -170,15 +174,21 @@ module _ (c : Cutting) (client : ℕ) (symbol : Name) (makes : Bool) (old behind
         let number : one.fits.link.row.version ≡ next_number (r.library.state symbol) =
         ap (λ (l : LinkRow). l.version) (linked_row before may.row one.fits.link one.fits.link_is)
         ∙ (one.fits.number ∙ (one.number ∙ ap (λ (st : State). next_number st) (kept.states symbol ∙ sym (stands.states symbol)))) in
-        subst (λ (ls : List Linked). AllZip HasBlocks ls ((next_number (r.library.state symbol), x.blocks) ∷ (r.shape symbol).versions)) (sym list_is)
-        ((number, x.rows ∙ ap (λ (l : Linked). row_sizes l.index.slots) (sym link_is)), (stands.shapes symbol).versions)
+        (list_is ∙ ap (λ l. l ∷ links old symbol) link_is, ap (λ (l : Linked). l.row.version) (sym link_is) ∙ number)
   ]
 
+  versions_behind : (x : MakesVersion c (r.library.state symbol) (r.shape symbol) (first_of (links new symbol)) puts.tiles first rest)
+      → AllZip HasBlocks (links new symbol) ((next_number (r.library.state symbol), x.blocks) ∷ (r.shape symbol).versions)
+  versions_behind x =
+      let made = links_made x in
+      subst (λ (ls : List Linked). AllZip HasBlocks ls ((next_number (r.library.state symbol), x.blocks) ∷ (r.shape symbol).versions)) (sym made.0) ((made.1, x.rows), (stands.shapes symbol).versions)
+
   -- and a mark makes none
+  links_stay : is_version first ≡ false → links new symbol ≡ links old symbol
+  links_stay mark = let none = mark_makes_none before client symbol may.row first rest mark may.form in links_behind ∙ ap (λ ls. ls ++ links old symbol) none.links
+
   versions_stay : is_version first ≡ false → AllZip HasBlocks (links new symbol) (r.shape symbol).versions
-  versions_stay mark =
-      let none = mark_makes_none before client symbol may.row first rest mark may.form in
-      subst (λ (ls : List Linked). AllZip HasBlocks ls (r.shape symbol).versions) (sym (links_behind ∙ ap (λ ls. ls ++ links old symbol) none.links)) (stands.shapes symbol).versions
+  versions_stay mark = subst (λ (ls : List Linked). AllZip HasBlocks ls (r.shape symbol).versions) (sym (links_stay mark)) (stands.shapes symbol).versions
 
   all_own : (n : ℕ) → cond {A = ℕ} (same_name symbol symbol) n 0 ≡ n
   all_own n = ap (λ b. cond b n 0) (same_name_self symbol)
@@ -228,4 +238,19 @@ module _ (c : Cutting) (client : ℕ) (symbol : Name) (makes : Bool) (old behind
       elim (same_name symbol other) as (λ b. same_name symbol other ≡ b → HasShape new other (cond b (shape_after c (r.library.state symbol) (r.shape symbol) (first ∷ rest)) (r.shape other))) [
         | true ↦ λ e. subst (λ n. HasShape new n (shape_after c (r.library.state symbol) (r.shape symbol) (first ∷ rest))) (same_name_is symbol other e) (own_shape makes refl made)
         | false ↦ λ e. other_shape other e
+      ] refl
+
+  -- all versions are cut as before
+  abbrev AreCut : List Linked → Type 0
+  AreCut ls = AllByRecursion (λ (l : Linked). AllByRecursion (λ n. n ≤ c.rows) (row_sizes l.index.slots)) ls
+
+  own_cut : (m : Bool) → Makes c (r.library.state symbol) (r.shape symbol) m (first_of (links new symbol)) puts.tiles first rest → AreCut (links new symbol)
+  own_cut true made = subst AreCut (sym (links_made made).0) (made.within, stands.cut symbol)
+  own_cut false made = subst AreCut (sym (links_stay made.mark)) (stands.cut symbol)
+
+  pub cut_behind : Makes c (r.library.state symbol) (r.shape symbol) makes (first_of (links new symbol)) puts.tiles first rest → IsCutBy c new
+  cut_behind made other =
+      elim (same_name symbol other) as (λ b. same_name symbol other ≡ b → AreCut (links new other)) [
+        | true ↦ λ e. subst (λ n. AreCut (links new n)) (same_name_is symbol other e) (own_cut makes made)
+        | false ↦ λ e. subst AreCut (sym (other_links other e)) (stands.cut other)
       ] refl

@@ -12,8 +12,9 @@ use Rattle.store_model.specs.Library.{State, Version, state_of, base_of, first_o
 use Rattle.store_model.specs.Links.{links}
 use Rattle.store_model.specs.Commits.{is_version}
 use Rattle.reply_model.specs.Blocks.{Cutting, Block, Part, parts_of, blocks_from, Shape, base_blocks, blocks_made}
-use Rattle.reply_model.specs.Standing.{HasShape, bare_block, part_rows, fresh_in, slices, parts_laid, IsLaid}
+use Rattle.reply_model.specs.Standing.{HasShape, IsCutBy, bare_block, part_rows, fresh_in, slices, parts_laid, IsLaid}
 use Rattle.reply_model.proofs.AloneShapes.{numbers_kept, AreMade, MakesVersion}
+use Rattle.reply_model.proofs.PartRows.{laid_within}
 use Rattle.reply_model.proofs.PartCounts.{bare, bare_part, bare_parts, fresh_bare, rows_bare, shared_parts, parts_counted, parts_made, parts_rows, base_has_rows}
 
 -- ---- blocks of the base
@@ -69,9 +70,9 @@ one_more st (changes.Discarded pieces) rest e = absurd (true≢false (sym e))
 
 -- what is laid out is what the run makes
 pub laid_makes : (c : Cutting) (s : Shape) (symbol : Name) (tiles place : ℕ) (change : Change) (rest : List Change) (old new : History) → is_version change ≡ true → HasShape old symbol s
-    → IsLaid c symbol change place old new → tiles ≡ fresh_in (parts_laid c old symbol change) * slices c (state_of old symbol) change
+    → IsCutBy c old → IsLaid c symbol change place old new → tiles ≡ fresh_in (parts_laid c old symbol change) * slices c (state_of old symbol) change
     → MakesVersion c (state_of old symbol) s (first_of (links new symbol)) tiles change rest
-laid_makes c s symbol tiles place change rest old new version shape laid counted =
+laid_makes c s symbol tiles place change rest old new version shape cut laid counted =
     let st : State = state_of old symbol in
     let made : List Part = parts_made_of c st s change in
     let are = laid_are c old symbol s change shape in
@@ -85,5 +86,6 @@ laid_makes c s symbol tiles place change rest old new version shape laid counted
       made = parts_made (next_number st) (slices c st change) 0 (next_number (after_changes st (change ∷ rest))) made (one_more st change rest version) shared;
       link = laid.link;
       link_is = laid.newest;
+      within = laid_within c symbol change place old new cut laid;
       rows = parts_rows (next_number st) (slices c st change) 0 made ∙ (sym (rows_bare made) ∙ (ap (λ ps. map part_rows ps) (sym are) ∙ sym laid.rows));
     }

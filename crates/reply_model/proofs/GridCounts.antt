@@ -174,6 +174,7 @@ grid_rows c frame slots rows columns are =
 pub write_is_laid : (c : Cutting) (symbol : Name) (whole : Frame) (at : ℤ) (place : ℕ) (old new : History) (link : Linked) → 1 ≤ c.rows → 1 ≤ c.columns → first_of (links new symbol) ≡ Some link
     → map (λ (s : Slot). s.part) link.index.slots ≡ parts (grid_of whole (grid_cutting c)) → place ≡ length old + (tiles_cut c whole + 3) → IsLaid c symbol (changes.Wrote whole at) place old new
 write_is_laid c symbol whole at place old new link rows columns newest are here = record {
+  some_rows = rows;
   tiles = here ∙ ap (λ n. length old + (n + 3)) (sym (write_counted c whole));
   link = link;
   newest = newest;

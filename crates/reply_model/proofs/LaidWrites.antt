@@ -106,7 +106,7 @@ newest_link client symbol was entry first rest before lawful version index put =
 pub write_lays_out : (c : Cutting) (s : Session) (symbol : Name) (frame : ℕ) (at : Option ℤ) (prune : Bool) (reply : Reply) (old new : History)
     → ((whole : Frame) → frame_of s frame ≡ Some (Ok whole) → is_refused reply.outcome ≡ false → IsLaid c symbol (changes.Wrote whole (stamp_of s at)) reply.place old new)
     → LaysOut c s (commands.Write symbol frame at prune) reply old new
-write_lays_out c s symbol frame at prune reply old new laid other change rest named answered_is version =
+write_lays_out c s symbol frame at prune reply old new laid cut other change rest named answered_is version =
     subst (λ n. IsLaid c n change reply.place old new) (same_name_of symbol other named) (by_frame (frame_of s frame) refl answered_is)
   where
     st : State
@@ -172,29 +172,29 @@ no_change x outcome change rest none e = not_none (sym (marks x none) ∙ ap (λ
 
 -- they leave nothing open
 pub none_lays_out : (c : Cutting) (s : Session) (command : Command) (reply : Reply) (old new : History) → makes_none command ≡ true → LaysOut c s command reply old new
-none_lays_out c s (commands.Delete a versions) reply old new is symbol change rest named answered_is version =
+none_lays_out c s (commands.Delete a versions) reply old new is cut symbol change rest named answered_is version =
     let b = buried_first (delete_answer ((library_of old).state a) versions) reply.outcome change rest (delete_buries ((library_of old).state a) versions) answered_is in
     absurd (true≢false (sym version ∙ ap is_version b.1))
-none_lays_out c s (commands.Prune a) reply old new is symbol change rest named answered_is version =
+none_lays_out c s (commands.Prune a) reply old new is cut symbol change rest named answered_is version =
     let b = buried_first (prune_answer ((library_of old).state a)) reply.outcome change rest (prune_buries ((library_of old).state a)) answered_is in
     absurd (true≢false (sym version ∙ ap is_version b.1))
-none_lays_out c s (commands.Versions a) reply old new is symbol change rest named answered_is version =
+none_lays_out c s (commands.Versions a) reply old new is cut symbol change rest named answered_is version =
     let st : State = (library_of old).state a in
     absurd (no_change (versions_answer st) reply.outcome change rest (no_marks_if (not st.has_reference) refusals.NoSuchSymbol (Ok (record { outcome = outcomes.Versions (reverse (map (version_row st) st.versions)); marks = [] })) refl) answered_is)
-none_lays_out c s (commands.Read a as_of range columns) reply old new is symbol change rest named answered_is version =
+none_lays_out c s (commands.Read a as_of range columns) reply old new is cut symbol change rest named answered_is version =
     absurd (no_change (read_version (library_of old) a as_of then λ v. ask v.frame range columns then λ f. Ok (record { outcome = outcomes.Whole v.number f; marks = [] })) reply.outcome change rest
     (no_marks_then (read_version (library_of old) a as_of) (λ v. ask v.frame range columns then λ f. Ok (record { outcome = outcomes.Whole v.number f; marks = [] }))
     (λ v. no_marks_then (ask v.frame range columns) (λ f. Ok (record { outcome = outcomes.Whole v.number f; marks = [] })) (λ f. refl))) answered_is)
-none_lays_out c s (commands.Keys a) reply old new is symbol change rest named answered_is version = absurd cc
-none_lays_out c s (commands.Reclaim a) reply old new is symbol change rest named answered_is version = absurd cc
-none_lays_out c s commands.Symbols reply old new is symbol change rest named answered_is version = absurd cc
-none_lays_out c s commands.Snapshots reply old new is symbol change rest named answered_is version = absurd cc
-none_lays_out c s (commands.Write a frame at prune) reply old new is symbol change rest named answered_is version = absurd (true≢false (sym is))
-none_lays_out c s (commands.Append a frame at prune) reply old new is symbol change rest named answered_is version = absurd (true≢false (sym is))
-none_lays_out c s (commands.Update a frame range upsert at prune) reply old new is symbol change rest named answered_is version = absurd (true≢false (sym is))
-none_lays_out c s (commands.DeleteRange a range at prune) reply old new is symbol change rest named answered_is version = absurd (true≢false (sym is))
-none_lays_out c s (commands.Finalize a append sorted at prune) reply old new is symbol change rest named answered_is version = absurd (true≢false (sym is))
-none_lays_out c s (commands.Discard a) reply old new is symbol change rest named answered_is version = absurd (true≢false (sym is))
-none_lays_out c s (commands.Stage a frame) reply old new is symbol change rest named answered_is version = absurd (true≢false (sym is))
-none_lays_out c s (commands.Snapshot name picks) reply old new is symbol change rest named answered_is version = absurd (true≢false (sym is))
-none_lays_out c s (commands.DeleteSnapshot name) reply old new is symbol change rest named answered_is version = absurd (true≢false (sym is))
+none_lays_out c s (commands.Keys a) reply old new is cut symbol change rest named answered_is version = absurd cc
+none_lays_out c s (commands.Reclaim a) reply old new is cut symbol change rest named answered_is version = absurd cc
+none_lays_out c s commands.Symbols reply old new is cut symbol change rest named answered_is version = absurd cc
+none_lays_out c s commands.Snapshots reply old new is cut symbol change rest named answered_is version = absurd cc
+none_lays_out c s (commands.Write a frame at prune) reply old new is cut symbol change rest named answered_is version = absurd (true≢false (sym is))
+none_lays_out c s (commands.Append a frame at prune) reply old new is cut symbol change rest named answered_is version = absurd (true≢false (sym is))
+none_lays_out c s (commands.Update a frame range upsert at prune) reply old new is cut symbol change rest named answered_is version = absurd (true≢false (sym is))
+none_lays_out c s (commands.DeleteRange a range at prune) reply old new is cut symbol change rest named answered_is version = absurd (true≢false (sym is))
+none_lays_out c s (commands.Finalize a append sorted at prune) reply old new is cut symbol change rest named answered_is version = absurd (true≢false (sym is))
+none_lays_out c s (commands.Discard a) reply old new is cut symbol change rest named answered_is version = absurd (true≢false (sym is))
+none_lays_out c s (commands.Stage a frame) reply old new is cut symbol change rest named answered_is version = absurd (true≢false (sym is))
+none_lays_out c s (commands.Snapshot name picks) reply old new is cut symbol change rest named answered_is version = absurd (true≢false (sym is))
+none_lays_out c s (commands.DeleteSnapshot name) reply old new is cut symbol change rest named answered_is version = absurd (true≢false (sym is))

@@ -4,12 +4,12 @@
 --     StepsTo, IsStep      a run alone gives this reply, and then stands as the history behind it
 --     GrowsAlone           a history goes on by events of one client alone
 --     is_served            the commands of which this is shown
---     row_sizes, HasBlocks      the rows of the blocks of a version, by its index
+--     row_sizes, HasBlocks, IsCutBy      the rows of the blocks of a version, by its index; none has more than a cutting's
 --     tiles_cut, parts_laid, IsLaid, LaysOut      how a commit cuts its version, which a legal reply leaves open
 --     LegalAloneSteps      each legal reply is such a step
 --     RunsTo, RunsAlone    a run alone gives these replies to a list of commands
 --     RunsGrow, RunsAreSole, BlocksAreSole      runs grow by steps, and from the empty history they are the replies of one client alone
-use Rattle.std.specs.Prelude.{◌≡◌, ℕ, suc, ◌+◌, ◌*◌, ◌<◌, if◌then◌else◌, Bool, true, false, List, [], ◌∷◌, ◌++◌, map, filter, find, length, Option, Some, None, nat_eq}
+use Rattle.std.specs.Prelude.{◌≡◌, ℕ, suc, ◌+◌, ◌*◌, ◌<◌, ◌≤◌, if◌then◌else◌, Bool, true, false, List, [], ◌∷◌, ◌++◌, map, filter, find, length, Option, Some, None, nat_eq}
 use Rattle.std.specs.Option.{option_map_or}
 use Rattle.std.specs.List.{AllByRecursion, AllZip}
 use Rattle.frame_core.specs.Frames.{Frame}
@@ -42,6 +42,10 @@ use Rattle.reply_model.specs.Sole.{Alone, step_alone, alone, sole}
 abbrev pub row_sizes : List Slot → List ℕ
 row_sizes slots = map (λ (x : Slot). x.part.rows) (filter (λ (x : Slot). nat_eq x.part.first_col 0) slots)
 
+-- no row block of a link has more rows than the cutting's
+abbrev pub IsCutBy : Cutting → History → Type 0
+IsCutBy c h = (symbol : Name) → AllByRecursion (λ (l : Linked). AllByRecursion (λ n. n ≤ c.rows) (row_sizes l.index.slots)) (links h symbol)
+
 -- a version of a shape is that of a link, and its blocks have the rows of the link's index
 abbrev pub HasBlocks : Linked → ℕ × List Block → Type 0
 HasBlocks l x = (l.row.version ≡ x.0) × (map (λ (b : Block). b.rows) x.1 ≡ row_sizes l.index.slots)
@@ -57,23 +61,24 @@ pub record HasShape (h : History) (symbol : Name) (s : Shape) : Type 0 where
   pub made : AllByRecursion (λ x. AllByRecursion (λ (b : Block). b.version < next_number (state_of h symbol)) x.1) s.versions
   pub versions : AllZip HasBlocks (links h symbol) s.versions
 
--- what a run alone tells is what the history tells: how many events there are, the symbols, the state of each, the snapshots, and the
--- shape of each symbol
-pub record StandsAs (h : History) (r : Alone) : Type 0 where
+-- what a run alone of this cutting tells is what the history tells: how many events there are, the symbols, the state of each, the
+-- snapshots, and the shape of each symbol; and all versions were cut so
+pub record StandsAs (c : Cutting) (h : History) (r : Alone) : Type 0 where
   pub events : r.events ≡ length h
   pub symbols : r.library.symbols ≡ (library_of h).symbols
   pub states : (symbol : Name) → r.library.state symbol ≡ state_of h symbol
   pub snapshots : r.library.snapshots ≡ (library_of h).snapshots
   pub shapes : (symbol : Name) → HasShape h symbol (r.shape symbol)
+  pub cut : IsCutBy c h
 
 -- there is a next reply, it is this one, and behind it the run stands as this history
-abbrev pub StepsTo : Option (Reply × Alone) → Reply → History → Type 0
-StepsTo None reply new = ⊥
-StepsTo (Some x) reply new = (reply ≡ x.0) × StandsAs new x.1
+abbrev pub StepsTo : Cutting → Option (Reply × Alone) → Reply → History → Type 0
+StepsTo c None reply new = ⊥
+StepsTo c (Some x) reply new = (reply ≡ x.0) × StandsAs c new x.1
 
 -- wherever a run stands as the old history, the command's reply is this one, and the run then stands as the new history
 abbrev pub IsStep : Cutting → Session → Command → Reply → History → History → Type 0
-IsStep c s command reply old new = (r : Alone) → StandsAs old r → StepsTo (step_alone c s command r) reply new
+IsStep c s command reply old new = (r : Alone) → StandsAs c old r → StepsTo c (step_alone c s command r) reply new
 
 -- ---- windows without events of others
 
@@ -138,14 +143,16 @@ slices c st change = option_map_or (λ (v : Version). tiles_across c (length v.f
 
 -- the commit of a version put the tiles of its new blocks, the index and the element, and its index has the rows of all parts
 pub record IsLaid (c : Cutting) (symbol : Name) (change : Change) (place : ℕ) (old new : History) : Type 0 where
+  pub some_rows : 1 ≤ c.rows
   pub tiles : place ≡ length old + (fresh_in (parts_laid c old symbol change) * slices c (state_of old symbol) change + 3)
   pub link : Linked
   pub newest : first_of (links new symbol) ≡ Some link
   pub rows : row_sizes link.index.slots ≡ map part_rows (parts_laid c old symbol change)
 
--- a command that is done lays out the version that the one-thread library answers; other commands leave nothing open
+-- where all versions were cut so, a command that is done lays out the version that the one-thread library answers; other commands leave
+-- nothing open
 abbrev pub LaysOut : Cutting → Session → Command → Reply → History → History → Type 0
-LaysOut c s command reply old new = (symbol : Name) (change : Change) (rest : List Change) → symbol_of command ≡ Some symbol
+LaysOut c s command reply old new = IsCutBy c old → (symbol : Name) (change : Change) (rest : List Change) → symbol_of command ≡ Some symbol
     → answer s (library_of old) (library_of old) (length old) command ≡ Some (record { outcome = reply.outcome; marks = change ∷ rest }) → is_version change ≡ true
     → IsLaid c symbol change reply.place old new
 
@@ -159,13 +166,13 @@ LegalAloneSteps = (old new : History) (c : Cutting) (client : Client) (command :
 -- ---- runs
 
 -- there are these replies, and behind them the run stands as this history
-abbrev pub RunsTo : Option (List Reply × Alone) → List Reply → History → Type 0
-RunsTo None replies new = ⊥
-RunsTo (Some x) replies new = (replies ≡ x.0) × StandsAs new x.1
+abbrev pub RunsTo : Cutting → Option (List Reply × Alone) → List Reply → History → Type 0
+RunsTo c None replies new = ⊥
+RunsTo c (Some x) replies new = (replies ≡ x.0) × StandsAs c new x.1
 
 -- wherever a run stands as the old history, the replies of the commands are these, and the run then stands as the new history
 abbrev pub RunsAlone : Cutting → Session → List Command → List Reply → History → History → Type 0
-RunsAlone c s list replies old new = (r : Alone) → StandsAs old r → RunsTo (alone c s list r) replies new
+RunsAlone c s list replies old new = (r : Alone) → StandsAs c old r → RunsTo c (alone c s list r) replies new
 
 -- no commands run to no replies, and one more step makes a run of one command more; so it does where run and step are known of what
 -- grows by events of this client alone
