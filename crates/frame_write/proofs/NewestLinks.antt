@@ -1,5 +1,5 @@
 -- The newest link of a history behind a commit has the index that the commit put.
-use Rattle.std.proofs.Common.{◌≡◌, ℕ, Bool, true, false, cond, List, [], ◌∷◌, ◌++◌, map, refl, ap, sym, ◌∙◌, subst, Option, Some, None, Ok}
+use Rattle.std.proofs.Common.{◌≡◌, ℕ, Bool, true, false, cond, List, [], ◌∷◌, ◌++◌, map, refl, ap, sym, ◌∙◌, subst, Option, Some, None}
 use Rattle.std.specs.Prelude.{⊤, filter, reverse, nat_eq, option_map, option_and_then}
 use Rattle.std.specs.List.{AllByRecursion}
 use Rattle.std.proofs.lemmas.Bool.{true≢false}
@@ -19,7 +19,6 @@ use Rattle.bucket_core.specs.declared.event.Event.{Event}
 use Rattle.bucket_core.specs.declared.event.Event.TheVariants as events
 use Rattle.bucket_core.specs.History.{History, Bytes, author, body_put, PutOnce}
 use Rattle.store_model.specs.declared.chain.LinkRow.{LinkRow}
-use Rattle.store_model.specs.declared.chain.ChainMark.{ChainMark}
 use Rattle.store_model.specs.declared.chain.Entry.{Entry}
 use Rattle.store_model.specs.ChainText.{entry_of}
 use Rattle.store_model.specs.Law.{IsLawful}
@@ -30,7 +29,7 @@ use Rattle.store_model.proofs.Lists.{all_weaker}
 use Rattle.store_model.proofs.Histories.{put_stays, once_before}
 use Rattle.reply_model.specs.Tries.{put_of, index_linked, Before, of_mark, of_version, IsTry}
 use Rattle.reply_model.proofs.LaidWrites.{newest_link}
-use Rattle.version_chain.specs.Traces.{own_of, Went}
+use Rattle.version_chain.specs.Traces.{Went}
 use Rattle.frame_write.specs.declared.options.Committed.{Committed}
 use Rattle.frame_write.specs.Tries.{Made, PutsIndex, DidCommit}
 use Rattle.frame_write.specs.Writes.{newest_index}
