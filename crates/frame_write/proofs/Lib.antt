@@ -18,3 +18,4 @@ pub mod LegalLemmas
 pub mod ReplyLemmas
 pub mod LegalReplies
 pub mod LegalWrites
+pub mod NewestLinks

@@ -381,6 +381,7 @@ module _ (client serial : ℕ) (symbol : Name) (version : ℕ) (frame : Frame) (
     };
     changes = changes_are ∙ (λ i. changes.Wrote frame (sym at_is i) ∷ pruned (state_of before symbol) (sym prune_is i));
     puts = ap length puts_seen_are ∙ (length-append (tile_puts (placed client symbol version serial tiles)) _ ∙ ap (λ n. n + 2) (tiles_counted ∙ ap (λ c. length (parts (grid_of frame c))) (sym cutting_is)));
+    parts_are = slot_parts_are client serial symbol version frame cutting tiles storable tiled try_fits small ∙ ap (λ c. parts (grid_of frame c)) (sym cutting_is);
   }
     where
       changes_are : arc_value plan.changes ≡ changes_on before symbol frame at prune

@@ -6,19 +6,26 @@ use Rattle.frame_core.specs.declared.raw.RawFrame.{RawFrame}
 use Rattle.frame_core.specs.declared.refusal.Refusal.{Refusal}
 use Rattle.frame_core.specs.Frames.{Frame}
 use Rattle.frame_core.specs.RawFrames.{table_of, frame_of_table}
+use Rattle.index_tree.specs.declared.index.Slot.{Slot}
+use Rattle.index_tree.specs.declared.index.Index.{Index}
 use Rattle.key_kind.specs.Names.{Name}
+use Rattle.bucket_core.specs.declared.event.Change.TheVariants as changes
 use Rattle.bucket_core.specs.History.{History}
+use Rattle.store_model.specs.Library.{first_of}
+use Rattle.store_model.specs.Links.{links}
 use Rattle.expr_clause.specs.declared.command.Command.{Command}
 use Rattle.expr_clause.specs.declared.command.Command.TheVariants as commands
 use Rattle.reply_model.specs.declared.reply.Reply.{Reply}
-use Rattle.reply_model.specs.Answering.{Session}
+use Rattle.reply_model.specs.Answering.{Session, stamp_of}
 use Rattle.reply_model.specs.Windows.{Client}
-use Rattle.reply_model.specs.Standing.{LaysOut, LegalAloneSteps}
+use Rattle.reply_model.specs.Standing.{GrowsAlone, IsLaid, LaysOut, LegalAloneSteps}
+use Rattle.reply_model.proofs.GridCounts.{write_is_laid}
+use Rattle.reply_model.proofs.LaidWrites.{link_with, write_lays_out, makes_none, none_lays_out}
 use Rattle.version_chain.specs.Traces.{GoesOn}
 use Rattle.frame_write.specs.declared.options.Options.{Options}
 use Rattle.library_api.specs.declared.settings.Settings.{Settings}
 use Rattle.library_api.specs.Steps.{IsNamed, client_of, IsLegalIn, IsLegalForAll, IsLegalWithTries, run_cutting, IsStepAlone}
-use Rattle.library_api.specs.Frames.{IsLegalWriteOf, StandsBehindPuts}
+use Rattle.library_api.specs.Frames.{IsLegalWriteOf, IsWrittenAlone, StandsBehindPuts}
 
 -- how a frame is written by a command of these settings
 abbrev pub options_of : Settings → Option ℤ → Bool → Options
@@ -51,23 +58,34 @@ module _ (frames : List RawFrame) (settings : Settings) (number limit before now
 -- a legal step without events of others is one of a run alone
 pub step_alone : LegalAloneSteps → (client : Client) (settings : Settings) (before now : ℕ) (sole : Bool) (old new : History) (command : Command) (reply : Reply)
     → GoesOn client.session.client sole old new → IsLegalIn client before now old new command reply
-    → (sole ≡ true → LaysOut (run_cutting settings.cutting) client.session command reply old) → IsStepAlone settings client sole old new command reply
-step_alone theorem client settings before now sole old new command reply grown legal lays lawful one served whole =
-    theorem old new (run_cutting settings.cutting) client command reply true (grown.lawful lawful)
-    (record { more = grown.more; is = grown.is; own = grown.alone one }) (legal true (λ rose. refl)) served whole (lays one)
+    → (GrowsAlone client.session.client old new → LaysOut (run_cutting settings.cutting) client.session command reply old new) → IsStepAlone settings client old new command reply
+step_alone theorem client settings before now sole old new command reply grown legal lays lawful own served whole =
+    theorem old new (run_cutting settings.cutting) client command reply true (grown.lawful lawful) own (legal true (λ rose. refl)) served whole (lays own)
 
 -- what is said of the one command is said of the other
-pub lays_as : (settings : Settings) (s : Session) (old : History) (command c : Command) (reply : Reply) → command ≡ c → LaysOut (run_cutting settings.cutting) s c reply old → LaysOut (run_cutting settings.cutting) s command reply old
-lays_as settings s old command c reply is lays = subst (λ c. LaysOut (run_cutting settings.cutting) s c reply old) (sym is) lays
+lays_as : (settings : Settings) (s : Session) (old new : History) (command c : Command) (reply : Reply) → command ≡ c → LaysOut (run_cutting settings.cutting) s c reply old new → LaysOut (run_cutting settings.cutting) s command reply old new
+lays_as settings s old new command c reply is lays = subst (λ c. LaysOut (run_cutting settings.cutting) s c reply old new) (sym is) lays
 
--- where the write stands
-pub write_lays : (frames : List RawFrame) (settings : Settings) (number limit : ℕ) (old : History) (command : Command) (reply : Reply) (symbol : Name) (n : ℕ) (at : Option ℤ) (prune : Bool) (options : Options) (raw : RawFrame)
+-- a command that makes no version leaves nothing open
+pub none_lays : (settings : Settings) (s : Session) (old new : History) (command c : Command) (reply : Reply) → command ≡ c → makes_none c ≡ true → LaysOut (run_cutting settings.cutting) s command reply old new
+none_lays settings s old new command c reply is none = lays_as settings s old new command c reply is (none_lays_out (run_cutting settings.cutting) s c reply old new none)
+
+-- how the write is laid out
+pub write_lays : (frames : List RawFrame) (settings : Settings) (number limit : ℕ) (old new : History) (command : Command) (reply : Reply) (symbol : Name) (n : ℕ) (at : Option ℤ) (prune : Bool) (options : Options) (raw : RawFrame)
     → command ≡ commands.Write symbol n at prune → options ≡ options_of settings at prune → IsNamed (length frames) command → raw ≡ slice_index_or frames n raw
-    → StandsBehindPuts (table_of raw) options.cutting old reply → LaysOut (run_cutting settings.cutting) (client_of frames settings number limit).session command reply old
-write_lays frames settings number limit old command reply symbol n at prune options raw is chosen named got stands =
-    lays_as settings (client_of frames settings number limit).session old command (commands.Write symbol n at prune) reply is (λ whole brought went.
-    subst (λ o. StandsBehindPuts (table_of raw) o.cutting old reply) chosen stands whole
-    (made whole (frame_of_table (table_of raw)) (sym (ap (option_map frame_of_table) (frame_there frames n raw (subst (IsNamed (length frames)) is named) got)) ∙ brought)) went)
+    → StandsBehindPuts symbol (table_of raw) options.cutting old new reply → LaysOut (run_cutting settings.cutting) (client_of frames settings number limit).session command reply old new
+write_lays frames settings number limit old new command reply symbol n at prune options raw is chosen named got stands =
+    lays_as settings (client_of frames settings number limit).session old new command (commands.Write symbol n at prune) reply is
+    (write_lays_out (run_cutting settings.cutting) (client_of frames settings number limit).session symbol n at prune reply old new (λ whole brought went.
+      of_grid whole (subst (λ o. StandsBehindPuts symbol (table_of raw) o.cutting old new reply) chosen stands whole
+      (made whole (frame_of_table (table_of raw)) (sym (ap (option_map frame_of_table) (frame_there frames n raw (subst (IsNamed (length frames)) is named) got)) ∙ brought)) went)))
   where
     made : (whole : Frame) (r : Result Frame Refusal) → Some r ≡ Some (Ok whole) → r ≡ Ok whole
     made whole r e = cc
+
+    of_grid : (whole : Frame) → IsWrittenAlone symbol whole settings.cutting old new reply.place
+        → IsLaid (run_cutting settings.cutting) symbol (changes.Wrote whole (stamp_of (client_of frames settings number limit).session at)) reply.place old new
+    of_grid whole w =
+        let newest = link_with (first_of (links new symbol)) w.linked.index w.linked.newest in
+        write_is_laid (run_cutting settings.cutting) symbol whole (stamp_of (client_of frames settings number limit).session at) reply.place old new newest.0 w.linked.cutting_is.some_rows w.linked.cutting_is.some_cols newest.1
+        (ap (λ (i : Index). map (λ (s : Slot). s.part) i.slots) newest.2 ∙ w.linked.parts_are) w.stands

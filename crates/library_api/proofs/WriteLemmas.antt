@@ -19,12 +19,12 @@ use Rattle.reply_model.specs.declared.outcome.Outcome.TheVariants as outcomes
 use Rattle.reply_model.specs.Answering.{Session, Answer, ◌then◌, answered, committed, stamp_of}
 use Rattle.reply_model.specs.Legal.{IsLegalOutcome}
 use Rattle.frame_write.specs.declared.options.Committed.{Committed}
-use Rattle.frame_write.specs.Writes.{StandsAlone, reply_to, IsLegalWrite}
+use Rattle.frame_write.specs.Writes.{StandsAlone, IsGridLinked, reply_to, IsLegalWrite}
 use Rattle.library_api.specs.Steps.{plain_reply, reply_with}
 use Rattle.segment_cut.specs.Cuttings.{Cutting}
 use Rattle.segment_cut.specs.Grids.{parts, grid_of}
 use Rattle.std.proofs.lemmas.Bool.{true≢false}
-use Rattle.library_api.specs.Frames.{BringsTable, IsLegalWriteOf, StandsBehindPuts}
+use Rattle.library_api.specs.Frames.{BringsTable, IsLegalWriteOf, IsWrittenAlone, StandsBehindPuts}
 use Rattle.library_api.proofs.NoEvents.{served_has_none, legal_without_events}
 
 -- ---- what a frame is refused for
@@ -123,11 +123,10 @@ module _ (limit number tries : ℕ) (symbol : Name) (table : Table) (at : ℤ) (
 same_frame : (a b : Frame) → ◌≡◌ {A = Result Frame Refusal} (Ok a) (Ok b) → a ≡ b
 same_frame a b e = cc
 
-pub refused_stands : (table : Table) (cutting : Cutting) (old : History) (place : ℕ) (why : Refusal) → StandsBehindPuts table cutting old (plain_reply place (outcomes.Refused why))
-refused_stands table cutting old place why whole is done = absurd (true≢false done)
+pub refused_stands : (symbol : Name) (table : Table) (cutting : Cutting) (old new : History) (place : ℕ) (why : Refusal) → StandsBehindPuts symbol table cutting old new (plain_reply place (outcomes.Refused why))
+refused_stands symbol table cutting old new place why whole is done = absurd (true≢false done)
 
-pub done_stands : (table : Table) (cutting : Cutting) (old : History) (frame : Frame) (done : Committed) (commits : List ℕ) → frame_of_table table ≡ Ok frame
-    → StandsAlone (length (parts (grid_of frame cutting))) old done → StandsBehindPuts table cutting old (reply_with done.place commits (outcomes.Committed done.version))
-done_stands table cutting old frame done commits made stands whole is went =
-    let tiles : length (parts (grid_of frame cutting)) ≡ length (parts (grid_of whole cutting)) = ap (λ f. length (parts (grid_of f cutting))) (same_frame frame whole (sym made ∙ is)) in
-    omega (arith, stands, tiles)
+pub done_stands : (symbol : Name) (table : Table) (cutting : Cutting) (old new : History) (frame : Frame) (done : Committed) (commits : List ℕ) → frame_of_table table ≡ Ok frame
+    → StandsAlone (length (parts (grid_of frame cutting))) old done → IsGridLinked new symbol frame cutting → StandsBehindPuts symbol table cutting old new (reply_with done.place commits (outcomes.Committed done.version))
+done_stands symbol table cutting old new frame done commits made stands linked whole is went =
+    subst (λ f. IsWrittenAlone symbol f cutting old new done.place) (same_frame frame whole (sym made ∙ is)) (record { stands = omega (arith, stands); linked = linked })

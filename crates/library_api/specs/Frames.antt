@@ -1,7 +1,7 @@
 -- What the steps that bring a frame answer.
 --     BringsTable         a session that brings raw columns as one of its frames, with its client, tries and stamp
 --     IsLegalWriteOf      the reply of a write of raw columns is legal for each such session
---     StandsBehindPuts    where the commit of a write stands if nobody else makes events
+--     IsWrittenAlone, StandsBehindPuts      the commit of a write, if nobody else makes events
 use Rattle.std.specs.Prelude.{◌≡◌, ℕ, ◌+◌, ℤ, Bool, false, length, slice_get, Option, Some, Ok}
 use Rattle.frame_core.specs.Frames.{Frame}
 use Rattle.frame_core.specs.RawFrames.{Table, frame_of_table}
@@ -13,6 +13,7 @@ use Rattle.expr_clause.specs.declared.command.Command.TheVariants as commands
 use Rattle.reply_model.specs.declared.reply.Reply.{Reply}
 use Rattle.reply_model.specs.Answering.{Session, stamp_of}
 use Rattle.reply_model.specs.Windows.{is_refused}
+use Rattle.frame_write.specs.Writes.{IsGridLinked}
 use Rattle.library_api.specs.Steps.{IsLegalIn}
 
 -- a session of this client, with so many tries, whose frame n is this table; a command of it that asks for this stamp has that one
@@ -27,7 +28,13 @@ abbrev pub IsLegalWriteOf : ℕ → ℕ → ℕ → Name → Table → ℤ → B
 IsLegalWriteOf limit client tries symbol table at prune before now old new reply =
     (s : Session) (n : ℕ) (asked : Option ℤ) → BringsTable s client tries n table asked at → IsLegalIn (record { session = s; limit = limit }) before now old new (commands.Write symbol n asked prune) reply
 
--- a write that is not refused stands behind its puts: the tiles of the table's frame, the index and the element
-abbrev pub StandsBehindPuts : Table → Cutting → History → Reply → Type 0
-StandsBehindPuts table cutting old reply =
-    (whole : Frame) → frame_of_table table ≡ Ok whole → is_refused reply.outcome ≡ false → reply.place ≡ length old + (length (parts (grid_of whole cutting)) + 3)
+-- a commit of the frame stands at this place behind its puts: the frame's tiles, the index and the element; and the symbol's newest link has
+-- the tiles of the frame's grid
+pub record IsWrittenAlone (symbol : Name) (whole : Frame) (cutting : Cutting) (old new : History) (place : ℕ) : Type 0 where
+  pub stands : place ≡ length old + (length (parts (grid_of whole cutting)) + 3)
+  pub linked : IsGridLinked new symbol whole cutting
+
+-- a write that is not refused makes such a commit of the table's frame
+abbrev pub StandsBehindPuts : Name → Table → Cutting → History → History → Reply → Type 0
+StandsBehindPuts symbol table cutting old new reply =
+    (whole : Frame) → frame_of_table table ≡ Ok whole → is_refused reply.outcome ≡ false → IsWrittenAlone symbol whole cutting old new reply.place

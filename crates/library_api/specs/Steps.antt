@@ -23,7 +23,7 @@ use Rattle.reply_model.specs.declared.reply.Reply.{Reply}
 use Rattle.reply_model.specs.Answering.{Session}
 use Rattle.reply_model.specs.Windows.{Client, is_cut}
 use Rattle.reply_model.specs.Blocks.{Cutting}
-use Rattle.reply_model.specs.Standing.{is_served, IsStep}
+use Rattle.reply_model.specs.Standing.{GrowsAlone, is_served, IsStep}
 use Rattle.reply_model.specs.Legal.{IsLegalReply}
 use Rattle.library_api.specs.declared.settings.Settings.{Settings}
 
@@ -93,6 +93,6 @@ run_cutting c = record { rows = c.rows; columns = c.cols }
 
 -- behind a lawful history, and where nobody else makes events, the reply is the one that a run of this client alone gives, and the run then
 -- stands as the new history: for the commands of which this is shown, want of memory, failures and a full store aside
-abbrev pub IsStepAlone : Settings → Client → Bool → History → History → Command → Reply → Type 0
-IsStepAlone settings client sole old new command reply =
-    IsLawful old → sole ≡ true → is_served command ≡ true → is_cut reply.outcome ≡ false → IsStep (run_cutting settings.cutting) client.session command reply old new
+abbrev pub IsStepAlone : Settings → Client → History → History → Command → Reply → Type 0
+IsStepAlone settings client old new command reply =
+    IsLawful old → GrowsAlone client.session.client old new → is_served command ≡ true → is_cut reply.outcome ≡ false → IsStep (run_cutting settings.cutting) client.session command reply old new

@@ -3,7 +3,7 @@
 ghost use Rattle.std.specs.Prelude.{◌≡◌, true, length, option_copied};
 ghost use Rattle.bucket_core.specs.Calls.{IsSteady};
 ghost use Rattle.version_chain.specs.Traces.{GoesOn};
-ghost use Rattle.reply_model.specs.Standing.{LaysOut};
+ghost use Rattle.reply_model.specs.Standing.{GrowsAlone, LaysOut};
 ghost use Rattle.library_api.specs.Libraries.{AreSettings};
 ghost use Rattle.library_api.specs.Steps.{is_carried_out, IsNamed, client_of, IsLegalIn, run_cutting};
 
@@ -37,8 +37,8 @@ pub(crate) fn perform<R: Wait, B: Bucket<StoreLaw>>(
     ensures steady { IsSteady B.number B.limit B.faults B.sole bucket.old bucket.new }
     ensures grown { GoesOn (B.number bucket.old) (B.sole bucket.old) (B.seen bucket.old) (B.seen bucket.new) }
     ensures legal { IsLegalIn (client_of frames.now settings (B.number bucket.old) (B.limit bucket.old)) (B.faults bucket.old) (B.faults bucket.new) (B.seen bucket.old) (B.seen bucket.new) command.now result }
-    // A client that is alone knows the place of a write.
-    ensures lays { B.sole bucket.old ≡ true → LaysOut (run_cutting settings.cutting) (client_of frames.now settings (B.number bucket.old) (B.limit bucket.old)).session command.now result (B.seen bucket.old) }
+    // Where nobody else makes events, it is known how a write is laid out.
+    ensures lays { GrowsAlone (B.number bucket.old) (B.seen bucket.old) (B.seen bucket.new) → LaysOut (run_cutting settings.cutting) (client_of frames.now settings (B.number bucket.old) (B.limit bucket.old)).session command.now result (B.seen bucket.old) (B.seen bucket.new) }
 {
     match command {
         Command::Write {

@@ -1,9 +1,10 @@
 //! A write: a frame of the session as a new version.
 
-ghost use Rattle.std.specs.Prelude.{◌≡◌, ◌≤◌, true};
+ghost use Rattle.std.specs.Prelude.{◌≤◌};
 ghost use Rattle.frame_core.specs.RawFrames.{table_of};
 ghost use Rattle.bucket_core.specs.Calls.{IsSteady};
 ghost use Rattle.version_chain.specs.Traces.{GoesOn};
+ghost use Rattle.reply_model.specs.Standing.{GrowsAlone};
 ghost use Rattle.library_api.specs.Frames.{IsLegalWriteOf, StandsBehindPuts};
 
 use crate::commit_place::CommitPlace;
@@ -33,8 +34,8 @@ pub(crate) fn write<R: Wait, B: Bucket<StoreLaw>>(
     ensures steady { IsSteady B.number B.limit B.faults B.sole bucket.old bucket.new }
     ensures grown { GoesOn (B.number bucket.old) (B.sole bucket.old) (B.seen bucket.old) (B.seen bucket.new) }
     ensures legal { IsLegalWriteOf (B.limit bucket.old) (B.number bucket.old) options.now.tries symbol.now (table_of raw.now) options.now.at options.now.prune (B.faults bucket.old) (B.faults bucket.new) (B.seen bucket.old) (B.seen bucket.new) result }
-    // A client that is alone knows the place.
-    ensures lays { B.sole bucket.old ≡ true → StandsBehindPuts (table_of raw.now) options.now.cutting (B.seen bucket.old) result }
+    // Where nobody else makes events, the place and the tiles are known.
+    ensures lays { GrowsAlone (B.number bucket.old) (B.seen bucket.old) (B.seen bucket.new) → StandsBehindPuts symbol.now (table_of raw.now) options.now.cutting (B.seen bucket.old) (B.seen bucket.new) result }
 {
     let place = bucket.place();
     let frame = match Frame::make(alloc, raw) {

@@ -61,21 +61,22 @@ returns-clause-legal g c =
     (write_tried_legal limit number options.tries c.args.symbol.now (table_of c.args.raw.now) options.at options.prune before now old new c.in-Ok.frame (Err c.in-Err-write_link.refused) c.in-Ok.ensures.frame c.in-Err-write_link.ensures.legal)
 
 pub returns-in-Err-clause-lays : goal.returns-in-Err-clause-lays
-returns-in-Err-clause-lays g c one =
-    subst (StandsBehindPuts (table_of c.args.raw.now) c.args.options.now.cutting (g.B.Bucket.seen c.args.bucket.now)) (sym c.refusal.ensures)
-    (refused_stands (table_of c.args.raw.now) c.args.options.now.cutting (g.B.Bucket.seen c.args.bucket.now) c.place-place.result c.in-Err.why)
+returns-in-Err-clause-lays g c grows =
+    subst (StandsBehindPuts c.args.symbol.now (table_of c.args.raw.now) c.args.options.now.cutting (g.B.Bucket.seen c.args.bucket.now) (g.B.Bucket.seen c.args.bucket.now)) (sym c.refusal.ensures)
+    (refused_stands c.args.symbol.now (table_of c.args.raw.now) c.args.options.now.cutting (g.B.Bucket.seen c.args.bucket.now) (g.B.Bucket.seen c.args.bucket.now) c.place-place.result c.in-Err.why)
 
 pub returns-in_default-clause-lays : goal.returns-in_default-clause-lays
-returns-in_default-clause-lays g c one =
-    subst (StandsBehindPuts (table_of c.args.raw.now) c.args.options.now.cutting (g.B.Bucket.seen c.args.bucket.now)) (sym c.refusal-in_default.ensures)
-    (refused_stands (table_of c.args.raw.now) c.args.options.now.cutting (g.B.Bucket.seen c.args.bucket.now) c.place-place.result refusals.NoMemory)
+returns-in_default-clause-lays g c grows =
+    subst (StandsBehindPuts c.args.symbol.now (table_of c.args.raw.now) c.args.options.now.cutting (g.B.Bucket.seen c.args.bucket.now) (g.B.Bucket.seen c.args.bucket.now)) (sym c.refusal-in_default.ensures)
+    (refused_stands c.args.symbol.now (table_of c.args.raw.now) c.args.options.now.cutting (g.B.Bucket.seen c.args.bucket.now) (g.B.Bucket.seen c.args.bucket.now) c.place-place.result refusals.NoMemory)
 
 pub returns-in-Ok-write_link-clause-lays : goal.returns-in-Ok-write_link-clause-lays
-returns-in-Ok-write_link-clause-lays g c one =
-    subst (StandsBehindPuts (table_of c.args.raw.now) c.args.options.now.cutting (g.B.Bucket.seen c.args.bucket.now)) (sym c.with_commits.ensures)
-    (done_stands (table_of c.args.raw.now) c.args.options.now.cutting (g.B.Bucket.seen c.args.bucket.now) c.in-Ok.frame c.in-Ok-write_link.done c.named.result c.in-Ok.ensures.frame (c.in-Ok-write_link.ensures.alone one))
+returns-in-Ok-write_link-clause-lays g c grows =
+    subst (StandsBehindPuts c.args.symbol.now (table_of c.args.raw.now) c.args.options.now.cutting (g.B.Bucket.seen c.args.bucket.now) (g.B.Bucket.seen c.write_link.new.bucket)) (sym c.with_commits.ensures)
+    (done_stands c.args.symbol.now (table_of c.args.raw.now) c.args.options.now.cutting (g.B.Bucket.seen c.args.bucket.now) (g.B.Bucket.seen c.write_link.new.bucket) c.in-Ok.frame c.in-Ok-write_link.done c.named.result c.in-Ok.ensures.frame
+    (c.in-Ok-write_link.ensures.alone grows) c.in-Ok-write_link.ensures.linked)
 
 pub returns-clause-lays : goal.returns-clause-lays
-returns-clause-lays g c one =
-    subst (StandsBehindPuts (table_of c.args.raw.now) c.args.options.now.cutting (g.B.Bucket.seen c.args.bucket.now)) (sym c.refusal-in-Err-write_link.ensures)
-    (refused_stands (table_of c.args.raw.now) c.args.options.now.cutting (g.B.Bucket.seen c.args.bucket.now) c.in-Err-write_link.refused.place c.in-Err-write_link.refused.why)
+returns-clause-lays g c grows =
+    subst (StandsBehindPuts c.args.symbol.now (table_of c.args.raw.now) c.args.options.now.cutting (g.B.Bucket.seen c.args.bucket.now) (g.B.Bucket.seen c.write_link.new.bucket)) (sym c.refusal-in-Err-write_link.ensures)
+    (refused_stands c.args.symbol.now (table_of c.args.raw.now) c.args.options.now.cutting (g.B.Bucket.seen c.args.bucket.now) (g.B.Bucket.seen c.write_link.new.bucket) c.in-Err-write_link.refused.place c.in-Err-write_link.refused.why)
