@@ -1,4 +1,5 @@
 ghost use Rattle.std.specs.Prelude.{◌≡◌, IfOk, IfSome};
+ghost use Rattle.index_tree.specs.IndexRules.{IsIndex};
 ghost use Rattle.frame_core.specs.Limits.{IsStorable};
 ghost use Rattle.bucket_core.specs.History.{History};
 ghost use Rattle.store_model.specs.Law.{IsLawful};
@@ -6,16 +7,20 @@ ghost use Rattle.store_model.specs.Commits.{Rising};
 ghost use Rattle.version_chain.specs.States.{IsStateOf};
 ghost use Rattle.frame_write.specs.Placing.{AreTilesOf, IsElementKey, live_of};
 ghost use Rattle.frame_write.specs.WritePlans.{IsWritePlan};
+ghost use Rattle.frame_write.specs.Links.{FitsPlan};
+ghost use Rattle.frame_write.specs.Versions.{index_with, IsVersionPlan, MayPlan, IsPlanOf};
 
 use crate::elements::{mark_of, place_element};
-use crate::numbers::{buried_by, changes_of, next_version};
+use crate::laying::{Layout, lay_out, place_slots};
+use crate::numbers::{buried_by, changes_of, commit_changes, copy_change, next_version};
 use crate::options::Options;
+use crate::pieces::LinkPlan;
 use crate::placing::{Placed, place_index, place_tiles};
 use crate::puts::Prepared;
 use crate::tiles::Tile;
 use base_types::{Items, Keep, NoMemory};
-use bucket_core::{Body, Changes};
-use frame_core::Frame;
+use bucket_core::{Body, Change, Changes};
+use frame_core::{Frame, Schema};
 use key_kind::{Key, Symbol};
 use std::alloc::Global;
 use std::sync::Arc;
@@ -93,6 +98,102 @@ pub(crate) fn plan_write(
         mark: mark_of(alloc, &entry)?,
         entry,
         changes: changes_of(alloc, frame, at, buried)?,
+        version,
+    })
+}
+
+/// The plan of a try to make a version in pieces on the symbol's state, for the client's puts from this serial on.
+pub(crate) fn plan_link(
+    alloc: Global,
+    client: u32,
+    serial: u64,
+    symbol: &Symbol,
+    state: &SymbolState,
+    link: &LinkPlan,
+    options: &Options,
+) -> Result<Plan, NoMemory>
+    requires was { IfSome state.now.was (IsElementKey symbol.now) }
+    requires rising { Rising (live_of state.now) }
+    requires fits { (before : History) × MayPlan client serial before symbol.now state.now × FitsPlan before symbol.now options.now.at link.now }
+    ensures { IfOk result (λ made. (before : History) → MayPlan client serial before symbol.now state.now → FitsPlan before symbol.now options.now.at link.now → IsPlanOf client serial before symbol.now options.now link.now.change link.now.pieces made) }
+{
+    let version = next_version(state)?;
+    let layout = lay_out(
+        alloc,
+        client,
+        serial,
+        symbol,
+        version,
+        link.pieces.items(),
+        options.cutting,
+    )?;
+    let change = copy_change(alloc, &link.change)?;
+    plan_version(
+        alloc,
+        client,
+        symbol,
+        state,
+        version,
+        layout,
+        &link.schema,
+        change,
+        options,
+    )
+}
+
+/// The plan of a version with these slots: the index and the element stand behind the new tiles.
+fn plan_version(
+    alloc: Global,
+    client: u32,
+    symbol: &Symbol,
+    state: &SymbolState,
+    version: u64,
+    layout: Layout,
+    schema: &Schema,
+    change: Change,
+    options: &Options,
+) -> Result<Plan, NoMemory>
+    requires index { IsIndex (index_with schema.now layout) }
+    requires was { IfSome state.now.was (IsElementKey symbol.now) }
+    requires rising { Rising (live_of state.now) }
+    ensures { IfOk result (IsVersionPlan client version symbol.now state.now layout schema.now change options.now) }
+{
+    let Layout {
+        slots,
+        mut puts,
+        rows,
+        next,
+    } = layout;
+    let Some(last) = next.checked_add(1) else {
+        return Err(NoMemory);
+    };
+    let index = place_slots(alloc, client, next, symbol, version, schema, rows, slots)?;
+    let row = LinkRow {
+        version,
+        stamp: options.stamp(),
+        rows,
+        index: index.key.copy(alloc)?,
+    };
+    puts.push(index)?;
+    let buried = buried_by(alloc, state, options.prune)?;
+    let was = copied(alloc, &state.was)?;
+    let element = place_element(
+        alloc,
+        client,
+        last,
+        symbol,
+        copied(alloc, &was)?,
+        row,
+        buried.items(),
+    )?;
+    let entry = element.key.copy(alloc)?;
+    puts.push(element)?;
+    Ok(Plan {
+        puts,
+        was,
+        mark: mark_of(alloc, &entry)?,
+        entry,
+        changes: commit_changes(alloc, change, buried)?,
         version,
     })
 }
