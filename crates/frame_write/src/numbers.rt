@@ -110,6 +110,6 @@ pub(crate) fn copy_change(alloc: Global, change: &Change) -> Result<Change, NoMe
             range: *range,
             at: *at,
         }),
-        _ => Err(NoMemory),
+        _ => unreachable!(),
     }
 }
