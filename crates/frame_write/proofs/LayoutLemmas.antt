@@ -14,6 +14,7 @@ use Rattle.frame_write.specs.Pieces.{begin_of, end_of, size_of, moved}
 use Rattle.frame_write.specs.Plans.{puts_seen}
 use Rattle.frame_write.specs.Laying.{Laid, slots_laid, puts_laid, piece_rows, rows_in, IsTiledPiece, laid_piece, laid_pieces, tiles_in}
 use Rattle.frame_write.specs.Layouts.{AddsPiece, IsLaid}
+use Rattle.frame_write.specs.SlotKeys.{last_of}
 use Rattle.frame_write.proofs.ListLemmas.{map_append}
 use Rattle.frame_write.proofs.LaidPuts.{puts_append, shared_puts, run_slots}
 
@@ -100,10 +101,23 @@ end_at (x ∷ y ∷ more) s e =
     let place : length (x ∷ y ∷ more) - 1 ≡ suc (length (y ∷ more) - 1) = omega arith in
     end_at (y ∷ more) s (e ∙ ap (slice_get (x ∷ y ∷ more)) place)
 
-pub end_small : {from : ℕ} (run : List Slot) → AllByRecursion (λ (s : Slot). (from ≤ s.part.first_row) × (s.part.first_row + s.part.rows < 2 ^ 32)) run → end_of run < 2 ^ 32
-end_small [] all = omega arith
-end_small (s ∷ []) all = all.0.1
-end_small (s ∷ t ∷ more) all = end_small (t ∷ more) all.1
+-- so the stamp of its last row is the run's
+pub last_at : (run : List Slot) (s : Slot) → Some s ≡ slice_get run (length run - 1) → s.last ≡ last_of run
+last_at [] s e = absurd cc
+last_at (x ∷ []) s e =
+    let place : length (x ∷ []) - 1 ≡ 0 = omega arith in
+    let found : Some s ≡ Some x = e ∙ ap (slice_get (x ∷ [])) place in
+    let same : s ≡ x = cc in
+    ap (λ (t : Slot). t.last) same
+last_at (x ∷ y ∷ more) s e =
+    let place : length (x ∷ y ∷ more) - 1 ≡ suc (length (y ∷ more) - 1) = omega arith in
+    last_at (y ∷ more) s (e ∙ ap (slice_get (x ∷ y ∷ more)) place)
+
+-- its rows end below the bound of each
+pub end_small : (from : ℕ) (run : List Slot) → AllByRecursion (λ (s : Slot). (from ≤ s.part.first_row) × (s.part.first_row + s.part.rows < 2 ^ 32)) run → end_of run < 2 ^ 32
+end_small from [] all = omega arith
+end_small from (s ∷ []) all = all.0.1
+end_small from (s ∷ t ∷ more) all = end_small from (t ∷ more) all.1
 
 -- a moved run is laid out
 pub shared_adds : {A E : Type 0} (client : ℕ) (symbol : Name) (version : ℕ) (cutting : Cutting) (p : Piece) (run : List Slot) (old new : Layout) (r : Result A E) → p ≡ pieces.Shared run
