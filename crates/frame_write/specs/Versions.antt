@@ -1,9 +1,10 @@
 -- The plan of a new version.
 --     row_of, index_with      the row of the version's link, and its index
 --     IsVersionPlan       how a plan is made of slots that are laid out, over a walked state
+--     AddsElement         a plan that puts an element behind other puts
 --     MayPlan             the walked state is the symbol's, and the next serials are free
 --     IsPlanOf            the plan of a change in pieces
-use Rattle.std.specs.Prelude.{◌≡◌, ◌<◌, ◌≤◌, ◌^◌, ◌+◌, ℕ, suc, List, [], ◌∷◌, ◌++◌, map, length, Ok, if◌then◌else◌}
+use Rattle.std.specs.Prelude.{◌≡◌, ◌<◌, ◌≤◌, ◌^◌, ◌+◌, ℕ, suc, Bool, List, [], ◌∷◌, ◌++◌, map, length, Ok, if◌then◌else◌}
 use Rattle.std.specs.Arc.{arc_value}
 use Rattle.frame_core.specs.Schemas.{Schema}
 use Rattle.index_tree.specs.declared.index.Index.{Index}
@@ -24,6 +25,7 @@ use Rattle.frame_write.specs.declared.laying.Layout.{Layout}
 use Rattle.frame_write.specs.declared.options.Options.{Options}
 use Rattle.frame_write.specs.declared.pieces.Piece.{Piece}
 use Rattle.frame_write.specs.declared.plan.Plan.{Plan}
+use Rattle.frame_write.specs.declared.puts.Prepared.{Prepared}
 use Rattle.frame_write.specs.Pieces.{laid, new_tiles}
 use Rattle.frame_write.specs.Placing.{live_of, element_key}
 use Rattle.frame_write.specs.Plans.{IsPlan, puts_seen}
@@ -53,6 +55,19 @@ pub record IsVersionPlan (client version : ℕ) (symbol : Name) (state : SymbolS
   pub changes : arc_value plan.changes ≡ change ∷ removed buried
   pub is_name : IsName symbol
   pub serials_fit : suc layout.next < 2 ^ 64
+
+-- the plan puts these and behind them an element, which stands on the walked reference, has this link and buries what is to be buried
+pub record AddsElement (client serial : ℕ) (symbol : Name) (state : SymbolState) (row : LinkRow) (puts : List Prepared) (change : Change) (prune : Bool) (plan : Plan) : Type 0 where
+  pub element : Bytes
+  pub buried : List ℕ
+  pub buried_are : buried ≡ (if prune then live_of state else [])
+  pub puts_are : puts_seen plan.puts ≡ puts_seen puts ++ (element_key client symbol serial, element) ∷ []
+  pub spelled : entry_of element ≡ Ok (record { prev = state.was; changes = marks.Link row ∷ map marks.Tomb buried })
+  pub was : plan.was ≡ state.was
+  pub number : plan.version ≡ row.version
+  pub entry : plan.entry ≡ element_key client symbol serial
+  pub mark : arc_value plan.mark ≡ key_text plan.entry
+  pub changes : arc_value plan.changes ≡ change ∷ removed buried
 
 -- the walked state is the symbol's in the lawful history, and the client's next serial is no lower than it was there
 pub record MayPlan (client serial : ℕ) (before : History) (symbol : Name) (state : SymbolState) : Type 0 where

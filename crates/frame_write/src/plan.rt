@@ -1,14 +1,14 @@
 ghost use Rattle.std.specs.Prelude.{◌≡◌, IfOk, IfSome};
-ghost use Rattle.index_tree.specs.IndexRules.{IsIndex};
 ghost use Rattle.frame_core.specs.Limits.{IsStorable};
 ghost use Rattle.bucket_core.specs.History.{History};
 ghost use Rattle.store_model.specs.Law.{IsLawful};
 ghost use Rattle.store_model.specs.Commits.{Rising};
 ghost use Rattle.version_chain.specs.States.{IsStateOf};
+ghost use Rattle.version_chain.specs.Entries.{IsLink};
 ghost use Rattle.frame_write.specs.Placing.{AreTilesOf, IsElementKey, live_of};
 ghost use Rattle.frame_write.specs.WritePlans.{IsWritePlan};
 ghost use Rattle.frame_write.specs.Links.{FitsPlan};
-ghost use Rattle.frame_write.specs.Versions.{index_with, IsVersionPlan, MayPlan, IsPlanOf};
+ghost use Rattle.frame_write.specs.Versions.{AddsElement, MayPlan, IsPlanOf};
 
 use crate::elements::{mark_of, place_element};
 use crate::laying::{Layout, lay_out, place_slots};
@@ -20,7 +20,7 @@ use crate::puts::Prepared;
 use crate::tiles::Tile;
 use base_types::{Items, Keep, NoMemory};
 use bucket_core::{Body, Change, Changes};
-use frame_core::{Frame, Schema};
+use frame_core::Frame;
 use key_kind::{Key, Symbol};
 use std::alloc::Global;
 use std::sync::Arc;
@@ -118,7 +118,12 @@ pub(crate) fn plan_link(
     ensures { IfOk result (λ made. (before : History) → MayPlan client serial before symbol.now state.now → FitsPlan before symbol.now options.now.at link.now → IsPlanOf client serial before symbol.now options.now link.now.change link.now.pieces made) }
 {
     let version = next_version(state)?;
-    let layout = lay_out(
+    let Layout {
+        slots,
+        mut puts,
+        rows,
+        next,
+    } = lay_out(
         alloc,
         client,
         serial,
@@ -127,47 +132,10 @@ pub(crate) fn plan_link(
         link.pieces.items(),
         options.cutting,
     )?;
-    let change = copy_change(alloc, &link.change)?;
-    plan_version(
-        alloc,
-        client,
-        symbol,
-        state,
-        version,
-        layout,
-        &link.schema,
-        change,
-        options,
-    )
-}
-
-/// The plan of a version with these slots: the index and the element stand behind the new tiles.
-fn plan_version(
-    alloc: Global,
-    client: u32,
-    symbol: &Symbol,
-    state: &SymbolState,
-    version: u64,
-    layout: Layout,
-    schema: &Schema,
-    change: Change,
-    options: &Options,
-) -> Result<Plan, NoMemory>
-    requires index { IsIndex (index_with schema.now layout) }
-    requires was { IfSome state.now.was (IsElementKey symbol.now) }
-    requires rising { Rising (live_of state.now) }
-    ensures { IfOk result (IsVersionPlan client version symbol.now state.now layout schema.now change options.now) }
-{
-    let Layout {
-        slots,
-        mut puts,
-        rows,
-        next,
-    } = layout;
     let Some(last) = next.checked_add(1) else {
         return Err(NoMemory);
     };
-    let index = place_slots(alloc, client, next, symbol, version, schema, rows, slots)?;
+    let index = place_slots(alloc, client, next, symbol, version, &link.schema, rows, slots)?;
     let row = LinkRow {
         version,
         stamp: options.stamp(),
@@ -175,12 +143,34 @@ fn plan_version(
         index: index.key.copy(alloc)?,
     };
     puts.push(index)?;
-    let buried = buried_by(alloc, state, options.prune)?;
+    let change = copy_change(alloc, &link.change)?;
+    plan_element(alloc, client, last, symbol, state, row, puts, change, options.prune)
+}
+
+/// The plan that puts these, and behind them the element of this link, on the symbol's state.
+fn plan_element(
+    alloc: Global,
+    client: u32,
+    serial: u64,
+    symbol: &Symbol,
+    state: &SymbolState,
+    row: LinkRow,
+    mut puts: Items<Prepared>,
+    change: Change,
+    prune: bool,
+) -> Result<Plan, NoMemory>
+    requires was { IfSome state.now.was (IsElementKey symbol.now) }
+    requires rising { Rising (live_of state.now) }
+    requires link { IsLink row }
+    ensures { IfOk result (AddsElement client serial symbol.now state.now row puts change prune) }
+{
+    let version = row.version;
+    let buried = buried_by(alloc, state, prune)?;
     let was = copied(alloc, &state.was)?;
     let element = place_element(
         alloc,
         client,
-        last,
+        serial,
         symbol,
         copied(alloc, &was)?,
         row,
