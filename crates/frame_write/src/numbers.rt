@@ -76,7 +76,7 @@ pub(crate) fn changes_of(
 }
 
 /// The changes of a commit: this one, and what it buries, if anything.
-pub(crate) fn commit_changes(
+fn commit_changes(
     alloc: Global,
     change: Change,
     buried: Items<u64>,
@@ -91,8 +91,21 @@ pub(crate) fn commit_changes(
     Ok(Arc::new(alloc, changes)?)
 }
 
+/// The changes of a commit that makes this version, in memory of their own: the change, and what is buried, if anything.
+pub(crate) fn changes_with(
+    alloc: Global,
+    change: &Change,
+    buried: Items<u64>,
+) -> Result<Arc<Changes>, NoMemory>
+    requires { is_version change.now ≡ true }
+    ensures { IfOk result (λ changes. arc_value changes ≡ change.now ∷ removed buried) }
+{
+    let change = copy_change(alloc, change)?;
+    commit_changes(alloc, change, buried)
+}
+
 /// The same change, in memory of its own. Only changes that make a version are copied.
-pub(crate) fn copy_change(alloc: Global, change: &Change) -> Result<Change, NoMemory>
+fn copy_change(alloc: Global, change: &Change) -> Result<Change, NoMemory>
     requires { is_version change.now ≡ true }
     ensures { IfOk result (λ copy. copy ≡ change.now) }
 {

@@ -1,8 +1,8 @@
-ghost use Rattle.std.specs.Prelude.{◌≡◌, IfOk, IfSome};
+ghost use Rattle.std.specs.Prelude.{◌≡◌, true, IfOk, IfSome};
 ghost use Rattle.frame_core.specs.Limits.{IsStorable};
 ghost use Rattle.bucket_core.specs.History.{History};
 ghost use Rattle.store_model.specs.Law.{IsLawful};
-ghost use Rattle.store_model.specs.Commits.{Rising};
+ghost use Rattle.store_model.specs.Commits.{Rising, is_version};
 ghost use Rattle.version_chain.specs.States.{IsStateOf};
 ghost use Rattle.version_chain.specs.Entries.{IsLink};
 ghost use Rattle.frame_write.specs.Placing.{AreTilesOf, IsElementKey, live_of};
@@ -12,7 +12,7 @@ ghost use Rattle.frame_write.specs.Versions.{AddsElement, MayPlan, IsPlanOf};
 
 use crate::elements::{mark_of, place_element};
 use crate::laying::{Layout, lay_out, place_slots};
-use crate::numbers::{buried_by, changes_of, commit_changes, copy_change, next_version};
+use crate::numbers::{buried_by, changes_of, changes_with, next_version};
 use crate::options::Options;
 use crate::pieces::LinkPlan;
 use crate::placing::{Placed, place_index, place_tiles};
@@ -143,8 +143,7 @@ pub(crate) fn plan_link(
         index: index.key.copy(alloc)?,
     };
     puts.push(index)?;
-    let change = copy_change(alloc, &link.change)?;
-    plan_element(alloc, client, last, symbol, state, row, puts, change, options.prune)
+    plan_element(alloc, client, last, symbol, state, row, puts, &link.change, options.prune)
 }
 
 /// The plan that puts these, and behind them the element of this link, on the symbol's state.
@@ -156,13 +155,14 @@ fn plan_element(
     state: &SymbolState,
     row: LinkRow,
     mut puts: Items<Prepared>,
-    change: Change,
+    change: &Change,
     prune: bool,
 ) -> Result<Plan, NoMemory>
     requires was { IfSome state.now.was (IsElementKey symbol.now) }
     requires rising { Rising (live_of state.now) }
     requires link { IsLink row }
-    ensures { IfOk result (AddsElement client serial symbol.now state.now row puts change prune) }
+    requires version { is_version change.now ≡ true }
+    ensures { IfOk result (AddsElement client serial symbol.now state.now row puts change.now prune) }
 {
     let version = row.version;
     let buried = buried_by(alloc, state, prune)?;
@@ -183,7 +183,7 @@ fn plan_element(
         was,
         mark: mark_of(alloc, &entry)?,
         entry,
-        changes: commit_changes(alloc, change, buried)?,
+        changes: changes_with(alloc, change, buried)?,
         version,
     })
 }
