@@ -324,14 +324,14 @@ module _ (client serial : ℕ) (symbol : Name) (version : ℕ) (before : History
   abbrev tiles_put : List (Key × Bytes)
   tiles_put = puts_laid (laid_pieces client symbol version 0 serial link.pieces laid_is.tiles)
 
-  abbrev index_at : Key
-  index_at = slots_key client symbol version layout.next layout.slots
+  abbrev index_under : Key
+  index_under = slots_key client symbol version layout.next layout.slots
 
-  abbrev entry_at : Key
-  entry_at = element_key client symbol (suc layout.next)
+  abbrev entry_under : Key
+  entry_under = element_key client symbol (suc layout.next)
 
-  puts_are : puts_seen plan.puts ≡ tiles_put ++ (index_at, p.index) ∷ (entry_at, p.element) ∷ []
-  puts_are = p.puts ∙ ap (λ ps. ps ++ (index_at, p.index) ∷ (entry_at, p.element) ∷ []) laid_is.puts
+  puts_are : puts_seen plan.puts ≡ tiles_put ++ (index_under, p.index) ∷ (entry_under, p.element) ∷ []
+  puts_are = p.puts ∙ ap (λ ps. ps ++ (index_under, p.index) ∷ (entry_under, p.element) ∷ []) laid_is.puts
 
   removed_are : removed p.buried ≡ pruned (state_of before symbol) options.prune
   removed_are = pruned_is (state_of before symbol) options.prune (live_of state) p.buried (live_told before symbol state may.lawful may.is_state) p.buried_are
@@ -362,7 +362,7 @@ module _ (client serial : ℕ) (symbol : Name) (version : ℕ) (before : History
       (marks_of row (link.change ∷ pruned (state_of before symbol) options.prune)) element_spells standing in
       subst (MayRefer (more ++ before) client symbol (reference before symbol) plan.entry) (sym changes_are)
       (subst (λ k. MayRefer (more ++ before) client symbol (reference before symbol) k (link.change ∷ pruned (state_of before symbol) options.prune)) (sym p.entry)
-      (version_may_follow (more ++ before) client symbol link.change fit.version (reference before symbol) entry_at (pruned (state_of before symbol) options.prune) row makes fit.in_order fits_link burying entry))
+      (version_may_follow (more ++ before) client symbol link.change fit.version (reference before symbol) entry_under (pruned (state_of before symbol) options.prune) row makes fit.in_order fits_link burying entry))
 
   -- the plan makes the change, with an index of the pieces' slots
   pub plan_of : IsPlanOf client serial before symbol options link.change link.pieces plan
@@ -376,9 +376,9 @@ module _ (client serial : ℕ) (symbol : Name) (version : ℕ) (before : History
           (try_is client serial symbol version before fit.version options.cutting link.pieces layout ready p.serials_fit p.index p.element spelled row state.was (map marks.Tomb p.buried) refl p.element_spelled));
       index_put = record {
         tiles = tiles_put;
-        key = index_at;
+        key = index_under;
         body = p.index;
-        element = (entry_at, p.element);
+        element = (entry_under, p.element);
         is = puts_are;
         spelled = spelled;
       };
@@ -387,6 +387,6 @@ module _ (client serial : ℕ) (symbol : Name) (version : ℕ) (before : History
       may_refer = may_follow;
     };
     changes = changes_are;
-    puts = ap length puts_are ∙ (length-append tiles_put ((index_at, p.index) ∷ (entry_at, p.element) ∷ []) ∙ ap (λ n. n + 2) (puts_counted client symbol version options.cutting link.pieces laid_is.tiles 0 serial laid_is.tiled));
+    puts = ap length puts_are ∙ (length-append tiles_put ((index_under, p.index) ∷ (entry_under, p.element) ∷ []) ∙ ap (λ n. n + 2) (puts_counted client symbol version options.cutting link.pieces laid_is.tiles 0 serial laid_is.tiled));
     slots = laid_is.slots ∙ (slots_are_laid client symbol version options.cutting link.pieces laid_is.tiles 0 serial laid_is.tiled ∙ ap (λ n. laid options.cutting client symbol n 0 serial link.pieces) number);
   }

@@ -1,12 +1,16 @@
-use Rattle.std.proofs.Common.{◌≡◌, ◌≤◌, List, sym, subst, ◌∙◌}
+use Rattle.std.proofs.Common.{◌≡◌, ◌≤◌, ◌<◌, ◌^◌, suc, List, sym, subst, ◌∙◌, arith}
 use Rattle.std.specs.List.{AllByRecursion}
+use Rattle.frame_write.specs.declared.laying.Layout.{Layout}
 use Rattle.frame_write.specs.declared.pieces.Piece.{Piece}
+use Rattle.frame_write.specs.declared.puts.Prepared.{Prepared}
 use Rattle.bucket_core.specs.History.{History}
 use Rattle.frame_write.specs.Laying.{MayLay, rows_in}
 use Rattle.frame_write.specs.Layouts.{IsLaid}
+use Rattle.frame_write.specs.Links.{FitsPlan}
+use Rattle.frame_write.specs.Versions.{AddsElement, MayPlan, IsPlanOf}
 use Rattle.frame_write.proofs.PlanLemmas.{FitsTry}
-use Rattle.frame_write.proofs.VersionKeys.{slots_key_of}
-use Rattle.frame_write.proofs.VersionPlans.{may_lay, few_rows, is_made, link_index}
+use Rattle.frame_write.proofs.VersionKeys.{slots_key_of, version_plan}
+use Rattle.frame_write.proofs.VersionPlans.{may_lay, few_rows, if_ok_weaker, is_made, link_index, plan_of}
 use Rattle.frame_write.proofs.plan.plan_link.Goals as goal
 
 pub lay_out-requires : goal.lay_out-requires
@@ -41,4 +45,18 @@ plan_element-requires c =
     }
 
 pub returns : goal.returns
-returns c = ?
+returns c =
+    let layout : Layout = c.in_ok-slots.field-0 in
+    let puts : List Prepared = c.puts-2.inside.items.items in
+    if_ok_weaker (AddsElement c.args.client c.in-Some.last c.args.symbol.now c.args.state.now (record { version = c.in_ok-version.version; stamp = c.stamp.result; rows = layout.rows; index = c.in_ok-copy.field-0 }) puts c.args.link.now.change c.args.options.now.prune)
+    (λ made. (before : History) → MayPlan c.args.client c.args.serial before c.args.symbol.now c.args.state.now → FitsPlan before c.args.symbol.now c.args.options.now.at c.args.link.now
+      → IsPlanOf c.args.client c.args.serial before c.args.symbol.now c.args.options.now c.args.link.now.change c.args.link.now.pieces made)
+    c.plan_element.result
+    (λ made p before may fit.
+      let laid = subst (λ (ps : List Piece). IsLaid c.args.client c.args.symbol.now c.in_ok-version.version c.args.options.now.cutting c.args.serial ps layout) c.items.ensures c.in_ok-slots.ensures.laid in
+      let last : c.in-Some.last ≡ suc layout.next = omega (arith, c.in-Some.ensures.1) in
+      let small : c.in-Some.last < 2 ^ 64 = omega (arith, c.in-Some.ensures.0, c.in-Some.ensures.1) in
+      plan_of c.args.client c.args.serial c.args.symbol.now c.in_ok-version.version before c.args.state.now c.args.link.now c.args.options.now layout made c.ranges.client.fits c.in_ok-version.ensures.fits c.in_ok-version.ensures.next may fit laid
+      (version_plan c.args.client c.in_ok-version.version c.args.symbol.now c.args.state.now layout c.args.link.now.schema c.args.link.now.change c.args.options.now puts c.in_ok-index.index c.stamp.result c.in_ok-copy.field-0 c.in-Some.last made
+        (c.puts-2.view_is ∙ c.in_ok-push.ensures.ok) c.in_ok-index.ensures.key c.in_ok-index.ensures.body c.in_ok-slots.ensures.is_name c.stamp.ensures c.in_ok-copy.ensures last small p))
+    c.plan_element.ensures
