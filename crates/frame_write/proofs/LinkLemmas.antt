@@ -37,7 +37,7 @@ may_plan client h symbol state at link lawful l = record {
 }
 
 -- a plan for the client's next puts
-pub planned : (client : ℕ) (h : History) (symbol : Name) (state : SymbolState) (link : LinkPlan) (options : Options) (plan : Plan) (l : IsLinkable client h symbol state options.at link)
+abbrev pub planned : (client : ℕ) (h : History) (symbol : Name) (state : SymbolState) (link : LinkPlan) (options : Options) (plan : Plan) (l : IsLinkable client h symbol state options.at link)
     → (p : IsPlanOf client (puts_by client h) l.walked.before symbol options link.change link.pieces plan) → IsPlanned client h symbol p.index plan
 planned client h symbol state link options plan l p = record {
   later = l.walked.later;

@@ -305,7 +305,7 @@ link_index client serial symbol version before state at link cutting layout fits
 module _ (client serial : ℕ) (symbol : Name) (version : ℕ) (before : History) (state : SymbolState) (link : LinkPlan) (options : Options) (layout : Layout) (plan : Plan)
     (client_fits : client < 2 ^ 32) (version_fits : version < 2 ^ 64) (version_is : version ≡ next_of state) (may : MayPlan client serial before symbol state) (fit : FitsPlan before symbol options.at link)
     (laid_is : IsLaid client symbol version options.cutting serial link.pieces layout) (p : IsVersionPlan client version symbol state layout link.schema link.change options plan) where
-  ready : IsReady client serial symbol version before fit.version options.cutting link.pieces layout
+  abbrev ready : IsReady client serial symbol version before fit.version options.cutting link.pieces layout
   ready = record {
     fits = record { client_fits = client_fits; is_name = p.is_name; version_fits = version_fits };
     lawful = may.lawful;
