@@ -1,10 +1,11 @@
-ghost use Rattle.std.specs.Prelude.{◌≡◌, true, IfOk, IfSome};
+ghost use Rattle.std.specs.Prelude.{◌≡◌, ◌<◌, ◌^◌, true, IfOk, IfSome};
 ghost use Rattle.frame_core.specs.Limits.{IsStorable};
 ghost use Rattle.bucket_core.specs.History.{History};
 ghost use Rattle.store_model.specs.Law.{IsLawful};
 ghost use Rattle.store_model.specs.Commits.{Rising, is_version};
 ghost use Rattle.version_chain.specs.States.{IsStateOf};
-ghost use Rattle.version_chain.specs.Entries.{IsLink};
+ghost use Rattle.version_chain.specs.Entries.{IsKeyOf};
+ghost use Rattle.key_kind.specs.declared.key.KeyKind.TheVariants.{TableIndex};
 ghost use Rattle.frame_write.specs.Placing.{AreTilesOf, IsElementKey, live_of};
 ghost use Rattle.frame_write.specs.WritePlans.{IsWritePlan};
 ghost use Rattle.frame_write.specs.Links.{FitsPlan};
@@ -136,37 +137,52 @@ pub(crate) fn plan_link(
         return Err(NoMemory);
     };
     let index = place_slots(alloc, client, next, symbol, version, &link.schema, rows, slots)?;
-    let row = LinkRow {
-        version,
-        stamp: options.stamp(),
-        rows,
-        index: index.key.copy(alloc)?,
-    };
+    let index_key = index.key.copy(alloc)?;
     puts.push(index)?;
-    plan_element(alloc, client, last, symbol, state, row, puts, &link.change, options.prune)
+    plan_element(
+        alloc,
+        client,
+        last,
+        symbol,
+        state,
+        version,
+        rows,
+        index_key,
+        puts,
+        &link.change,
+        options,
+    )
 }
 
-/// The plan that puts these, and behind them the element of this link, on the symbol's state.
+/// The plan that puts these, and behind them the element that links the version of this index, on the symbol's state.
 fn plan_element(
     alloc: Global,
     client: u32,
     serial: u64,
     symbol: &Symbol,
     state: &SymbolState,
-    row: LinkRow,
+    version: u64,
+    rows: u64,
+    index: Key,
     mut puts: Items<Prepared>,
     change: &Change,
-    prune: bool,
+    options: &Options,
 ) -> Result<Plan, NoMemory>
     requires was { IfSome state.now.was (IsElementKey symbol.now) }
     requires rising { Rising (live_of state.now) }
-    requires link { IsLink row }
+    requires few { rows < 2 ^ 32 }
+    requires index { IsKeyOf TableIndex index }
     requires version { is_version change.now ≡ true }
-    ensures { IfOk result (AddsElement client serial symbol.now state.now row puts change.now prune) }
+    ensures { IfOk result (AddsElement client serial symbol.now state.now (record { version = version; stamp = options.now.at; rows = rows; index = index }) puts change.now options.now.prune) }
 {
-    let version = row.version;
-    let buried = buried_by(alloc, state, prune)?;
+    let buried = buried_by(alloc, state, options.prune)?;
     let was = copied(alloc, &state.was)?;
+    let row = LinkRow {
+        version,
+        stamp: options.stamp(),
+        rows,
+        index,
+    };
     let element = place_element(
         alloc,
         client,

@@ -1,4 +1,4 @@
-use Rattle.std.proofs.Common.{◌≡◌, ◌≤◌, ◌<◌, ◌^◌, suc, List, sym, subst, ◌∙◌, rules, arith, to_z, of_z, w64}
+use Rattle.std.proofs.Common.{◌≡◌, ◌≤◌, ◌<◌, ◌^◌, suc, List, refl, sym, subst, ◌∙◌, arith}
 use Rattle.std.specs.List.{AllByRecursion}
 use Rattle.frame_write.specs.declared.laying.Layout.{Layout}
 use Rattle.frame_write.specs.declared.pieces.Piece.{Piece}
@@ -37,27 +37,24 @@ plan_element-requires c =
     record {
       was = c.requires.was;
       rising = c.requires.rising;
-      link = record {
-        rows = index.few_rows;
-        index = slots_key_of c.args.client c.in_ok-slots.field-0.next c.args.symbol.now c.in_ok-version.version c.in_ok-slots.field-0.slots c.in_ok-copy.field-0 c.in_ok-slots.ensures.is_name (c.in_ok-copy.ensures ∙ c.in_ok-index.ensures.key);
-      };
+      few = index.few_rows;
+      index = slots_key_of c.args.client c.in_ok-slots.field-0.next c.args.symbol.now c.in_ok-version.version c.in_ok-slots.field-0.slots c.in_ok-index_key.index_key c.in_ok-slots.ensures.is_name (c.in_ok-index_key.ensures ∙ c.in_ok-index.ensures.key);
       version = is_made r.0 r.1.lawful c.args.symbol.now c.args.options.now.at c.args.link.now r.2;
     }
 
 pub returns : goal.returns
 returns c =
     let layout : Layout = c.in_ok-slots.field-0 in
-    let puts : List Prepared = c.puts-2.inside.items.items in
-    if_ok_weaker (AddsElement c.args.client c.in-Some.last c.args.symbol.now c.args.state.now (record { version = c.in_ok-version.version; stamp = to_z w64 (of_z w64 c.stamp.result); rows = layout.rows; index = c.in_ok-copy.field-0 }) puts c.args.link.now.change c.args.options.now.prune)
+    let puts : List Prepared = c.push.new.self in
+    if_ok_weaker (AddsElement c.args.client c.in-Some.last c.args.symbol.now c.args.state.now (record { version = c.in_ok-version.version; stamp = c.args.options.now.at; rows = layout.rows; index = c.in_ok-index_key.index_key }) puts c.args.link.now.change c.args.options.now.prune)
     (λ made. (before : History) → MayPlan c.args.client c.args.serial before c.args.symbol.now c.args.state.now → FitsPlan before c.args.symbol.now c.args.options.now.at c.args.link.now
       → IsPlanOf c.args.client c.args.serial before c.args.symbol.now c.args.options.now c.args.link.now.change c.args.link.now.pieces made)
     c.plan_element.result
     (λ made p before may fit.
       let laid = subst (λ (ps : List Piece). IsLaid c.args.client c.args.symbol.now c.in_ok-version.version c.args.options.now.cutting c.args.serial ps layout) c.items.ensures c.in_ok-slots.ensures.laid in
       let last : c.in-Some.last ≡ suc layout.next = omega (arith, c.in-Some.ensures.1) in
-      let stamp : to_z w64 (of_z w64 c.stamp.result) ≡ c.args.options.now.at = subst (λ z. to_z w64 (of_z w64 c.stamp.result) ≡ z) c.stamp.ensures (search rules) in
       let small : c.in-Some.last < 2 ^ 64 = omega (arith, c.in-Some.ensures.0, c.in-Some.ensures.1) in
       plan_of c.args.client c.args.serial c.args.symbol.now c.in_ok-version.version before c.args.state.now c.args.link.now c.args.options.now layout made c.ranges.client.fits c.in_ok-version.ensures.fits c.in_ok-version.ensures.next may fit laid
-      (version_plan c.args.client c.in_ok-version.version c.args.symbol.now c.args.state.now layout c.args.link.now.schema c.args.link.now.change c.args.options.now puts c.in_ok-index.index (to_z w64 (of_z w64 c.stamp.result)) c.in_ok-copy.field-0 c.in-Some.last made
-        (c.puts-2.view_is ∙ c.in_ok-push.ensures.ok) c.in_ok-index.ensures.key c.in_ok-index.ensures.body c.in_ok-slots.ensures.is_name stamp c.in_ok-copy.ensures last small p))
+      (version_plan c.args.client c.in_ok-version.version c.args.symbol.now c.args.state.now layout c.args.link.now.schema c.args.link.now.change c.args.options.now puts c.in_ok-index.index c.args.options.now.at c.in_ok-index_key.index_key c.in-Some.last made
+        c.in_ok-push.ensures.ok c.in_ok-index.ensures.key c.in_ok-index.ensures.body c.in_ok-slots.ensures.is_name refl c.in_ok-index_key.ensures last small p))
     c.plan_element.ensures
