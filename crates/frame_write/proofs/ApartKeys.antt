@@ -1,5 +1,5 @@
 -- The keys of a try's new tiles are apart from those that were put before, so they are the puts among the keys of its index.
-use Rattle.std.proofs.Common.{◌≡◌, ℕ, suc, ◌+◌, ◌<◌, ◌≤◌, Bool, true, false, ◌||◌, cond, List, [], ◌∷◌, map, refl, ap, sym, ◌∙◌, Option, Some, None, arith}
+use Rattle.std.proofs.Common.{◌≡◌, ℕ, suc, ◌<◌, ◌≤◌, Bool, true, false, ◌||◌, cond, List, [], ◌∷◌, map, refl, ap, sym, ◌∙◌, Option, Some, None, arith}
 use Rattle.std.specs.Prelude.{⊤, Contains, filter, option_and_then}
 use Rattle.std.specs.List.{AllByRecursion, list_any}
 use denote.Struct.Props.{props}
@@ -30,11 +30,11 @@ apart_from h client n key [] from le less = refl
 apart_from h client n key (p ∷ puts) from le less =
     or_none (same_key key p.0) (list_any (same_key key) (keys_of_puts puts))
     (is_false (same_key key p.0) (λ e.
-      let same = same_key_is key p.0 e in
-      let serial : key.serial ≡ p.0.serial = ap (λ (k : Key). k.serial) same in
-      let owner : key.client ≡ client = ap (λ (k : Key). k.client) same ∙ from.0.own in
-      let counted : puts_by key.client h ≡ puts_by client h = ap (λ c. puts_by c h) owner in
-      omega (arith, serial, from.0.serial_is, counted, less, le)))
+    let same = same_key_is key p.0 e in
+    let serial : key.serial ≡ p.0.serial = ap (λ (k : Key). k.serial) same in
+    let owner : key.client ≡ client = ap (λ (k : Key). k.client) same ∙ from.0.own in
+    let counted : puts_by key.client h ≡ puts_by client h = ap (λ c. puts_by c h) owner in
+    omega (arith, serial, from.0.serial_is, counted, less, le)))
     (apart_from h client (suc n) key puts from.1 (omega (arith, le)) less)
 
 -- a key with which a frame was put has such a serial

@@ -1,8 +1,8 @@
 -- The link of the newest live version: its slots have the stamps of the version's rows, and a new link may share its keys.
-use Rattle.std.proofs.Common.{◌≡◌, ℕ, suc, ◌<◌, ◌≤◌, Bool, true, false, ◌&&◌, not, List, [], ◌∷◌, ◌++◌, refl, ap, sym, ◌∙◌, subst, inl, inr, Option, Some, cond, nat_eq, arith}
-use Rattle.std.specs.Prelude.{⊤, Contains, filter, fold}
+use Rattle.std.proofs.Common.{◌≡◌, ℕ, ◌<◌, Bool, true, false, ◌&&◌, not, List, [], ◌∷◌, ◌++◌, refl, ap, sym, ◌∙◌, subst, inl, inr, Option, Some, cond, nat_eq, arith}
+use Rattle.std.specs.Prelude.{Contains, filter, fold}
 use Rattle.std.specs.List.{AllZip, AllByRecursion, list_any}
-use Rattle.std.proofs.lemmas.Bool.{true≢false, and_from, eq-eqb}
+use Rattle.std.proofs.lemmas.Bool.{and_from, eq-eqb}
 use Rattle.frame_core.specs.Limits.{IsStorable}
 use Rattle.key_kind.specs.declared.key.Key.{Key}
 use Rattle.key_kind.specs.Names.{Name}

@@ -1,6 +1,6 @@
 -- A slot of the newest live version, where a history is only known to be lawful, and not why.
-use Rattle.std.proofs.Common.{◌≡◌, ℕ, ◌+◌, ◌<◌, ◌≤◌, ◌^◌, true, false, List, ◌++◌, length, refl, sym, ap, ◌∙◌, subst, inr, Option, Some, arith}
-use Rattle.std.specs.Prelude.{Contains, is_some}
+use Rattle.std.proofs.Common.{◌≡◌, ℕ, ◌+◌, ◌<◌, ◌≤◌, ◌^◌, false, List, ◌++◌, length, refl, sym, ap, ◌∙◌, subst, inr, Some, arith}
+use Rattle.std.specs.Prelude.{Contains}
 use Rattle.std.specs.List.{list_any}
 use denote.Struct.Props.{props}
 use mathlib.Core.Logic.{∥∥₁_elim}
@@ -40,9 +40,9 @@ module _ (h : History) (lawful : ∥ IsLawful h ∥₁) (symbol : Name) (schema 
 
   pub small_told : s.part.first_row + s.part.rows < 2 ^ 32
   small_told = ∥∥₁_elim lawful (hlevel props) (λ l.
-    let lies = (shared_lies h l symbol schema rows slots b s there).0 in
-    let few = small_rows b.version.frame (base_storable h l symbol schema rows slots b) (length b.version.frame.rows) refl in
-    omega (arith, lies, few))
+      let lies = (shared_lies h l symbol schema rows slots b s there).0 in
+      let few = small_rows b.version.frame (base_storable h l symbol schema rows slots b) (length b.version.frame.rows) refl in
+      omega (arith, lies, few))
 
   pub shared_told : (client columns : ℕ) → IsSlot columns s → IsSharedIn h client symbol (cut b.version.frame s.part) s.key
   shared_told client columns rule = record {

@@ -1,5 +1,5 @@
 -- Pieces that are laid out one behind the other are stretches of the whole frame, so their slots are an index of it.
-use Rattle.std.proofs.Common.{◌≡◌, ℕ, zero, suc, ◌+◌, ◌-◌, ◌<◌, ◌≤◌, ◌^◌, List, [], ◌∷◌, ◌++◌, length, map, take, drop, length-drop, length-append, Option, Some, None, refl, sym, ap, ◌∙◌, subst, inl, inr, arith}
+use Rattle.std.proofs.Common.{◌≡◌, ℕ, suc, ◌+◌, ◌-◌, ◌<◌, ◌≤◌, ◌^◌, List, [], ◌∷◌, ◌++◌, length, map, take, drop, length-drop, length-append, None, refl, sym, ap, ◌∙◌, subst, inl, inr, arith}
 use Rattle.std.specs.Prelude.{◌⊎◌, Contains, slice_range, flat_map}
 use Rattle.std.specs.List.{AllByRecursion, AllZip}
 use Rattle.std.proofs.lemmas.List.{drop-drop}
@@ -12,7 +12,7 @@ use Rattle.index_tree.specs.declared.index.Slot.{Slot}
 use Rattle.index_tree.specs.IndexRules.{IsSlot, Cover, IsIndex}
 use Rattle.key_kind.specs.declared.key.Key.{Key}
 use Rattle.key_kind.specs.Names.{Name}
-use Rattle.bucket_core.specs.History.{History, Bytes}
+use Rattle.bucket_core.specs.History.{History}
 use Rattle.store_model.specs.Commits.{HasSlotStamps}
 use Rattle.store_model.specs.Law.{IsLawful}
 use Rattle.store_model.specs.OwnPuts.{slots_of}
@@ -29,7 +29,7 @@ use Rattle.frame_write.proofs.GridSlots.{grid_covers, slot_rules}
 use Rattle.frame_write.proofs.PlanLemmas.{FitsTry, slot_stamps, slot_keys, slot_parts}
 use Rattle.frame_write.proofs.CoverTiles.{cover_tiled}
 use Rattle.frame_write.proofs.Runs.{IsMoved, CoverFrom, moved_is}
-use Rattle.frame_write.proofs.Stretches.{Holds, IsPlaced, IsStretch, IsLaidSlot, AreBetween, cover_between, AreStretches, no_stretch, stretch, stretches_slots, stretches_cover}
+use Rattle.frame_write.proofs.Stretches.{IsPlaced, IsStretch, IsLaidSlot, AreBetween, cover_between, AreStretches, no_stretch, stretch, stretches_slots, stretches_cover}
 use Rattle.frame_write.proofs.BaseTold.{IsSharedIn, stamps_told, lies_told, small_told, shared_told}
 use Rattle.frame_write.proofs.FewSlots.{few_slots}
 
@@ -193,8 +193,11 @@ module _ (h : History) (lawful : ∥ IsLawful h ∥₁) (symbol : Name) (f : Fra
   run_may_move [] each r = (omega arith, tt)
   run_may_move (s ∷ more) each r = elim base [
     | inl none ↦ absurd (contains_none s (subst (λ xs. Contains xs s) none each.0.0))
-    | inr b ↦ (run_ordered (length f.schema.columns) (s ∷ more) r, both (begin_of (s ∷ more)) (end_of (s ∷ more)) (s ∷ more) (run_between (length f.schema.columns) (s ∷ more) r)
-        (all_weaker _ (λ (t : Slot). t.part.first_row + t.part.rows < 2 ^ 32) (λ t e. small_told h lawful symbol f.schema rows slots b t e.0) (s ∷ more) each))
+    | inr b ↦ (
+      run_ordered (length f.schema.columns) (s ∷ more) r,
+      both (begin_of (s ∷ more)) (end_of (s ∷ more)) (s ∷ more) (run_between (length f.schema.columns) (s ∷ more) r)
+          (all_weaker _ (λ (t : Slot). t.part.first_row + t.part.rows < 2 ^ 32) (λ t e. small_told h lawful symbol f.schema rows slots b t e.0) (s ∷ more) each),
+    )
   ]
     where
       both : (from end : ℕ) (run : List Slot) → AreBetween from end run → AllByRecursion (λ (t : Slot). t.part.first_row + t.part.rows < 2 ^ 32) run

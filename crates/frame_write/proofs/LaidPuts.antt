@@ -1,11 +1,10 @@
 -- What is put for pieces that are laid out: the tiles of the fresh ones, under one serial after another; and their slots.
-use Rattle.std.proofs.Common.{◌≡◌, ℕ, suc, ◌+◌, ◌<◌, ◌^◌, ℤ, pos, List, [], ◌∷◌, ◌++◌, length, map, refl, ap, sym, ◌∙◌, subst, arith, Option, Some, None, append_assoc, length-append}
-use Rattle.std.specs.Prelude.{unwrap_or, slice_range}
+use Rattle.std.proofs.Common.{◌≡◌, ℕ, suc, ◌+◌, ◌<◌, ◌^◌, pos, List, [], ◌∷◌, ◌++◌, length, map, refl, ap, sym, ◌∙◌, subst, arith, Some, None, append_assoc, length-append}
+use Rattle.std.specs.Prelude.{unwrap_or}
 use Rattle.std.specs.Arc.{arc_value}
 use Rattle.std.specs.List.{AllByRecursion, AllZip}
-use Rattle.std.proofs.lemmas.List.{length-map, append-nil}
-use Rattle.frame_core.specs.declared.part.Part.{Part}
-use Rattle.frame_core.specs.Frames.{Frame, first_stamp, last_stamp}
+use Rattle.std.proofs.lemmas.List.{length-map}
+use Rattle.frame_core.specs.Frames.{Frame}
 use Rattle.segment_cut.specs.Cuttings.{Cutting}
 use Rattle.segment_cut.specs.Grids.{parts, grid_of}
 use Rattle.index_tree.specs.declared.index.Slot.{Slot}
@@ -20,7 +19,7 @@ use Rattle.frame_write.specs.declared.tiles.Tile.{Tile}
 use Rattle.frame_write.specs.Pieces.{begin_of, size_of, moved, part_first, part_last, fresh_slot, fresh_slots, laid, new_tiles}
 use Rattle.frame_write.specs.Placing.{IsTileOf, AreTilesOf, slot_at, placed, tile_puts}
 use Rattle.frame_write.specs.Plans.{ArePutsFrom}
-use Rattle.frame_write.specs.Laying.{Laid, slots_laid, puts_laid, behind, fresh_laid, IsTiledPiece, laid_piece, laid_pieces, tiles_in}
+use Rattle.frame_write.specs.Laying.{Laid, slots_laid, puts_laid, behind, fresh_laid, IsTiledPiece, laid_pieces, tiles_in}
 use Rattle.frame_write.proofs.ListLemmas.{map_append}
 use Rattle.frame_write.proofs.PlanLemmas.{FitsTry, tiles_from}
 

@@ -1,5 +1,5 @@
 -- One try over a walked state: the plan is one for the client's next puts, and its commit makes what was asked.
-use Rattle.std.proofs.Common.{◌≡◌, ℕ, suc, ◌+◌, ◌≤◌, ℤ, true, false, cond, List, [], ◌∷◌, ◌++◌, length, refl, ap, sym, ◌∙◌, subst, arith, nat_eq}
+use Rattle.std.proofs.Common.{◌≡◌, ℕ, suc, ◌≤◌, ℤ, true, false, cond, [], ◌∷◌, ◌++◌, length, ap, sym, ◌∙◌, subst, arith, nat_eq}
 use Rattle.index_tree.specs.declared.index.Index.{Index}
 use Rattle.key_kind.specs.Names.{Name}
 use Rattle.bucket_core.specs.declared.event.Event.TheVariants as events
@@ -13,7 +13,7 @@ use Rattle.frame_write.specs.declared.options.Options.{Options}
 use Rattle.frame_write.specs.declared.pieces.LinkPlan.{LinkPlan}
 use Rattle.frame_write.specs.declared.plan.Plan.{Plan}
 use Rattle.frame_write.specs.Links.{IsLinkable, IsLinkMade}
-use Rattle.frame_write.specs.Plans.{IsPlan, IsPlanned, IsMadeBy}
+use Rattle.frame_write.specs.Plans.{IsPlanned, IsMadeBy}
 use Rattle.frame_write.specs.Tries.{Made}
 use Rattle.frame_write.specs.Versions.{MayPlan, IsPlanOf}
 use Rattle.frame_write.proofs.StateLemmas.{walked_lawful, same_pruned}

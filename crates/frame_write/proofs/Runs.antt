@@ -1,15 +1,15 @@
 -- Runs of slots behind one another, moved so that each begins where the one before it ends.
-use Rattle.std.proofs.Common.{◌≡◌, ℕ, zero, suc, ◌+◌, ◌-◌, ◌<◌, ◌≤◌, List, [], ◌∷◌, ◌++◌, length, map, take, drop, Some, refl, sym, ap, ◌∙◌, subst, inl, inr, arith}
+use Rattle.std.proofs.Common.{◌≡◌, ℕ, zero, suc, ◌+◌, ◌-◌, ◌≤◌, List, [], ◌∷◌, ◌++◌, length, map, take, drop, Some, refl, sym, ap, ◌∙◌, subst, inl, inr, arith}
 use Rattle.std.specs.Prelude.{slice_range}
 use Rattle.std.specs.List.{AllByRecursion, AllZip}
 use Rattle.std.proofs.lemmas.List.{drop-drop, take-append-drop}
 use Rattle.frame_core.specs.declared.part.Part.{Part}
-use Rattle.frame_core.specs.Frames.{Row, Frame, IsFrame, first_stamp, last_stamp}
-use Rattle.segment_cut.specs.Tiles.{cut, cut_row}
+use Rattle.frame_core.specs.Frames.{Row, Frame, IsFrame, first_stamp}
+use Rattle.segment_cut.specs.Tiles.{cut}
 use Rattle.index_tree.specs.declared.index.Slot.{Slot}
 use Rattle.index_tree.specs.IndexRules.{SameBlock, NextBlock, LeadOn}
 use Rattle.store_model.specs.Commits.{HasSlotStamps}
-use Rattle.frame_write.specs.Pieces.{begin_of, end_of, IsRun, moved}
+use Rattle.frame_write.specs.Pieces.{end_of, IsRun, moved}
 use Rattle.frame_write.proofs.RowStamps.{slices_ordered, length_slice}
 
 -- ---- moved slots

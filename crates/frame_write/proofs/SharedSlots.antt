@@ -1,7 +1,7 @@
 -- A slot of the newest live version: its tile stands, and a new link may name its key.
-use Rattle.std.proofs.Common.{◌≡◌, ℕ, Bool, true, false, ◌&&◌, ◌||◌, not, List, [], ◌∷◌, map, refl, ap, sym, ◌∙◌, subst, inl, inr, Option, Some, None, nat_eq}
-use Rattle.std.specs.Prelude.{Contains, filter, is_some, option_and_then, option_map}
-use Rattle.std.specs.List.{AllZip, AllByRecursion, list_any}
+use Rattle.std.proofs.Common.{◌≡◌, ℕ, true, not, List, [], ◌∷◌, map, refl, ap, sym, ◌∙◌, subst, inl, inr, Option, Some, None, nat_eq}
+use Rattle.std.specs.Prelude.{Contains, is_some, option_and_then, option_map}
+use Rattle.std.specs.List.{AllZip, AllByRecursion}
 use Rattle.std.proofs.lemmas.Bool.{and_from, or_left, eq-eqb}
 use Rattle.frame_core.specs.Frames.{Row, Frame}
 use Rattle.frame_core.specs.Schemas.{Schema}
@@ -15,10 +15,10 @@ use Rattle.key_kind.specs.declared.key.Key.{Key}
 use Rattle.key_kind.specs.Names.{Name}
 use Rattle.key_kind.specs.Keys.{same_key}
 use Rattle.key_kind.proofs.KeyTests.{same_key_self}
-use Rattle.bucket_core.specs.History.{History, StandsAsPut}
+use Rattle.bucket_core.specs.History.{History}
 use Rattle.store_model.specs.declared.chain.LinkRow.{LinkRow}
-use Rattle.store_model.specs.Library.{State, Version, state_of, is_buried, is_live, is_held}
-use Rattle.store_model.specs.Links.{Linked, linked, links, frame_put, index_put, tiles_put, with_tile, reaches, reached, is_needed}
+use Rattle.store_model.specs.Library.{Version, state_of, is_buried, is_live}
+use Rattle.store_model.specs.Links.{Linked, linked, links, frame_put, index_put, tiles_put, with_tile, reaches, reached}
 use Rattle.store_model.specs.Commits.{MayNameKey, HasSlotStamps, newest_reaches}
 use Rattle.store_model.specs.Intact.{IsLinkOf}
 use Rattle.store_model.specs.Law.{IsLawful}

@@ -1,13 +1,12 @@
 -- A frame in stretches: the slots of each are those of a source, moved to where the stretch begins in the frame.
-use Rattle.std.proofs.Common.{◌≡◌, ℕ, ◌+◌, ◌-◌, ◌<◌, ◌≤◌, List, [], ◌∷◌, ◌++◌, length, map, drop, Option, Some, None, Ok, refl, sym, ap, ◌∙◌, subst, arith}
+use Rattle.std.proofs.Common.{◌≡◌, ℕ, ◌+◌, ◌-◌, ◌≤◌, List, [], ◌∷◌, ◌++◌, length, drop, Option, Some, None, Ok, sym, ap, ◌∙◌, subst, arith}
 use Rattle.std.specs.Prelude.{slice_range}
 use Rattle.std.specs.List.{AllByRecursion, AllZip}
-use Rattle.frame_core.specs.declared.part.Part.{Part}
 use Rattle.frame_core.specs.Frames.{Row, Frame, IsFrame, first_stamp, last_stamp}
 use Rattle.segment_bytes.specs.Segments.{segment_of}
 use Rattle.segment_cut.specs.Tiles.{cut}
 use Rattle.index_tree.specs.declared.index.Slot.{Slot}
-use Rattle.index_tree.specs.IndexRules.{IsSlot, LeadOn}
+use Rattle.index_tree.specs.IndexRules.{IsSlot}
 use Rattle.key_kind.specs.declared.key.Key.{Key}
 use Rattle.key_kind.specs.Keys.{IsKey, FitsFields}
 use Rattle.bucket_core.specs.History.{Bytes}

@@ -1,24 +1,22 @@
 -- The plan of a version in pieces: its puts are such as a try makes, and once they stand its Refer may follow.
-use Rattle.std.proofs.Common.{◌≡◌, ℕ, suc, ◌+◌, ◌<◌, ◌≤◌, ◌^◌, ℤ, pos, false, true, List, [], ◌∷◌, ◌++◌, length, map, drop, refl, ap, sym, ◌∙◌, subst, arith, inl, inr, Option, Some, None, Result, Ok, Err, append_assoc, length-append}
+use Rattle.std.proofs.Common.{◌≡◌, ℕ, suc, ◌+◌, ◌<◌, ◌≤◌, ◌^◌, ℤ, false, true, List, [], ◌∷◌, ◌++◌, length, map, refl, ap, sym, ◌∙◌, subst, arith, inl, inr, Option, Some, None, Result, Ok, Err, append_assoc, length-append}
 use Rattle.std.specs.Prelude.{◌⊎◌, is_some, IsOk, IfOk, FitsSigned, filter}
 use Rattle.std.specs.Int.{w64}
 use Rattle.std.specs.Arc.{arc_value}
-use Rattle.std.specs.List.{AllByRecursion, AllZip, list_any}
-use Rattle.std.proofs.lemmas.List.{append-nil}
+use Rattle.std.specs.List.{AllByRecursion, list_any}
 use Rattle.byte_fields.specs.Reading.{read_of}
-use Rattle.frame_core.specs.Frames.{Row, Frame}
+use Rattle.frame_core.specs.Frames.{Frame}
 use Rattle.frame_core.specs.Schemas.{Schema}
 use Rattle.frame_core.specs.Limits.{IsStorable}
 use Rattle.segment_bytes.specs.Segments.{segment_of}
 use Rattle.segment_cut.specs.Cuttings.{Cutting}
 use Rattle.segment_cut.specs.Tiles.{Tiled, cut}
 use Rattle.index_tree.specs.declared.index.Slot.{Slot}
-use Rattle.index_tree.specs.declared.index.Index.{Index}
 use Rattle.index_tree.specs.IndexText.{index_of}
 use Rattle.index_tree.specs.IndexRules.{IsSlot, IsIndex}
 use Rattle.key_kind.specs.declared.key.KeyKind.TheVariants as kinds
 use Rattle.key_kind.specs.declared.key.Key.{Key}
-use Rattle.key_kind.specs.Names.{Name, IsName}
+use Rattle.key_kind.specs.Names.{Name}
 use Rattle.key_kind.specs.Keys.{IsKey, same_key}
 use Rattle.bucket_core.specs.declared.event.Change.{Change}
 use Rattle.bucket_core.specs.declared.event.Change.TheVariants as changes
@@ -35,7 +33,6 @@ use Rattle.store_model.specs.Law.{IsLawful}
 use Rattle.store_model.specs.OwnPuts.{IsOwnPut, AreOwnPuts, IsPutEntry, BuriesLive}
 use Rattle.store_model.proofs.Untouched.{as_it_was}
 use Rattle.version_chain.specs.declared.state.SymbolState.{SymbolState}
-use Rattle.version_chain.specs.States.{IsStateOf}
 use Rattle.reply_model.specs.Answering.{removed, pruned}
 use Rattle.reply_model.specs.Tries.{IsTry, Before, of_version, IsKeyOf, keys_of_puts}
 use Rattle.frame_write.specs.declared.laying.Layout.{Layout}
@@ -43,8 +40,7 @@ use Rattle.frame_write.specs.declared.options.Options.{Options}
 use Rattle.frame_write.specs.declared.pieces.LinkPlan.{LinkPlan}
 use Rattle.frame_write.specs.declared.pieces.Piece.{Piece}
 use Rattle.frame_write.specs.declared.plan.Plan.{Plan}
-use Rattle.frame_write.specs.declared.tiles.Tile.{Tile}
-use Rattle.frame_write.specs.Links.{FitsPlan, IsInOrder}
+use Rattle.frame_write.specs.Links.{FitsPlan}
 use Rattle.frame_write.specs.Pieces.{ArePieces, HasBase, laid}
 use Rattle.frame_write.specs.Placing.{element_key, next_of, live_of}
 use Rattle.frame_write.specs.Plans.{ArePutsFrom, puts_seen}
@@ -54,7 +50,7 @@ use Rattle.frame_write.specs.SlotKeys.{first_of, last_of, slots_key}
 use Rattle.frame_write.specs.Versions.{row_of, index_with, IsVersionPlan, MayPlan, IsPlanOf}
 use Rattle.frame_write.proofs.StateLemmas.{live_told, next_told}
 use Rattle.frame_write.proofs.PlanLemmas.{FitsTry, ok_is_ok, marks_are, pruned_is, buries_pruned, buries_staging}
-use Rattle.frame_write.proofs.Stretches.{Holds, IsLaidSlot, AreStretches, stretches_slots}
+use Rattle.frame_write.proofs.Stretches.{IsLaidSlot, AreStretches, stretches_slots}
 use Rattle.frame_write.proofs.BaseTold.{IsSharedIn, base_later}
 use Rattle.frame_write.proofs.LaidPieces.{pieces_may_lay, pieces_rows, pieces_laid, laid_index, laid_tiled}
 use Rattle.frame_write.proofs.CutLimits.{frame_within}

@@ -136,7 +136,16 @@ pub(crate) fn plan_link(
     let Some(last) = next.checked_add(1) else {
         return Err(NoMemory);
     };
-    let index = place_slots(alloc, client, next, symbol, version, &link.schema, rows, slots)?;
+    let index = place_slots(
+        alloc,
+        client,
+        next,
+        symbol,
+        version,
+        &link.schema,
+        rows,
+        slots,
+    )?;
     let index_key = index.key.copy(alloc)?;
     puts.push(index)?;
     plan_element(

@@ -48,13 +48,13 @@ returns c =
     let puts : List Prepared = c.push.new.self in
     if_ok_weaker (AddsElement c.args.client c.in-Some.last c.args.symbol.now c.args.state.now (record { version = c.in_ok-version.version; stamp = c.args.options.now.at; rows = layout.rows; index = c.in_ok-index_key.index_key }) puts c.args.link.now.change c.args.options.now.prune)
     (λ made. (before : History) → MayPlan c.args.client c.args.serial before c.args.symbol.now c.args.state.now → FitsPlan before c.args.symbol.now c.args.options.now.at c.args.link.now
-      → IsPlanOf c.args.client c.args.serial before c.args.symbol.now c.args.options.now c.args.link.now.change c.args.link.now.pieces made)
+    → IsPlanOf c.args.client c.args.serial before c.args.symbol.now c.args.options.now c.args.link.now.change c.args.link.now.pieces made)
     c.plan_element.result
     (λ made p before may fit.
-      let laid = subst (λ (ps : List Piece). IsLaid c.args.client c.args.symbol.now c.in_ok-version.version c.args.options.now.cutting c.args.serial ps layout) c.items.ensures c.in_ok-slots.ensures.laid in
-      let last : c.in-Some.last ≡ suc layout.next = omega (arith, c.in-Some.ensures.1) in
-      let small : c.in-Some.last < 2 ^ 64 = omega (arith, c.in-Some.ensures.0, c.in-Some.ensures.1) in
-      plan_of c.args.client c.args.serial c.args.symbol.now c.in_ok-version.version before c.args.state.now c.args.link.now c.args.options.now layout made c.ranges.client.fits c.in_ok-version.ensures.fits c.in_ok-version.ensures.next may fit laid
-      (version_plan c.args.client c.in_ok-version.version c.args.symbol.now c.args.state.now layout c.args.link.now.schema c.args.link.now.change c.args.options.now puts c.in_ok-index.index c.args.options.now.at c.in_ok-index_key.index_key c.in-Some.last made
-        c.in_ok-push.ensures.ok c.in_ok-index.ensures.key c.in_ok-index.ensures.body c.in_ok-slots.ensures.is_name refl c.in_ok-index_key.ensures last small p))
+    let laid = subst (λ (ps : List Piece). IsLaid c.args.client c.args.symbol.now c.in_ok-version.version c.args.options.now.cutting c.args.serial ps layout) c.items.ensures c.in_ok-slots.ensures.laid in
+    let last : c.in-Some.last ≡ suc layout.next = omega (arith, c.in-Some.ensures.1) in
+    let small : c.in-Some.last < 2 ^ 64 = omega (arith, c.in-Some.ensures.0, c.in-Some.ensures.1) in
+    plan_of c.args.client c.args.serial c.args.symbol.now c.in_ok-version.version before c.args.state.now c.args.link.now c.args.options.now layout made c.ranges.client.fits c.in_ok-version.ensures.fits c.in_ok-version.ensures.next may fit laid
+    (version_plan c.args.client c.in_ok-version.version c.args.symbol.now c.args.state.now layout c.args.link.now.schema c.args.link.now.change c.args.options.now puts c.in_ok-index.index c.args.options.now.at c.in_ok-index_key.index_key c.in-Some.last made
+    c.in_ok-push.ensures.ok c.in_ok-index.ensures.key c.in_ok-index.ensures.body c.in_ok-slots.ensures.is_name refl c.in_ok-index_key.ensures last small p))
     c.plan_element.ensures
