@@ -50,17 +50,20 @@ fn written<R: Wait, B: Bucket<StoreLaw>>(
 }
 
 // The plan that writes the frame as one new piece.
-fn whole(alloc: Global, frame: Frame, at: i64) -> Result<LinkPlan, Fail>
+fn whole(alloc: Global, frame: Frame, options: &Options) -> Result<LinkPlan, Fail>
     ensures schema { IfOk result (λ plan. plan.schema ≡ frame.schema) }
     ensures pieces { IfOk result (λ plan. plan.pieces ≡ Piece.Fresh frame ∷ []) }
-    ensures change { IfOk result (λ plan. plan.change ≡ Change.Wrote frame at) }
+    ensures change { IfOk result (λ plan. plan.change ≡ Change.Wrote frame options.now.at) }
 {
     let mut pieces = Items::new(alloc);
     pieces.push(Piece::Fresh(frame.copy(alloc)?))?;
     Ok(LinkPlan {
         schema: frame.schema().copy(alloc)?,
         pieces,
-        change: Change::Wrote { frame, at },
+        change: Change::Wrote {
+            frame,
+            at: options.at,
+        },
     })
 }
 
@@ -74,7 +77,7 @@ fn linked<R: Wait, B: Bucket<StoreLaw>>(
 ) -> Result<Result<Committed, Refused>, Fail> {
     let frame = five_rows(alloc, columns)?;
     let symbol = Symbol::make(alloc, "S")?;
-    let plan = whole(alloc, frame, options.at)?;
+    let plan = whole(alloc, frame, options)?;
     let state = walk(rt, alloc, bucket, &symbol)?;
     Ok(link_on(rt, alloc, bucket, &symbol, &state, &plan, options))
 }
