@@ -1,4 +1,4 @@
-ghost use Rattle.std.specs.Prelude.{◌≡◌, [], ◌∷◌, IfOk};
+ghost use Rattle.std.specs.Prelude.{◌≡◌, ◌≤◌, [], ◌∷◌, length, IfOk};
 ghost use Rattle.frame_core.specs.Limits.{IsStorable};
 
 use crate::laying::{Layout, lay_out};
@@ -108,9 +108,11 @@ fn older_slot(alloc: Global, symbol: &Symbol) -> Result<Slot, Fail>
     })
 }
 
-// Five new rows, and behind them the older slot, with keys from serial 7 on.
-fn laid_out(alloc: Global, cutting: Cutting) -> Result<Layout, Fail> {
-    let frame = five_rows(alloc, &["a"])?;
+// New rows, and behind them the older slot, with keys from serial 7 on.
+fn laid_out(alloc: Global, frame: Frame, cutting: Cutting) -> Result<Layout, Fail>
+    requires storable { IsStorable frame }
+    requires few { length frame.rows ≤ 5 }
+{
     let symbol = Symbol::make(alloc, "S")?;
     let mut run = Items::new(alloc);
     run.push(older_slot(alloc, &symbol)?)?;
@@ -262,7 +264,9 @@ fn new_pieces_are_linked_as_the_next_version(rt: HostRuntime) -> Result<(), Fail
 fn a_shared_slot_follows_the_new_rows_and_is_not_put(rt: HostRuntime) -> Result<(), Fail> {
     let alloc = rt.alloc();
     if let Some(cutting) = Cutting::make(2, 1) {
-        let layout = laid_out(alloc, cutting)?;
+        let frame = five_rows(alloc, &["a"])?;
+        assert!(rt; frame.rows() == 5);
+        let layout = laid_out(alloc, frame, cutting)?;
         assert!(rt; layout.rows == 7);
         assert!(rt; layout.puts.len() == 3);
         assert!(rt; layout.slots.len() == 4);
