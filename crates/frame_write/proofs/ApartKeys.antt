@@ -62,6 +62,7 @@ abbrev IsTold : List Key → Laid → Type 0
 IsTold keys (s, None) = list_any (same_key s.key) keys ≡ false
 IsTold keys (s, Some body) = list_any (same_key s.key) keys ≡ true
 
+-- the keys of laid slots
 abbrev keys_laid : List Laid → List Key
 keys_laid xs = map (λ (s : Slot). s.key) (slots_laid xs)
 

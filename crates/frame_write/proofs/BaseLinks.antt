@@ -38,6 +38,7 @@ refer_stamps h client symbol was entry list may z =
           (subst (λ ls. AllZip IsStamped ls (one.made ∷ (state_of h symbol).versions)) (sym more) ((one.fits.stamps, one.fits.storable), z))
     ]
 
+-- each link of a lawful history has its slots' stamps
 pub links_stamped : (h : History) (symbol : Name) → IsLawful h → AllZip IsStamped (links h symbol) (state_of h symbol).versions
 links_stamped [] symbol l = tt
 links_stamped (events.Refer c s was entry list ∷ h) symbol l =
@@ -77,6 +78,7 @@ module _ (R : Linked → Version → Type 0) (st : State) (base : Version) (l : 
   abbrev not_buried : Version → Bool
   not_buried v = not (is_buried st v.number)
 
+  -- the link of the first version that is not buried goes with it, and reaches what the newest live link reaches
   pub base_link : (ls : List Linked) (vs : List Version) → AllZip R ls vs → AllZip (λ (l : Linked) (v : Version). l.row.version ≡ v.number) ls vs → ((v : Version) → Contains vs v → Contains st.versions v) → AreNumbered vs
       → first_of (filter not_buried vs) ≡ Some base → Contains ls l → R l base × ((key : Key) → newest_reaches st ls key ≡ reaches l key)
   base_link [] vs r z among n first c = absurd (contains_none l c)

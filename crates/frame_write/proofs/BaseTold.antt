@@ -29,21 +29,25 @@ pub record IsSharedIn (h : History) (client : ℕ) (symbol : Name) (frame : Fram
   pub may_name : MayNameKey h client symbol key
 
 module _ (h : History) (lawful : ∥ IsLawful h ∥₁) (symbol : Name) (schema : Schema) (rows : List Row) (slots : List Slot) (b : HasBase h symbol schema rows slots) (s : Slot) (there : Contains slots s) where
+  -- a slot of the base has the stamps of its rows
   pub stamps_told : HasSlotStamps b.version.frame s
   stamps_told = record {
     first = ∥∥₁_elim lawful (hlevel props) (λ l. (shared_stamps h l symbol schema rows slots b s there).first);
     last = ∥∥₁_elim lawful (hlevel props) (λ l. (shared_stamps h l symbol schema rows slots b s there).last);
   }
 
+  -- its rows are among the base's
   pub lies_told : s.part.first_row + s.part.rows ≤ length b.version.frame.rows
   lies_told = ∥∥₁_elim lawful (hlevel props) (λ l. (shared_lies h l symbol schema rows slots b s there).0)
 
+  -- so its numbers are small
   pub small_told : s.part.first_row + s.part.rows < 2 ^ 32
   small_told = ∥∥₁_elim lawful (hlevel props) (λ l.
       let lies = (shared_lies h l symbol schema rows slots b s there).0 in
       let few = small_rows b.version.frame (base_storable h l symbol schema rows slots b) (length b.version.frame.rows) refl in
       omega (arith, lies, few))
 
+  -- its tile stands, and its key may be named
   pub shared_told : (client columns : ℕ) → IsSlot columns s → IsSharedIn h client symbol (cut b.version.frame s.part) s.key
   shared_told client columns rule = record {
     put = ∥∥₁_elim lawful (hlevel props) (λ l. shared_put h l symbol schema rows slots b s there);

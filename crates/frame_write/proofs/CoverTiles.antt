@@ -95,6 +95,7 @@ module _ (frame : Frame) where
   are_cut [] = tt
   are_cut (s ∷ slots) = (refl, are_cut slots)
 
+  -- the parts of slots that cover a frame tile it
   pub cover_tiled : (slots : List Slot) → AllByRecursion (IsSlot (length frame.schema.columns)) slots → Cover (length frame.rows) (length frame.schema.columns) slots → Tiled frame (map tile_of slots)
   cover_tiled [] each none = record {
     inside = tt;

@@ -211,6 +211,7 @@ module _ (h : History) (lawful : ∥ IsLawful h ∥₁) (symbol : Name) (f : Fra
   pieces_may_lay (pieces.Shared run ∷ list) each = (run_may_move run each.0.0 each.0.1, pieces_may_lay list each.1)
   pieces_may_lay (pieces.Fresh g ∷ list) each = (each.0.0, pieces_may_lay list each.1)
 
+  -- the rows of pieces are as many as their sizes say
   pub pieces_rows : (list : List Piece) → AllByRecursion (IsPiece f.schema slots) list → length (flat_map (rows_held rows) list) ≡ rows_in list
   pieces_rows [] each = refl
   pieces_rows (pieces.Shared run ∷ list) each =

@@ -25,6 +25,7 @@ use Rattle.frame_write.proofs.PlanLemmas.{FitsTry, tiles_from}
 
 -- ---- the puts of several
 
+-- the puts of slots behind others
 pub puts_append : (xs ys : List Laid) → puts_laid (xs ++ ys) ≡ puts_laid xs ++ puts_laid ys
 puts_append [] ys = refl
 puts_append ((s, None) ∷ xs) ys = puts_append xs ys
@@ -34,10 +35,12 @@ puts_append ((s, Some body) ∷ xs) ys = ap (λ l. (s.key, body) ∷ l) (puts_ap
 abbrev pub run_laid : ℕ → ℕ → List Slot → List Laid
 run_laid from to run = map {B = Laid} (λ (s : Slot). (moved from to s, None)) run
 
+-- nothing is put for a shared run
 pub shared_puts : (from to : ℕ) (run : List Slot) → puts_laid (run_laid from to run) ≡ []
 shared_puts from to [] = refl
 shared_puts from to (s ∷ run) = shared_puts from to run
 
+-- the slots of a shared run are its moved ones
 pub run_slots : (from to : ℕ) (run : List Slot) → slots_laid (run_laid from to run) ≡ map (moved from to) run
 run_slots from to [] = refl
 run_slots from to (s ∷ run) = ap (λ l. moved from to s ∷ l) (run_slots from to run)
@@ -47,6 +50,7 @@ all_append P [] ys a b = b
 all_append P (x ∷ xs) ys a b = (a.0, all_append P xs ys a.1 b)
 
 module _ (client : ℕ) (symbol : Name) (version : ℕ) where
+  -- what is put for the tiles of a new piece
   pub fresh_puts : (to serial : ℕ) (tiles : List Tile) → puts_laid (fresh_laid client symbol version to serial tiles) ≡ tile_puts (placed client symbol version serial tiles)
   fresh_puts to serial [] = refl
   fresh_puts to serial (t ∷ tiles) = ap (λ l. ((slot_at client symbol version serial t).key, arc_value t.body) ∷ l) (fresh_puts to (suc serial) tiles)

@@ -58,6 +58,7 @@ module _ (client : ℕ) (symbol : Name) (version : ℕ) where
       ap (λ l. first ++ l) (pieces_last list tiles (begin + piece_rows q) (serial + length u) cutting p t z.1 ∙ (λ i. mid ++ laid_piece client symbol version (row i) (place i) p t))
       ∙ sym (append_assoc first mid (laid_piece client symbol version (begin + (piece_rows q + rows_in list)) (serial + (length u + tiles_in tiles)) p t))
 
+  -- one more piece behind those that are laid out
   pub laid_more : (cutting : Cutting) (serial : ℕ) (list : List Piece) (p : Piece) (old new : Layout) → IsLaid client symbol version cutting serial list old → AddsPiece client symbol version cutting p old new
       → IsLaid client symbol version cutting serial (list ++ p ∷ []) new
   laid_more cutting serial list p old new laid adds =
@@ -76,6 +77,7 @@ module _ (client : ℕ) (symbol : Name) (version : ℕ) where
         fits = adds.fits laid.fits;
       }
 
+  -- no piece is laid out at first
   pub laid_none : (cutting : Cutting) (serial : ℕ) (all : Layout) → serial < 2 ^ 64 → all ≡ record { slots = []; puts = []; rows = 0; next = serial } → IsLaid client symbol version cutting serial [] all
   laid_none cutting serial all small is = record {
     tiles = [];

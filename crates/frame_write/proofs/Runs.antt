@@ -70,6 +70,7 @@ lead_between columns end s (t ∷ more) l =
     later le [] all = tt
     later le (x ∷ xs) all = ((omega (arith, le, all.0.0), all.0.1), later le xs all.1)
 
+-- a moved slot is the same but for its first row
 pub moved_is : (from to : ℕ) (s : Slot) → from ≤ s.part.first_row → IsMoved from to s (moved from to s)
 moved_is from to s le = record { first_row = omega (arith, le); rows = refl; first_col = refl; cols = refl; first = refl; last = refl; key = refl }
 
@@ -98,6 +99,7 @@ module _ (f : Frame) (is : IsFrame f) (columns : ℕ) where
   lead_join mid rows s [] (t ∷ rest) l c a hs ks = (inr (next_run s t l.1 (c.0 ∙ sym l.0) c.1 a ks.0), c.2)
   lead_join mid rows s (t ∷ more) rest l c a hs ks = (l.0, lead_join mid rows t more rest l.1 c hs.0 hs.1 ks)
 
+  -- slots that cover one stretch, and behind them slots that cover the next, cover both
   pub cover_join : (from mid rows : ℕ) (first rest : List Slot) → CoverFrom from mid columns first → CoverFrom mid rows columns rest → AllByRecursion (HasSlotStamps f) first → AllByRecursion (HasSlotStamps f) rest
       → CoverFrom from rows columns (first ++ rest)
   cover_join from mid rows [] rest a c hs ks = subst (λ n. CoverFrom n rows columns rest) (sym a) c
@@ -145,6 +147,7 @@ pub lead_end : (columns rows : ℕ) (s : Slot) (more : List Slot) → LeadOn row
 lead_end columns rows s [] l = l.0
 lead_end columns rows s (t ∷ more) l = lead_end columns rows t more l.1
 
+-- slots that cover a stretch are a run
 pub cover_is_run : (from rows columns : ℕ) (slots : List Slot) → CoverFrom from rows columns slots → IsRun columns slots
 cover_is_run from rows columns [] c = tt
 cover_is_run from rows columns (s ∷ more) c = (c.1, subst (λ n. LeadOn n columns s more) (sym (lead_end columns rows s more c.2)) c.2)

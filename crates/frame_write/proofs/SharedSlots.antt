@@ -102,6 +102,7 @@ module _ (h : History) (lawful : IsLawful h) (symbol : Name) (schema : Schema) (
       and_from _ _ (passes (λ (w : Version). nat_eq b.link.row.version w.number) (state_of h symbol).versions b.version among.0 (eq-eqb b.link.row.version b.version.number b.number))
       (ap (λ n. not (is_buried (state_of h symbol) n)) b.number ∙ among.1)
 
+  -- the base's frame may be written
   pub base_storable : IsStorable b.version.frame
   base_storable = facts.0.1.1
 

@@ -66,6 +66,7 @@ module _ (f g : Frame) (schema : f.schema ≡ g.schema) (from end to : ℕ) (ord
     last = ap last_stamp (same_rows s t m low high) ∙ (h.last ∙ ap Some (sym m.last));
   }
 
+  -- a moved slot cuts the same rows out of the new frame
   pub moved_cut : (s t : Slot) → IsMoved from to s t → from ≤ s.part.first_row → s.part.first_row + s.part.rows ≤ end → cut f t.part ≡ cut g s.part
   moved_cut s t m low high = cut_alike f g t.part s.part schema m.first_col m.cols (same_rows s t m low high)
 
@@ -108,6 +109,7 @@ pub record IsLaidSlot (Shares : Frame → Key → Type 0) (f : Frame) (x : Laid)
 abbrev pub AreBetween : ℕ → ℕ → List Slot → Type 0
 AreBetween from end slots = AllByRecursion (λ (s : Slot). (from ≤ s.part.first_row) × (s.part.first_row + s.part.rows ≤ end)) slots
 
+-- slots that cover a stretch lie between its ends
 pub cover_between : (from end columns : ℕ) (slots : List Slot) → CoverFrom from end columns slots → AreBetween from end slots
 cover_between from end columns [] c = tt
 cover_between from end columns (s ∷ more) c = subst (λ n. AreBetween n end (s ∷ more)) c.0 (lead_between columns end s more c.2)
@@ -118,11 +120,13 @@ zip_moved Shares g from to [] (x ∷ xs) z = absurd z
 zip_moved Shares g from to (s ∷ slots) [] z = absurd z
 zip_moved Shares g from to (s ∷ slots) (x ∷ xs) z = (z.0.moved, zip_moved Shares g from to slots xs z.1)
 
+-- the slots of a stretch cover it
 pub stretch_cover : (Shares : Frame → Key → Type 0) (f : Frame) (to size : ℕ) (xs : List Laid) (r : IsStretch Shares f to size xs) → CoverFrom to (to + size) (length f.schema.columns) (slots_laid xs)
 stretch_cover Shares f to size xs r =
     subst (λ n. CoverFrom to (to + n) (length f.schema.columns) (slots_laid xs)) (sym r.size_is)
     (moved_cover (length f.schema.columns) r.from r.end to r.slots (slots_laid xs) r.ordered (zip_moved Shares r.source r.from to r.slots xs r.placed) r.cover)
 
+-- each slot of a stretch keeps its rules in the new frame
 pub stretch_slots : (Shares : Frame → Key → Type 0) (f : Frame) (to size : ℕ) (xs : List Laid) (r : IsStretch Shares f to size xs) → AllByRecursion (IsLaidSlot Shares f) xs
 stretch_slots Shares f to size xs r = each r.slots xs r.rules r.stamps (cover_between r.from r.end (length f.schema.columns) r.slots r.cover) r.placed
   where

@@ -58,6 +58,7 @@ use Rattle.frame_write.proofs.LaidPuts.{puts_counted, pieces_of_symbol, pieces_f
 use Rattle.frame_write.proofs.ApartKeys.{IsApart, put_apart, new_keys}
 use Rattle.frame_write.proofs.VersionRefers.{makes_version, read_put, tiles_at, IsLinkIn, link_fits, version_may_follow, staged_version}
 
+-- what follows from a fact of an Ok holds of it too
 pub if_ok_weaker : {T E : Type 0} (P Q : T → Type 0) (r : Result T E) → ((t : T) → P t → Q t) → IfOk r P → IfOk r Q
 if_ok_weaker P Q (Ok t) f p = f t p
 if_ok_weaker P Q (Err e) f p = tt
@@ -143,24 +144,25 @@ shared_apart h lawful client n symbol f puts from le [] each = tt
 shared_apart h lawful client n symbol f puts from le ((s, None) ∷ xs) each = (put_apart h lawful client n s.key (cut f s.part) puts from le each.0.holds.put, shared_apart h lawful client n symbol f puts from le xs each.1)
 shared_apart h lawful client n symbol f puts from le ((s, Some body) ∷ xs) each = (tt, shared_apart h lawful client n symbol f puts from le xs each.1)
 
--- ---- the pieces
-
--- ---- before they are laid out
+-- ---- the pieces, before they are laid out
 
 module _ (before : History) (lawful : ∥ IsLawful before ∥₁) (symbol : Name) (at : ℤ) (link : LinkPlan) (fit : FitsPlan before symbol at link) where
+  -- each piece may be laid out
   pub may_lay : AllByRecursion MayLay link.pieces
   may_lay = pieces_may_lay before lawful symbol fit.version.frame fit.pieces.rows fit.pieces.slots fit.pieces.base link.pieces fit.pieces.each
 
+  -- their rows are few
   pub few_rows : rows_in link.pieces ≤ 2000000
   few_rows =
       let rows = pieces_rows before lawful symbol fit.version.frame fit.pieces.rows fit.pieces.slots fit.pieces.base link.pieces fit.pieces.each in
       let held = ap length fit.pieces.held in
       omega (arith, rows, held, (frame_within fit.version.frame fit.storable.within).rows_are)
 
+  -- the change makes a version
   pub is_made : is_version link.change ≡ true
   is_made = makes_version (state_of before symbol) link.change fit.version fit.makes
 
--- ---- the pieces
+-- ---- the pieces, as they are laid out
 
 -- what is known before the puts: the version's frame in pieces, and how they are laid out
 pub record IsReady (client serial : ℕ) (symbol : Name) (version : ℕ) (before : History) (v : Version) (cutting : Cutting) (list : List Piece) (layout : Layout) : Type 0 where
@@ -188,9 +190,11 @@ module _ (client serial : ℕ) (symbol : Name) (version : ℕ) (before : History
   here : AreStretches (IsSharedIn before client symbol) v.frame 0 xs × (0 + rows_in list ≡ length v.frame.rows)
   here = whole [] refl r.lawful
 
+  -- the layout has the version's rows
   pub rows_are : layout.rows ≡ length v.frame.rows
   rows_are = omega (arith, r.laid.rows, here.1)
 
+  -- its slots keep the rules of an index
   pub index_is : IsIndex (index_with v.frame.schema layout)
   index_is =
       subst (λ n. IsIndex (record { schema = v.frame.schema; rows = n; slots = layout.slots })) (sym rows_are)

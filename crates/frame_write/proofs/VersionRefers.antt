@@ -87,6 +87,7 @@ link_fits h client symbol row v number stamp rows storable p = record {
 
 -- ---- the change
 
+-- a change of which the library makes a version is one that makes a version
 pub makes_version : (st : State) (c : Change) (v : Version) → new_version st c ≡ Some v → is_version c ≡ true
 makes_version st (changes.Wrote frame at) v e = refl
 makes_version st (changes.Appended frame at) v e = refl
@@ -131,6 +132,7 @@ buried_fits h client symbol row _ (buries_live some) = ((tt, live_may_be_buried 
 
 -- ---- the Refer
 
+-- a Refer with this change and what it buries may follow
 pub version_may_follow : (h : History) (client : ℕ) (symbol : Name) (c : Change) (v : Version) (was : Option Key) (entry : Key) (rest : List Change) (row : LinkRow)
     → new_version (state_of h symbol) c ≡ Some v → IsInOrder c → FitsLink h client symbol row v → BuriesLive (state_of h symbol) rest
     → IsPutEntry h client symbol entry (record { prev = was; changes = marks_of row (c ∷ rest) })

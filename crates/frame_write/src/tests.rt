@@ -1,4 +1,4 @@
-ghost use Rattle.std.specs.Prelude.{◌≡◌, [], ◌∷◌, IfOk};
+ghost use Rattle.std.specs.Prelude.{◌≡◌, ◌≤◌, [], ◌∷◌, length, IfOk};
 ghost use Rattle.frame_core.specs.Limits.{IsStorable};
 
 use crate::laying::{Layout, lay_out};
@@ -50,17 +50,20 @@ fn written<R: Wait, B: Bucket<StoreLaw>>(
 }
 
 // The plan that writes the frame as one new piece.
-fn whole(alloc: Global, frame: Frame, at: i64) -> Result<LinkPlan, Fail>
+fn whole(alloc: Global, frame: Frame, options: &Options) -> Result<LinkPlan, Fail>
     ensures schema { IfOk result (λ plan. plan.schema ≡ frame.schema) }
     ensures pieces { IfOk result (λ plan. plan.pieces ≡ Piece.Fresh frame ∷ []) }
-    ensures change { IfOk result (λ plan. plan.change ≡ Change.Wrote frame at) }
+    ensures change { IfOk result (λ plan. plan.change ≡ Change.Wrote frame options.now.at) }
 {
     let mut pieces = Items::new(alloc);
     pieces.push(Piece::Fresh(frame.copy(alloc)?))?;
     Ok(LinkPlan {
         schema: frame.schema().copy(alloc)?,
         pieces,
-        change: Change::Wrote { frame, at },
+        change: Change::Wrote {
+            frame,
+            at: options.at,
+        },
     })
 }
 
@@ -74,7 +77,7 @@ fn linked<R: Wait, B: Bucket<StoreLaw>>(
 ) -> Result<Result<Committed, Refused>, Fail> {
     let frame = five_rows(alloc, columns)?;
     let symbol = Symbol::make(alloc, "S")?;
-    let plan = whole(alloc, frame, options.at)?;
+    let plan = whole(alloc, frame, options)?;
     let state = walk(rt, alloc, bucket, &symbol)?;
     Ok(link_on(rt, alloc, bucket, &symbol, &state, &plan, options))
 }
@@ -105,9 +108,11 @@ fn older_slot(alloc: Global, symbol: &Symbol) -> Result<Slot, Fail>
     })
 }
 
-// Five new rows, and behind them the older slot, with keys from serial 7 on.
-fn laid_out(alloc: Global, cutting: Cutting) -> Result<Layout, Fail> {
-    let frame = five_rows(alloc, &["a"])?;
+// New rows, and behind them the older slot, with keys from serial 7 on.
+fn laid_out(alloc: Global, frame: Frame, cutting: Cutting) -> Result<Layout, Fail>
+    requires storable { IsStorable frame }
+    requires few { length frame.rows ≤ 5 }
+{
     let symbol = Symbol::make(alloc, "S")?;
     let mut run = Items::new(alloc);
     run.push(older_slot(alloc, &symbol)?)?;
@@ -259,7 +264,9 @@ fn new_pieces_are_linked_as_the_next_version(rt: HostRuntime) -> Result<(), Fail
 fn a_shared_slot_follows_the_new_rows_and_is_not_put(rt: HostRuntime) -> Result<(), Fail> {
     let alloc = rt.alloc();
     if let Some(cutting) = Cutting::make(2, 1) {
-        let layout = laid_out(alloc, cutting)?;
+        let frame = five_rows(alloc, &["a"])?;
+        assert!(rt; frame.rows() == 5);
+        let layout = laid_out(alloc, frame, cutting)?;
         assert!(rt; layout.rows == 7);
         assert!(rt; layout.puts.len() == 3);
         assert!(rt; layout.slots.len() == 4);
