@@ -6,4 +6,8 @@ pub mod TurnLemmas
 pub mod WindowLemmas
 pub mod SeenLemmas
 pub mod LegalBurials
-pub mod ReclaimLemmas
+pub mod GoneLemmas
+pub mod DeadLemmas
+pub mod DropLemmas
+pub mod KeySets
+pub mod LegalReclaims
