@@ -10,6 +10,8 @@ use Rattle.frame_core.specs.declared.refusal.Refused.{Refused}
 use Rattle.key_kind.specs.declared.key.Key.{Key}
 use Rattle.key_kind.specs.Keys.{same_key, key_cmp}
 use Rattle.key_kind.proofs.KeyTests.{same_key_self}
+use Rattle.bucket_core.specs.declared.answer.Dropped.{Dropped as Answer}
+use Rattle.bucket_core.specs.declared.answer.Dropped.TheVariants as answers
 use Rattle.bucket_core.specs.declared.answer.StoreErr.{StoreErr}
 use Rattle.bucket_core.specs.declared.answer.StoreErr.TheVariants as errs
 use Rattle.bucket_core.specs.Calls.{IsSteady, MayTryDrop, drop_event, DidDrop as DidCall}
@@ -54,6 +56,11 @@ one_refused client sole limit before now old new key place refused err at is d =
   full = λ count e. full_there client sole limit before now old new key place err count d (ap (λ (r : Refused). r.why) (sym is) ∙ e);
 }
 
+-- a key that was there is dropped
+pub gone_is : (client : ℕ) (sole : Bool) (limit before now : ℕ) (old new : History) (key : Key) (dropped : Answer) (place : ℕ) → dropped ≡ answers.Gone place → DidCall IsClaimed client sole limit before now old new key (Ok dropped)
+    → Adds IsClaimed client sole old new (drop_event client key) × (place ≡ length new)
+gone_is client sole limit before now old new key dropped place is d = let e = subst (λ x. DidCall IsClaimed client sole limit before now old new key (Ok x)) is d in (e.0, e.1)
+
 -- want of memory for the note, behind the drop
 pub note_refused : (client : ℕ) (sole : Bool) (limit before now : ℕ) (old new : History) (key : Key) (place : ℕ) (refused : Refused) → place ≡ length new → refused ≡ record { place = place; why = refusals.NoMemory }
     → Adds IsClaimed client sole old new (drop_event client key) → StoppedDrop client sole limit before now old new key refused
@@ -92,6 +99,7 @@ module _ {X : Type 0} where
   part_all P _ _ (part_without y {xs} {ys} p) all = part_all P xs ys p all.1
 
 pub part_sorted : (xs ys : List Key) → IsPartOf xs ys → IsStrictlySortedBy key_cmp ys → IsStrictlySortedBy key_cmp xs
+unfolding IsStrictlySortedBy
 part_sorted _ _ part_none s = tt
 part_sorted _ _ (part_with x {xs} {ys} p) s = (part_all (λ y. key_cmp x y ≡ orders.Less) xs ys p s.0, part_sorted xs ys p s.1)
 part_sorted _ _ (part_without y {xs} {ys} p) s = part_sorted xs ys p s.1

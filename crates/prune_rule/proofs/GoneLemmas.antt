@@ -15,7 +15,7 @@ use Rattle.store_model.specs.Law.{IsLawful}
 use Rattle.store_model.proofs.Lawful.{lawful_is_intact}
 use Rattle.store_model.proofs.Histories.{choose_false, chosen_false}
 use Rattle.store_model.proofs.Following.{puts_stay}
-use Rattle.version_chain.proofs.MeetLemmas.{event_at_later, event_at_end}
+use Rattle.reply_model.proofs.Covering.{event_at_later, event_at_end}
 use Rattle.reply_model.specs.Drops.{drops}
 
 -- what there is of an option that is some

@@ -32,6 +32,7 @@ among_is_had keys key c = passes (λ (k : Key). is_eq (key_cmp key k)) keys.keys
 -- ---- order
 
 pub rise_of : (keys : List Key) → IsStrictlySortedBy key_cmp keys → KeysRise keys
+unfolding IsStrictlySortedBy
 rise_of [] s = tt
 rise_of (a ∷ []) s = tt
 rise_of (a ∷ b ∷ more) s = (ap is_lt s.0.0, rise_of (b ∷ more) s.1)
@@ -57,14 +58,14 @@ none_earlier : (kind : KeyKind) (keys : List Key) → AllByRecursion (λ (k : Ke
 none_earlier kind [] all = refl
 none_earlier kind (k ∷ keys) all = ap (λ b. cond b (k ∷ of_kind kind keys) (of_kind kind keys)) all.0 ∙ none_earlier kind keys all.1
 
-later_kinds : (kind : KeyKind) (x : Key) (keys : List Key) → (kind_code kind ≤ kind_code x.kind → ⊥) → AllByRecursion (λ y. key_cmp x y ≡ orders.Less) keys → of_kind kind keys ≡ []
+later_kinds : (kind : KeyKind) (x : Key) (keys : List Key) → (kind_code x.kind ≤ kind_code kind → ⊥) → AllByRecursion (λ y. key_cmp x y ≡ orders.Less) keys → of_kind kind keys ≡ []
 later_kinds kind x keys apart all = none_earlier kind keys (each keys all)
   where
     each : (keys : List Key) → AllByRecursion (λ y. key_cmp x y ≡ orders.Less) keys → AllByRecursion (λ (k : Key). same_kind k.kind kind ≡ false) keys
     each [] all = tt
     each (k ∷ keys) all = (
       elim (same_kind k.kind kind) as (λ b. same_kind k.kind kind ≡ b → b ≡ false) [
-        | true ↦ λ e. absurd (apart (omega (arith, kinds_rise x k all.0, ap kind_code (sym (same_kind_is k.kind kind e)))))
+        | true ↦ λ e. absurd (apart (omega (arith, kinds_rise x k all.0, ap kind_code (same_kind_is k.kind kind e))))
         | false ↦ λ e. refl
       ] refl,
       each keys all.1,
@@ -72,6 +73,7 @@ later_kinds kind x keys apart all = none_earlier kind keys (each keys all)
 
 -- keys in order are those of tiles, then those of indexes, then those of pieces
 pub split_kinds : (keys : List Key) → IsStrictlySortedBy key_cmp keys → AllByRecursion (λ (k : Key). IsDropKind k.kind) keys → keys ≡ of_kind kinds.TableData keys ++ (of_kind kinds.TableIndex keys ++ of_kind kinds.Staged keys)
+unfolding IsStrictlySortedBy
 split_kinds [] s all = refl
 split_kinds (x ∷ keys) s all =
     let more = split_kinds keys s.1 all.1 in

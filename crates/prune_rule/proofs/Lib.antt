@@ -10,4 +10,9 @@ pub mod GoneLemmas
 pub mod DeadLemmas
 pub mod DropLemmas
 pub mod KeySets
+pub mod PieceLemmas
+pub mod ReferredLemmas
+pub mod SetLemmas
+pub mod ReachLemmas
+pub mod FindingLemmas
 pub mod LegalReclaims

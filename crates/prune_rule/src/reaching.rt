@@ -101,13 +101,13 @@ fn read_index<R: Wait, B: Bucket<StoreLaw>>(
         Ok(found) => found,
         Err(err) => return Err(refused_by(place, err)),
     };
-    let Some(body) = found.body else {
-        return Ok(None);
-    };
-    // What was put as an index is always read, so only memory can be wanting.
-    match read(alloc, body.bytes()) {
-        Ok(index) => Ok(Some(index)),
-        Err(_) => Err(out_of_memory(bucket.place())),
+    match found.body {
+        None => Ok(None),
+        // What was put as an index is always read, so only memory can be wanting.
+        Some(body) => match read(alloc, body.bytes()) {
+            Ok(index) => Ok(Some(index)),
+            Err(_) => Err(out_of_memory(bucket.place())),
+        },
     }
 }
 

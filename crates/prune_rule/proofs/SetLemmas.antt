@@ -1,0 +1,152 @@
+-- Sets that grow, element by element, and the looks of a reclaim.
+use Rattle.std.proofs.Common.{◌≡◌, ℕ, suc, ◌≤◌, Bool, true, false, ◌||◌, ◌&&◌, not, List, [], ◌∷◌, ◌++◌, map, length, refl, ap, sym, ◌∙◌, subst, inl, inr, arith, cond, nat_eq, Option, Some, None, Ok}
+use Rattle.std.specs.Prelude.{◌⊎◌, Contains, filter, is_some, option_and_then}
+use Rattle.std.specs.List.{list_any, AllByRecursion}
+use Rattle.std.specs.BTreeSet.{BTreeSet}
+use Rattle.std.specs.Ordering.{nat_cmp, is_eq, ordering_then, eq_by_cmp}
+use Rattle.std.proofs.lemmas.Bool.{true≢false, and_parts, or_cases, or_left, or_right}
+use Rattle.std.proofs.lemmas.List.Folds.{list_any-append}
+use Rattle.std.proofs.lemmas.List.Elements.{filter-append}
+use Rattle.frame_core.specs.declared.refusal.Refusal.TheVariants as refusals
+use Rattle.frame_core.specs.declared.refusal.Refused.{Refused}
+use Rattle.byte_fields.specs.Reading.{read_of}
+use Rattle.index_tree.specs.declared.index.Slot.{Slot}
+use Rattle.index_tree.specs.declared.index.Index.{Index}
+use Rattle.index_tree.specs.IndexText.{index_of}
+use Rattle.key_kind.specs.declared.key.KeyKind.TheVariants as kinds
+use Rattle.key_kind.specs.declared.key.Key.{Key}
+use Rattle.key_kind.specs.Keys.{is_put, same_key, key_cmp}
+use Rattle.key_kind.specs.KeyOrder.{same_key_ties}
+use Rattle.key_kind.proofs.KeyTests.{same_key_is}
+use Rattle.bucket_core.specs.declared.answer.StoreErr.{StoreErr}
+use Rattle.bucket_core.specs.declared.answer.StoreErr.TheVariants as errs
+use Rattle.bucket_core.specs.Calls.{RefusesLook}
+use Rattle.bucket_core.specs.History.{History, Bytes, stored, body_put}
+use Rattle.bucket_core.specs.Laws.{Looks}
+use Rattle.store_model.specs.Law.{IsClaimed}
+use Rattle.store_model.specs.Links.{index_put}
+use Rattle.store_model.proofs.Histories.{stands_was_put}
+use Rattle.version_chain.specs.States.{RefusesWalk}
+use Rattle.version_chain.specs.Stops.{refused_by}
+use Rattle.version_chain.proofs.Walked.{looks_length}
+use Rattle.prune_rule.specs.DeadKeys.{has_key, has_number, has_piece, reached_keys}
+
+-- ---- one key more
+
+-- the note of a key, as a test
+key_noted : (key other : Key) (old : Bool) → cond (is_eq (key_cmp key other)) true old ≡ (same_key key other || old)
+key_noted key other old = ap (λ (b : Bool). cond b true old) (sym (same_key_ties key other)) ∙ as_or (same_key key other)
+  where
+    as_or : (b : Bool) → cond b true old ≡ (b || old)
+    as_or true = refl
+    as_or false = refl
+
+swapped : (a b : Bool) → (a || b) ≡ (b || a)
+swapped true true = refl
+swapped true false = refl
+swapped false true = refl
+swapped false false = refl
+
+-- a key is put into a set
+pub key_added : (old new : BTreeSet Key) (key : Key) → ((other : Key) → has_key new other ≡ cond (is_eq (key_cmp key other)) true (has_key old other)) → (other : Key) → has_key new other ≡ (has_key old other || same_key key other)
+key_added old new key noted other = noted other ∙ (key_noted key other (has_key old other) ∙ swapped (same_key key other) (has_key old other))
+
+-- unless another set has it
+pub kept_already : (keys kept : BTreeSet Key) (key : Key) → has_key kept key ≡ true → (other : Key) → has_key keys other ≡ (has_key keys other || (same_key key other && not (has_key kept other)))
+kept_already keys kept key has other =
+    elim (same_key key other) as (λ b. same_key key other ≡ b → has_key keys other ≡ (has_key keys other || (b && not (has_key kept other)))) [
+      | true ↦ λ e. no_more (has_key keys other) ∙ ap (λ b. has_key keys other || not b) (sym (subst (λ k. has_key kept k ≡ true) (same_key_is key other e) has))
+      | false ↦ λ e. no_more (has_key keys other)
+    ] refl
+  where
+    no_more : (b : Bool) → b ≡ (b || false)
+    no_more true = refl
+    no_more false = refl
+
+pub key_noted_unless : (old new kept : BTreeSet Key) (key : Key) → has_key kept key ≡ false → ((other : Key) → has_key new other ≡ cond (is_eq (key_cmp key other)) true (has_key old other))
+    → (other : Key) → has_key new other ≡ (has_key old other || (same_key key other && not (has_key kept other)))
+key_noted_unless old new kept key lacks noted other =
+    key_added old new key noted other ∙ elim (same_key key other) as (λ b. same_key key other ≡ b → (has_key old other || b) ≡ (has_key old other || (b && not (has_key kept other)))) [
+      | true ↦ λ e. ap (λ b. has_key old other || not b) (sym (subst (λ k. has_key kept k ≡ false) (same_key_is key other e) lacks))
+      | false ↦ λ e. refl
+    ] refl
+
+-- ---- several keys
+
+map_slot : (slots : List Slot) (slot : Slot) → map (λ (s : Slot). s.key) (slots ++ slot ∷ []) ≡ map (λ (s : Slot). s.key) slots ++ slot.key ∷ []
+map_slot [] slot = refl
+map_slot (s ∷ slots) slot = ap (λ l. s.key ∷ l) (map_slot slots slot)
+
+-- what is in the set, and what is left to note
+abbrev pub noting : BTreeSet Key → BTreeSet Key → List Slot → Key → Bool
+noting keys kept slots other = has_key keys other || (list_any (λ k. same_key k other) (map (λ (s : Slot). s.key) slots) && not (has_key kept other))
+
+pub noting_first : (old keys kept : BTreeSet Key) (key : Key) (index : Index) (slots : List Slot) → slots ≡ index.slots → ((other : Key) → has_key keys other ≡ (has_key old other || (same_key key other && not (has_key kept other))))
+    → (other : Key) → noting keys kept slots other ≡ (has_key old other || (list_any (λ k. same_key k other) (reached_keys key index) && not (has_key kept other)))
+noting_first old keys kept key index slots is noted other =
+    ap (λ ss. noting keys kept ss other) is
+    ∙ (ap (λ b. b || (list_any (λ k. same_key k other) (map (λ (s : Slot). s.key) index.slots) && not (has_key kept other))) (noted other)
+    ∙ spread (has_key old other) (same_key key other) (list_any (λ k. same_key k other) (map (λ (s : Slot). s.key) index.slots)) (not (has_key kept other)))
+  where
+    spread : (a s x n : Bool) → ((a || (s && n)) || (x && n)) ≡ (a || ((s || x) && n))
+    spread true s x n = refl
+    spread false true true true = refl
+    spread false true true false = refl
+    spread false true false true = refl
+    spread false true false false = refl
+    spread false false x n = refl
+
+pub noting_next : (old keys kept : BTreeSet Key) (slots rest : List Slot) (slot : Slot) → slots ≡ rest ++ slot ∷ [] → ((other : Key) → has_key keys other ≡ (has_key old other || (same_key slot.key other && not (has_key kept other))))
+    → (other : Key) → noting keys kept rest other ≡ noting old kept slots other
+noting_next old keys kept slots rest slot is noted other =
+    ap (λ b. b || (list_any (λ k. same_key k other) (map (λ (s : Slot). s.key) rest) && not (has_key kept other))) (noted other)
+    ∙ (spread (has_key old other) (same_key slot.key other) (list_any (λ k. same_key k other) (map (λ (s : Slot). s.key) rest)) (not (has_key kept other))
+    ∙ ap (λ b. has_key old other || (b && not (has_key kept other))) (sym (ap (λ l. list_any (λ k. same_key k other) l) (ap (map (λ (s : Slot). s.key)) is ∙ map_slot rest slot)
+    ∙ list_any-append (λ k. same_key k other) (map (λ (s : Slot). s.key) rest) (slot.key ∷ []))))
+  where
+    spread : (a s x n : Bool) → ((a || (s && n)) || (x && n)) ≡ (a || ((x || (s || false)) && n))
+    spread true s x n = refl
+    spread false true true true = refl
+    spread false true true false = refl
+    spread false true false true = refl
+    spread false true false false = refl
+    spread false false true true = refl
+    spread false false true false = refl
+    spread false false false n = refl
+
+pub noting_last : (keys kept : BTreeSet Key) (slots : List Slot) (other : Key) → slots ≡ [] → noting keys kept slots other ≡ has_key keys other
+noting_last keys kept slots other none = ap (λ ss. noting keys kept ss other) none ∙ no_more (has_key keys other)
+  where
+    no_more : (b : Bool) → (b || false) ≡ b
+    no_more true = refl
+    no_more false = refl
+
+-- ---- looks
+
+-- the refusal of a look
+pub look_refused : (client : ℕ) (sole : Bool) (before now : ℕ) (old new : History) (place : ℕ) (refused : Refused) (err : StoreErr) → place ≡ length old → refused ≡ refused_by place err → Looks IsClaimed client sole old new → RefusesLook before now err → RefusesWalk before now old new refused
+look_refused client sole before now old new place refused err at is g r = subst (RefusesWalk before now old new) (sym is) (by err r)
+  where
+    long : length old ≤ length new
+    long = looks_length client sole old new g
+
+    by : (err : StoreErr) → RefusesLook before now err → RefusesWalk before now old new (refused_by place err)
+    by errs.Fault r = record { why = r; place = record { from = omega (arith, at); to = omega (arith, at, long) } }
+    by errs.NoMemory r = record { why = tt; place = record { from = omega (arith, at); to = omega (arith, at, long) } }
+    by (errs.Spent count) r = absurd r
+    by (errs.Moved count) r = absurd r
+    by (errs.Taken count) r = absurd r
+    by (errs.Missing count) r = absurd r
+
+-- want of memory behind looks
+pub want_refused : (client : ℕ) (sole : Bool) (before now : ℕ) (old new : History) (place : ℕ) (refused : Refused) → place ≡ length new → refused ≡ record { place = place; why = refusals.NoMemory } → Looks IsClaimed client sole old new → RefusesWalk before now old new refused
+want_refused client sole before now old new place refused at is g =
+    let long = looks_length client sole old new g in
+    subst (RefusesWalk before now old new) (sym is) (record { why = tt; place = record { from = omega (arith, at, long); to = omega (arith, at) } })
+
+-- what stands under the key of an index was put there
+pub index_found : (h : History) (key : Key) (body : Bytes) (index : Index) → key.kind ≡ kinds.TableIndex → stored h key ≡ Some body → index_of body ≡ Ok index → (is_some (stored h key) ≡ true) × (index_put h key ≡ Some index)
+index_found h key body index kind stands spelled = (
+  ap is_some stands,
+  ap (option_and_then (λ b. read_of (index_of b))) (stands_was_put h key body (ap is_put kind) stands) ∙ ap read_of spelled,
+)
