@@ -5,6 +5,7 @@ use Rattle.std.specs.List.{list_any, AllByRecursion}
 use Rattle.std.specs.BTreeSet.{BTreeSet}
 use Rattle.std.proofs.lemmas.Bool.{true≢false, or_cases, or_parts, or_left, or_right, and_parts, and_from, not-true, eq-eqb}
 use Rattle.std.proofs.lemmas.List.{reverse-append}
+use Rattle.std.proofs.lemmas.List.Folds.{list_any-append}
 use denote.Struct.Props.{props}
 use mathlib.Core.HLevel.{⊥_prop}
 use mathlib.Core.Logic.{∥∥₁_elim}
@@ -218,10 +219,27 @@ module _ (h : History) (symbol : Name) (lawful : ∥ IsLawful h ∥₁) where
         | inr index ↦ index
       ])
 
+all_of : (P : LinkRow → Type 0) (rows : List LinkRow) → ((row : LinkRow) → Contains rows row → P row) → AllByRecursion P rows
+all_of P [] f = tt
+all_of P (row ∷ rows) f = (f row (contains_first row rows), all_of P rows (λ r c. f r (contains_later r row rows c)))
+
+-- the indexes of the rows were put
+pub kept_rows_put : (h1 : History) (symbol : Name) (state : SymbolState) (at : IsStateAt h1 symbol state) → ∥ IsLawful h1 ∥₁ → (rows : Rows) → AreParted state.links state.tombs state.holds rows → AllByRecursion (IsIndexPut h1) rows.kept
+kept_rows_put h1 symbol state at law rows parted = all_of (IsIndexPut h1) rows.kept (λ row c.
+    let lawful = walked_lawful h1 at.later at.before at.split law in
+    let l = row_kept at.before symbol state lawful at.is rows parted row c in
+    index_put_later at.later at.before h1 row at.split law (subst (IsIndexPut at.before) l.2 (index_put_of at.before symbol l.0 lawful l.1)))
+
+pub dead_rows_put : (h1 h2 o2 : History) (symbol : Name) (state : SymbolState) (at : IsStateAt h1 symbol state) → h2 ≡ o2 ++ h1 → ∥ IsLawful h1 ∥₁ → ∥ IsLawful h2 ∥₁ → (rows : Rows) → AreParted state.links state.tombs state.holds rows → AllByRecursion (IsIndexPut h2) rows.dead
+dead_rows_put h1 h2 o2 symbol state at is2 law law2 rows parted = all_of (IsIndexPut h2) rows.dead (λ row c.
+    let lawful = walked_lawful h1 at.later at.before at.split law in
+    let l = row_dead at.before symbol state lawful at.is rows parted row c in
+    index_put_later o2 h1 h2 row is2 law2 (index_put_later at.later at.before h1 row at.split law (subst (IsIndexPut at.before) l.2 (index_put_of at.before symbol l.0 lawful l.1))))
+
 module _ (h0 h1 h2 h3 h4 : History) (symbol : Name) (state : SymbolState) (o2 o3 o4 : History) (from : length h0 ≤ state.place)
     (at : IsStateAt h1 symbol state) (is2 : h2 ≡ o2 ++ h1) (is3 : h3 ≡ o3 ++ h2) (is4 : h4 ≡ o4 ++ h3)
     (law1 : ∥ IsLawful h1 ∥₁) (law2 : ∥ IsLawful h2 ∥₁) (law3 : ∥ IsLawful h3 ∥₁) (law4 : ∥ IsLawful h4 ∥₁) (rows : Rows) (parted : AreParted state.links state.tombs state.holds rows) where
-  before : History
+  abbrev before : History
   before = at.before
 
   lawful : ∥ IsLawful before ∥₁
@@ -372,3 +390,7 @@ met_now client symbol h0 h1 h5 state place at from walked more is1 by1 is5 by5 r
     let none = others_refer_not client symbol (more ++ at.later) (others_append client more at.later by5 later) in
     subst (IsMet client symbol (length h0) h5) (sym place_is) (subst (λ h. IsMet client symbol (length h0) h (referred_at h symbol)) (sym whole)
     (met_sooner client symbol (length at.before) (length h0) _ _ long (met_here client symbol at.before (more ++ at.later) none referred)))
+
+-- a Refer among the first is one among all
+pub refers_more : (symbol : Name) (front middle back : History) → list_any (refers symbol) (middle ++ back) ≡ true → list_any (refers symbol) ((front ++ middle) ++ back) ≡ true
+refers_more symbol front middle back e = ap (list_any (refers symbol)) (append_assoc front middle back) ∙ (list_any-append (refers symbol) front (middle ++ back) ∙ or_right (list_any (refers symbol) front) (list_any (refers symbol) (middle ++ back)) e)

@@ -23,7 +23,7 @@ pub some_of : {X : Type 0} (o : Option X) → is_some o ≡ true → (x : X) × 
 some_of None e = absurd (true≢false (sym e))
 some_of (Some x) e = (x, refl)
 
-none_and_some : {X : Type 0} (o : Option X) (x : X) → o ≡ None → o ≡ Some x → ⊥
+pub none_and_some : {X : Type 0} (o : Option X) (x : X) → o ≡ None → o ≡ Some x → ⊥
 none_and_some o x p q = cc
 
 -- a key that was put and is gone stays gone

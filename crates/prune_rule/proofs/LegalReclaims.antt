@@ -148,19 +148,35 @@ event_at_more (x ∷ more) h n le =
     event_at_later x (more ++ h) n (omega (arith, le, size)) ∙ event_at_more more h n le
 
 -- the history at the length of a beginning
-at_beginning : (new more before : History) (place : ℕ) → new ≡ more ++ before → place ≡ length before → history_at new place ≡ before
+pub at_beginning : (new more before : History) (place : ℕ) → new ≡ more ++ before → place ≡ length before → history_at new place ≡ before
 at_beginning new more before place is at = (λ i. history_at (is i) (at i)) ∙ (history_at_later before more (length before) (omega arith) ∙ history_at_end before)
 
--- ---- what is dropped
-
-module _ (old mid : History) (client : ℕ) (symbol : Name) (dead : Dead) (found : FoundDead old mid symbol dead) (sorted : IsStrictlySortedBy key_cmp dead.keys.keys) where
-  each_dead : AllByRecursion (IsDeadKey found.before symbol) dead.keys.keys
+-- a dead key is of a kind that clients put, and was put
+module _ (old mid : History) (symbol : Name) (dead : Dead) (found : FoundDead old mid symbol dead) where
+  pub each_dead : AllByRecursion (IsDeadKey found.before symbol) dead.keys.keys
   each_dead = by dead.keys.keys (λ key c. found.each key (among_is_had dead.keys key c))
     where
       by : (keys : List Key) → ((key : Key) → Contains keys key → IsDeadKey found.before symbol key) → AllByRecursion (IsDeadKey found.before symbol) keys
       by [] f = tt
       by (key ∷ keys) f = (f key (contains_first key keys), by keys (λ k c. f k (contains_later k key keys c)))
 
+  found_is_put : (key : Key) → IsDeadKey found.before symbol key → is_put key.kind ≡ true
+  found_is_put key d = elim d [ inl tile ↦ ap is_put tile.0.0 | inr rest ↦ elim rest [ inl index ↦ ap is_put index.0.0 | inr piece ↦ ap is_put piece.1.staged ] ]
+
+  pub found_was_put : (new more : History) → new ≡ more ++ found.before → ∥ IsLawful new ∥₁ → (key : Key) → IsDeadKey found.before symbol key → is_some (body_put found.before key) ≡ true
+  found_was_put new more is lawful key d =
+      let was : ∥ IsLawful found.before ∥₁ = walked_lawful new more found.before is lawful in
+      elim d [
+        | inl tile ↦ unneeded_put found.before key was tile.1
+        | inr rest ↦ elim rest [
+          | inl index ↦ unneeded_put found.before key was index.1
+          | inr piece ↦ stored_was_put found.before key (ap is_put piece.1.staged) piece.2
+        ]
+      ]
+
+-- ---- what is dropped
+
+module _ (old mid : History) (client : ℕ) (symbol : Name) (dead : Dead) (found : FoundDead old mid symbol dead) (sorted : IsStrictlySortedBy key_cmp dead.keys.keys) where
   kind_of : (key : Key) → IsDeadKey found.before symbol key → IsDropKind key.kind
   kind_of key d = elim d [ inl tile ↦ inl tile.0.0 | inr rest ↦ elim rest [ inl index ↦ inr (inl index.0.0) | inr piece ↦ inr (inr piece.1.staged) ] ]
 
@@ -195,7 +211,7 @@ module _ (old mid : History) (client : ℕ) (symbol : Name) (dead : Dead) (found
   dropping_of : (freed : List Key) → IsPartOf freed dead.keys.keys → IsDropping found.before client symbol (map (drop_event client) freed)
   dropping_of freed part =
       let rises = part_sorted freed dead.keys.keys part sorted in
-      let deads = part_all (IsDeadKey found.before symbol) freed dead.keys.keys part each_dead in
+      let deads = part_all (IsDeadKey found.before symbol) freed dead.keys.keys part (each_dead old mid symbol dead found) in
       record {
         tiles = of_kind kinds.TableData freed;
         indexes = of_kind kinds.TableIndex freed;
@@ -216,22 +232,6 @@ module _ (old mid : History) (client : ℕ) (symbol : Name) (dead : Dead) (found
             | true ↦ λ e. (f key all.0 e, of_those P Q p f keys all.1)
             | false ↦ λ e. of_those P Q p f keys all.1
           ] refl
-
--- a dead key is of a kind that clients put, and was put
-module _ (old mid : History) (symbol : Name) (dead : Dead) (found : FoundDead old mid symbol dead) where
-  found_is_put : (key : Key) → IsDeadKey found.before symbol key → is_put key.kind ≡ true
-  found_is_put key d = elim d [ inl tile ↦ ap is_put tile.0.0 | inr rest ↦ elim rest [ inl index ↦ ap is_put index.0.0 | inr piece ↦ ap is_put piece.1.staged ] ]
-
-  found_was_put : (new more : History) → new ≡ more ++ found.before → ∥ IsLawful new ∥₁ → (key : Key) → IsDeadKey found.before symbol key → is_some (body_put found.before key) ≡ true
-  found_was_put new more is lawful key d =
-      let was : ∥ IsLawful found.before ∥₁ = walked_lawful new more found.before is lawful in
-      elim d [
-        | inl tile ↦ unneeded_put found.before key was tile.1
-        | inr rest ↦ elim rest [
-          | inl index ↦ unneeded_put found.before key was index.1
-          | inr piece ↦ stored_was_put found.before key (ap is_put piece.1.staged) piece.2
-        ]
-      ]
 
 -- ---- the cases of a refusal
 

@@ -13,6 +13,9 @@ pub mod KeySets
 pub mod PieceLemmas
 pub mod ReferredLemmas
 pub mod SetLemmas
+pub mod ListedLemmas
 pub mod ReachLemmas
 pub mod FindingLemmas
+pub mod FindingEnds
+pub mod ReclaimLemmas
 pub mod LegalReclaims

@@ -59,6 +59,14 @@ reaches_none h rows rest kept reached same not_gone lacks = record {
     same_end [] = refl
     same_end (x ∷ xs) = ap (λ l. x ∷ l) (same_end xs)
 
+-- the next row may be read
+pub row_put : (old cur first : History) (rows rest left : List LinkRow) (row : LinkRow) (kept : BTreeSet Key) (reached : Reached) → cur ≡ first ++ old → ∥ IsLawful cur ∥₁ → AllByRecursion (IsIndexPut old) rows → rest ≡ left ++ row ∷ []
+    → ReachesSoFar old cur rows rest kept reached → IsIndexPut cur row
+row_put old cur first rows rest left row kept reached was here put back s =
+    let there : Contains rows row = subst (λ l. Contains l row) (sym (s.is ∙ (ap (λ l. l ++ s.passed) back ∙ append_assoc left (row ∷ []) s.passed))) (contains_right left (row ∷ s.passed) row (contains_first row s.passed)) in
+    let p = all_in (IsIndexPut old) rows row put there in
+    record { kind = p.kind; put = still_put first old cur row.index was here p.put }
+
 module _ (old cur new first more : History) (rows rest left : List LinkRow) (row : LinkRow) (kept : BTreeSet Key) (before after : Reached)
     (was : cur ≡ first ++ old) (is : new ≡ more ++ cur) (here : ∥ IsLawful cur ∥₁) (lawful : ∥ IsLawful new ∥₁) (put : AllByRecursion (IsIndexPut old) rows)
     (back : rest ≡ left ++ row ∷ []) (so_far : ReachesSoFar old cur rows rest kept before) where
@@ -67,10 +75,6 @@ module _ (old cur new first more : History) (rows rest left : List LinkRow) (row
 
   put_at : (r : LinkRow) → Contains (row ∷ so_far.passed) r → IsIndexPut old r
   put_at r c = all_in (IsIndexPut old) rows r put (subst (λ l. Contains l r) (sym whole) (contains_right left (row ∷ so_far.passed) r c))
-
-  -- the row may be read
-  pub row_put : IsIndexPut cur row
-  row_put = let p = put_at row (contains_first row so_far.passed) in record { kind = p.kind; put = still_put first old cur row.index was here p.put }
 
   since_old : new ≡ (more ++ first) ++ old
   since_old = is ∙ (ap (λ h. more ++ h) was ∙ sym (append_assoc more first old))

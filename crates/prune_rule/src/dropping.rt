@@ -1,6 +1,8 @@
 //! Keys that nobody needs are dropped.
 
 ghost use Rattle.std.specs.List.{AllByRecursion};
+ghost use Rattle.std.specs.List.Sorted.{IsStrictlySortedBy};
+ghost use Rattle.key_kind.specs.Keys.{key_cmp};
 ghost use Rattle.bucket_core.specs.Calls.{IsSteady};
 ghost use Rattle.prune_rule.specs.DropCalls.{IsDroppable, DidDrop, DidDrops};
 
@@ -47,6 +49,7 @@ pub(crate) fn drop_all<R: Wait, B: Bucket<StoreLaw>>(
 ) -> Result<Items<Key>, Refused>
     requires dead { AllByRecursion (IsDroppable (B.seen bucket.old)) dead.keys }
     ensures steady { IsSteady B.number B.limit B.faults B.sole bucket.old bucket.new }
+    ensures rising { IsStrictlySortedBy key_cmp dead.keys }
     ensures did { DidDrops (B.number bucket.old) (B.sole bucket.old) (B.limit bucket.old) (B.faults bucket.old) (B.faults bucket.new) (B.seen bucket.old) (B.seen bucket.new) dead.keys result }
 {
     let Ok(mut freed) = Items::with_capacity(alloc, dead.len()) else {

@@ -1,6 +1,6 @@
 //! The keys of staged pieces that are consumed.
 
-ghost use Rattle.std.specs.Prelude.{◌≡◌, IfOk, IfErr, OnOk, ℕ};
+ghost use Rattle.std.specs.Prelude.{◌≡◌, ◌||◌, IfOk, IfErr, OnOk};
 ghost use Rattle.std.specs.List.{list_any};
 ghost use Rattle.bucket_core.specs.declared.event.PieceName.{PieceName as Named};
 ghost use Rattle.bucket_core.specs.Laws.{Looks};
@@ -73,10 +73,10 @@ fn note_piece(
 ) -> Result<(), NoMemory>
     ensures { OnOk result (NotesPiece key names.now keys.old keys.new) }
 {
-    if !names.contains(&(key.client, key.serial)) {
+    if names.contains(&(key.client, key.serial)) {
+        keys.insert(key)?;
         return Ok(());
     }
-    keys.insert(key)?;
     Ok(())
 }
 
@@ -85,8 +85,16 @@ fn piece_set(alloc: Global, pieces: &[PieceName]) -> Result<BTreeSet<(u32, u64)>
     ensures { IfOk result (λ set. (name : Named) → has_piece set name ≡ list_any (same_piece name) pieces.now) }
 {
     let mut set = BTreeSet::new(alloc);
-    for piece in pieces {
-        set.insert((piece.client, piece.serial))?;
+    for place in (0..pieces.len()).rev() {
+        note_name(&mut set, pieces[place])?;
     }
     Ok(set)
+}
+
+/// Puts the name of a piece into a set.
+fn note_name(set: &mut BTreeSet<(u32, u64)>, piece: PieceName) -> Result<(), NoMemory>
+    ensures { OnOk result ((name : Named) → has_piece set.new name ≡ (same_piece name piece || has_piece set.old name)) }
+{
+    set.insert((piece.client, piece.serial))?;
+    Ok(())
 }

@@ -3,6 +3,7 @@
 ghost use Rattle.std.specs.Prelude.{◌≡◌, ◌||◌, ◌&&◌, true, not, IfOk, IfErr, OnOk};
 ghost use Rattle.std.specs.List.{list_any, AllByRecursion};
 ghost use Rattle.key_kind.specs.declared.key.Key.{Key as Named};
+ghost use Rattle.key_kind.specs.declared.key.KeyKind.TheVariants.{TableIndex};
 ghost use Rattle.key_kind.specs.Keys.{same_key};
 ghost use Rattle.bucket_core.specs.Laws.{Looks};
 ghost use Rattle.bucket_core.specs.Calls.{IsSteady};
@@ -90,7 +91,7 @@ fn read_index<R: Wait, B: Bucket<StoreLaw>>(
     bucket: &mut B,
     key: &Key,
 ) -> Result<Option<Index>, Refused>
-    requires kind { key.now.kind ≡ KeyKind.TableIndex }
+    requires kind { key.now.kind ≡ TableIndex }
     ensures looks { Looks IsClaimed (B.number bucket.old) (B.sole bucket.old) (B.seen bucket.old) (B.seen bucket.new) }
     ensures steady { IsSteady B.number B.limit B.faults B.sole bucket.old bucket.new }
     ensures found { IfOk result (IsFoundIndex (B.seen bucket.new) key.now) }

@@ -6,7 +6,7 @@ ghost use Rattle.version_chain.specs.Traces.{GoesOn};
 ghost use Rattle.prune_rule.specs.Reclaims.{DropsThese, IsLegalReclaim};
 
 use crate::dropping::drop_all;
-use crate::finding::{Dead, find_dead};
+use crate::finding::find_dead;
 use base_types::Items;
 use bucket_core::Bucket;
 use frame_core::Refused;
@@ -45,7 +45,8 @@ pub fn reclaim<R: Wait, B: Bucket<StoreLaw>>(
     ensures dropped { IfOk result (λ freed. DropsThese (B.number bucket.old) (B.seen bucket.old) (B.seen bucket.new) freed.keys) }
     ensures legal { IsLegalReclaim (B.limit bucket.old) (B.number bucket.old) tries symbol.now (B.faults bucket.old) (B.faults bucket.new) (B.seen bucket.old) (B.seen bucket.new) result }
 {
-    let Dead { keys, place } = find_dead(rt, alloc, bucket, symbol, tries)?;
-    let keys = drop_all(rt, alloc, bucket, keys)?;
+    let dead = find_dead(rt, alloc, bucket, symbol, tries)?;
+    let place = dead.place;
+    let keys = drop_all(rt, alloc, bucket, dead.keys)?;
     Ok(Freed { keys, place })
 }

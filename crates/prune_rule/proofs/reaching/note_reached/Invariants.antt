@@ -8,7 +8,7 @@ use Rattle.prune_rule.proofs.reaching.note_reached.Given as goal
 
 -- the keys so far, and those that are left
 abbrev pub invariant-loop-slot : goal.invariant-loop-slot
-invariant-loop-slot l = (other : Key) → noting l.keys l.kept l.rest.items other ≡ (has_key l.initial.keys other || (list_any (λ k. same_key k other) (reached_keys l.fn.key l.fn.index) && not (has_key l.kept other)))
+invariant-loop-slot l = (other : Key) → noting l.keys l.kept l.rest.items other ≡ (has_key l.fn.keys other || (list_any (λ k. same_key k other) (reached_keys l.fn.key l.fn.index) && not (has_key l.kept other)))
 
 abbrev pub decreases-loop-slot : goal.decreases-loop-slot
 decreases-loop-slot l = length l.rest.items
