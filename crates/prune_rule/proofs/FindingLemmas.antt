@@ -380,17 +380,16 @@ module _ (h0 h1 h2 h3 h4 : History) (symbol : Name) (state : SymbolState) (o2 o3
 
 -- ---- a try that was met
 
-pub met_now : (client : ℕ) (symbol : Name) (h0 h1 h5 : History) (state : SymbolState) (place : ℕ) (at : IsStateAt h1 symbol state) → length h0 ≤ state.place → (walked more : History) → h1 ≡ walked ++ h0 → AllByOthers client walked
-    → h5 ≡ more ++ h1 → AllByOthers client more → list_any (refers symbol) (more ++ at.later) ≡ true → place ≡ referred_at h5 symbol → IsMet client symbol (length h0) h5 place
-met_now client symbol h0 h1 h5 state place at from walked more is1 by1 is5 by5 referred place_is =
+pub met_now : (client : ℕ) (symbol : Name) (h0 h1 h2 h5 : History) (state : SymbolState) (place : ℕ) (at : IsStateAt h1 symbol state) → length h0 ≤ state.place → (walked middle front : History) → h1 ≡ walked ++ h0 → AllByOthers client walked
+    → h2 ≡ middle ++ h1 → AllByOthers client middle → h5 ≡ front ++ h2 → AllByOthers client front → list_any (refers symbol) (middle ++ at.later) ≡ true → place ≡ referred_at h5 symbol → IsMet client symbol (length h0) h5 place
+met_now client symbol h0 h1 h2 h5 state place at from walked middle front is1 by1 is2 by2 is5 by5 referred place_is =
     let long : length h0 ≤ length at.before = omega (arith, from, at.place) in
     let parts = split_more at.later at.before walked h0 (sym at.split ∙ is1) long in
     let later : AllByOthers client at.later = others_first client at.later parts.0 (subst (AllByOthers client) parts.2 by1) in
-    let whole : h5 ≡ (more ++ at.later) ++ at.before = is5 ∙ (ap (λ h. more ++ h) at.split ∙ sym (append_assoc more at.later at.before)) in
-    let none = others_refer_not client symbol (more ++ at.later) (others_append client more at.later by5 later) in
+    let back : h2 ≡ (middle ++ at.later) ++ at.before = is2 ∙ (ap (λ h. middle ++ h) at.split ∙ sym (append_assoc middle at.later at.before)) in
+    let whole : h5 ≡ (front ++ (middle ++ at.later)) ++ at.before = is5 ∙ (ap (λ h. front ++ h) back ∙ sym (append_assoc front (middle ++ at.later) at.before)) in
+    let none = others_refer_not client symbol (front ++ (middle ++ at.later)) (others_append client front (middle ++ at.later) by5 (others_append client middle at.later by2 later)) in
+    let among : list_any (refers symbol) (front ++ (middle ++ at.later)) ≡ true =
+    list_any-append (refers symbol) front (middle ++ at.later) ∙ or_right (list_any (refers symbol) front) (list_any (refers symbol) (middle ++ at.later)) referred in
     subst (IsMet client symbol (length h0) h5) (sym place_is) (subst (λ h. IsMet client symbol (length h0) h (referred_at h symbol)) (sym whole)
-    (met_sooner client symbol (length at.before) (length h0) _ _ long (met_here client symbol at.before (more ++ at.later) none referred)))
-
--- a Refer among the first is one among all
-pub refers_more : (symbol : Name) (front middle back : History) → list_any (refers symbol) (middle ++ back) ≡ true → list_any (refers symbol) ((front ++ middle) ++ back) ≡ true
-refers_more symbol front middle back e = ap (list_any (refers symbol)) (append_assoc front middle back) ∙ (list_any-append (refers symbol) front (middle ++ back) ∙ or_right (list_any (refers symbol) front) (list_any (refers symbol) (middle ++ back)) e)
+    (met_sooner client symbol (length at.before) (length h0) _ _ long (met_here client symbol at.before (front ++ (middle ++ at.later)) none among)))

@@ -9,6 +9,7 @@ use Rattle.base_types.specs.Faults.{Rose}
 use Rattle.frame_core.specs.declared.refusal.Refusal.{Refusal}
 use Rattle.frame_core.specs.declared.refusal.Refusal.TheVariants as refusals
 use Rattle.frame_core.specs.declared.refusal.Refused.{Refused}
+use Rattle.segment_cut.proofs.Lists.{count_by-cons}
 use Rattle.key_kind.specs.declared.key.KeyKind.{KeyKind}
 use Rattle.key_kind.specs.declared.key.KeyKind.TheVariants as kinds
 use Rattle.key_kind.specs.declared.key.Key.{Key}
@@ -67,7 +68,13 @@ drops_no_end symbol client (key ∷ keys) = drops_no_end symbol client keys
 
 drops_counted : (client : ℕ) (kind : KeyKind) (keys : List Key) → keys_of_kind kind keys ≡ count_by (drops_kind kind) (map (drop_event client) keys)
 drops_counted client kind [] = refl
-drops_counted client kind (key ∷ keys) = ap (λ n. cond (same_kind key.kind kind) 1 0 + n) (drops_counted client kind keys)
+drops_counted client kind (key ∷ keys) =
+    count_by-cons (λ (k : Key). same_kind k.kind kind) key keys ∙ (ap (λ n. cond (same_kind key.kind kind) 1 0 + n) (drops_counted client kind keys) ∙ sym (count_by-cons (drops_kind kind) (drop_event client key) (map (drop_event client) keys)))
+
+-- the drops, written out
+pub drops_are : (client : ℕ) (keys : List Key) → map (drop_event client) keys ≡ map (λ key. events.Drop client key) keys
+drops_are client [] = refl
+drops_are client (key ∷ keys) = ap (λ l. events.Drop client key ∷ l) (drops_are client keys)
 
 commits_are : (fault : Bool) (places : List ℕ) → places ≡ [] → AreCommits fault [] places
 commits_are true places none = inl (sym none)
@@ -216,7 +223,7 @@ module _ (old mid : History) (client : ℕ) (symbol : Name) (dead : Dead) (found
         tiles = of_kind kinds.TableData freed;
         indexes = of_kind kinds.TableIndex freed;
         pieces = of_kind kinds.Staged freed;
-        is = ap (map (drop_event client)) (split_kinds freed rises (all_weaker (IsDeadKey found.before symbol) (λ (k : Key). IsDropKind k.kind) kind_of freed deads));
+        is = ap (map (drop_event client)) (split_kinds freed rises (all_weaker (IsDeadKey found.before symbol) (λ (k : Key). IsDropKind k.kind) kind_of freed deads)) ∙ drops_are client _;
         tiles_rise = rise_of (of_kind kinds.TableData freed) (IsStrictlySortedBy-filter key_cmp (λ (k : Key). same_kind k.kind kinds.TableData) freed rises);
         indexes_rise = rise_of (of_kind kinds.TableIndex freed) (IsStrictlySortedBy-filter key_cmp (λ (k : Key). same_kind k.kind kinds.TableIndex) freed rises);
         pieces_rise = rise_of (of_kind kinds.Staged freed) (IsStrictlySortedBy-filter key_cmp (λ (k : Key). same_kind k.kind kinds.Staged) freed rises);

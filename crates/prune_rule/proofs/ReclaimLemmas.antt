@@ -24,7 +24,7 @@ use Rattle.prune_rule.specs.DropCalls.{IsDroppable, Dropped, StoppedDrops, DidDr
 use Rattle.prune_rule.specs.Finding.{RefusesFinding, MetAll, RefusesDead}
 use Rattle.prune_rule.specs.Reclaims.{DropsThese, IsLegalReclaim}
 use Rattle.prune_rule.proofs.DeadLemmas.{droppable_later}
-use Rattle.prune_rule.proofs.LegalReclaims.{each_dead, found_was_put, find_refused, all_met, drops_refused, drops_done}
+use Rattle.prune_rule.proofs.LegalReclaims.{each_dead, found_was_put, find_refused, all_met, drops_refused, drops_done, drops_are}
 
 -- ---- what is found may be dropped
 
@@ -84,4 +84,4 @@ pub whole_went : (client : ℕ) (sole : Bool) (old mid new : History) (freed : L
 whole_went client sole old mid new freed looks w = went_then client sole old mid new [] (map (drop_event client) freed) (went_looks client sole old mid looks) w
 
 pub drops_these : (client : ℕ) (sole : Bool) (old new : History) (freed : List Key) → Went client sole old new (map (drop_event client) freed) → DropsThese client old new freed
-drops_these client sole old new freed w = record { more = w.more; is = w.is; own = w.own_are }
+drops_these client sole old new freed w = record { more = w.more; is = w.is; own = w.own_are ∙ drops_are client freed }

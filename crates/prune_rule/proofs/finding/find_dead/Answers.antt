@@ -46,3 +46,7 @@ loop-preserved g c =
           (grown_steady g.B.Bucket.number g.B.Bucket.limit g.B.Bucket.faults g.B.Bucket.sole c.args.bucket.now c.loop.bucket c.loop.invariant.steady (g.B.Bucket.seen c.loop.bucket) (g.B.Bucket.seen c.look_once.new.bucket) (λ n. []) c.look_once.ensures.looks) m;
       met = λ some. met_sooner _ _ _ _ _ _ (looks_length _ _ _ _ c.loop.invariant.so_far.looks) m;
     }
+
+pub returns-clause-refused : goal.returns-clause-refused
+returns-clause-refused g c =
+    inr (all_met_at _ _ _ c.loop.counter c.args.tries _ _ c.loop.met c.loop.invariant.so_far c.loop-test.false (c.loop.invariant.met (omega (arith, c.requires.some_tries, c.loop-test.false))))
