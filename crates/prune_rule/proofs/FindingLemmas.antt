@@ -206,8 +206,11 @@ module _ (h : History) (symbol : Name) (lawful : ∥ IsLawful h ∥₁) where
   dead_of : (l : Linked) (key : Key) → Contains (links h symbol) l → is_needed (state_of h symbol) l ≡ false → Contains (reached l) key → IsUnneeded h key → is_some (stored h l.row.index) ≡ true → IsDeadKey h symbol key
   dead_of l key c dead reach u stands =
       elim (same_kind key.kind kinds.TableData) as (λ b. same_kind key.kind kinds.TableData ≡ b → IsDeadKey h symbol key) [
-        | true ↦ λ e. inl ((same_kind_is key.kind kinds.TableData e, name_of l key c reach), u,
-            (l, c, ((∥∥₁_elim lawful (hlevel props) (λ w. (link_kinds h w symbol l c).index), name_of l l.row.index c (contains_first l.row.index _)), index_unneeded l c dead, stands), reach))
+        | true ↦ λ e. inl (
+          (same_kind_is key.kind kinds.TableData e, name_of l key c reach),
+          u,
+          (l, c, ((∥∥₁_elim lawful (hlevel props) (λ w. (link_kinds h w symbol l c).index), name_of l l.row.index c (contains_first l.row.index _)), index_unneeded l c dead, stands), reach),
+        )
         | false ↦ λ e.
             let kind = index_kind e in
             inr (inl ((kind, name_of l key c reach), u, subst (λ x. is_some (stored h x) ≡ true) (∥∥₁_elim lawful (key_prop l.row.index key) (λ w. own_index l key (link_kinds h w symbol l c) reach kind)) stands))
@@ -275,9 +278,13 @@ module _ (h0 h1 h2 h3 h4 : History) (symbol : Name) (state : SymbolState) (o2 o3
         let r = reached2.only key has in
         let l = row_kept before symbol state lawful told rows parted r.1.0 r.1.1 in
         let by = r.1.2 in
-        let put : index_put h2 l.0.row.index ≡ Some by.index = ap (λ (x : LinkRow). index_put h2 x.index) l.2 ∙ by.put in
-        (l.0, l.1, l.3, subst (λ i. Contains (reached_keys l.0.row.index i) key) (sym (own (o2 ++ at.later) h2 since2 law2 l.0 by.index l.1 put))
-        (subst (λ (x : LinkRow). Contains (reached_keys x.index by.index) key) (sym l.2) by.reaches))
+        let put : index_put h2 l.0.row.index ≡ Some by.index = ap (λ (x : LinkRow). index_put h2 x.index) l.2 ∙ by.put in (
+          l.0,
+          l.1,
+          l.3,
+          subst (λ i. Contains (reached_keys l.0.row.index i) key) (sym (own (o2 ++ at.later) h2 since2 law2 l.0 by.index l.1 put))
+              (subst (λ (x : LinkRow). Contains (reached_keys x.index by.index) key) (sym l.2) by.reaches),
+        )
 
     -- an unneeded key is not kept
     unneeded_not_kept : (key : Key) → IsUnneeded before key → has_key kept.keys key ≡ false

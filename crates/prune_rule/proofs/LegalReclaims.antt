@@ -193,6 +193,7 @@ module _ (old mid : History) (client : ℕ) (symbol : Name) (dead : Dead) (found
     where
       index_tile : kinds.TableIndex ≡ kinds.TableData → ⊥
       index_tile e = cc
+
       piece_tile : kinds.Staged ≡ kinds.TableData → ⊥
       piece_tile e = cc
 
@@ -202,6 +203,7 @@ module _ (old mid : History) (client : ℕ) (symbol : Name) (dead : Dead) (found
     where
       tile_index : kinds.TableData ≡ kinds.TableIndex → ⊥
       tile_index e = cc
+
       piece_index : kinds.Staged ≡ kinds.TableIndex → ⊥
       piece_index e = cc
 
@@ -211,6 +213,7 @@ module _ (old mid : History) (client : ℕ) (symbol : Name) (dead : Dead) (found
     where
       tile_piece : kinds.TableData ≡ kinds.Staged → ⊥
       tile_piece e = cc
+
       index_piece : kinds.TableIndex ≡ kinds.Staged → ⊥
       index_piece e = cc
 
@@ -223,7 +226,8 @@ module _ (old mid : History) (client : ℕ) (symbol : Name) (dead : Dead) (found
         tiles = of_kind kinds.TableData freed;
         indexes = of_kind kinds.TableIndex freed;
         pieces = of_kind kinds.Staged freed;
-        is = ap (map (drop_event client)) (split_kinds freed rises (all_weaker (IsDeadKey found.before symbol) (λ (k : Key). IsDropKind k.kind) kind_of freed deads)) ∙ drops_are client _;
+        is = ap (map (drop_event client)) (split_kinds freed rises (all_weaker (IsDeadKey found.before symbol) (λ (k : Key). IsDropKind k.kind) kind_of freed deads)) ∙ (drops_are client _
+            ∙ ap (map (λ key. events.Drop client key)) (sym (append_assoc (of_kind kinds.TableData freed) (of_kind kinds.TableIndex freed) (of_kind kinds.Staged freed))));
         tiles_rise = rise_of (of_kind kinds.TableData freed) (IsStrictlySortedBy-filter key_cmp (λ (k : Key). same_kind k.kind kinds.TableData) freed rises);
         indexes_rise = rise_of (of_kind kinds.TableIndex freed) (IsStrictlySortedBy-filter key_cmp (λ (k : Key). same_kind k.kind kinds.TableIndex) freed rises);
         pieces_rise = rise_of (of_kind kinds.Staged freed) (IsStrictlySortedBy-filter key_cmp (λ (k : Key). same_kind k.kind kinds.Staged) freed rises);
@@ -336,15 +340,19 @@ module _ (s : Session) (limit : ℕ) (sole : Bool) (symbol : Name) (before now :
         before = m.met.within;
         events = own_none m.looks;
         late = tt;
-        outcome = (symbol, (refl, refl), record {
-          here = refl;
-          inside = m.met.added;
-          event = m.met.event;
-          at = m.met.at;
-          refers = m.met.refers;
-          others = m.met.others;
-          enough = subst (λ n. s.tries ≤ n) (sym (met_in_window s.client symbol old new m.looks.others faulted m.looks.is)) m.enough;
-        });
+        outcome = (
+          symbol,
+          (refl, refl),
+          record {
+            here = refl;
+            inside = m.met.added;
+            event = m.met.event;
+            at = m.met.at;
+            refers = m.met.refers;
+            others = m.met.others;
+            enough = subst (λ n. s.tries ≤ n) (sym (met_in_window s.client symbol old new m.looks.others faulted m.looks.is)) m.enough;
+          },
+        );
       }))
 
   -- ---- behind the looks
@@ -413,9 +421,13 @@ module _ (s : Session) (limit : ℕ) (sole : Bool) (symbol : Name) (before now :
         to_make count e =
             let there = d.busy count e in
             let deadly = found.each there.0 (among_is_had dead.keys there.0 there.1) in
-            let m = mid_later d.freed d.went in
-            (dead.place, omega (arith, found.from, found.place), early, subst (λ g. HasDeadKey g symbol) (sym (at_beginning new m.0 found.before dead.place m.1 found.place))
-            (there.0, stood_before m.0 found.before new there.0 m.1 (found_is_put old mid symbol dead found there.0 deadly) lawful (found_was_put old mid symbol dead found new m.0 m.1 lawful there.0 deadly) there.2, deadly))
+            let m = mid_later d.freed d.went in (
+              dead.place,
+              omega (arith, found.from, found.place),
+              early,
+              subst (λ g. HasDeadKey g symbol) (sym (at_beginning new m.0 found.before dead.place m.1 found.place))
+                  (there.0, stood_before m.0 found.before new there.0 m.1 (found_is_put old mid symbol dead found there.0 deadly) lawful (found_was_put old mid symbol dead found new m.0 m.1 lawful there.0 deadly) there.2, deadly),
+            )
 
     -- the keys were dropped
     pub drops_done : (freed : List Key) → Dropped s.client sole mid new dead.keys.keys freed
@@ -468,9 +480,14 @@ module _ (s : Session) (limit : ℕ) (sole : Bool) (symbol : Name) (before now :
             let parts = split_more found.later found.before looks.others old (sym found.split ∙ looks.is) found.from in
             let others : AllByOthers s.client found.later = others_first s.client found.later parts.0 (subst (AllByOthers s.client) parts.2 looks.by_others) in
             let drop = dropped_by s.client found.later found.before index (ap is_put deadly.0.0) others deadly.2 (sym (ap (λ h. stored h index) found.split) ∙ none) in
-            let size : drop.place ≤ length mid = subst (λ h. drop.place ≤ length h) (sym found.split) drop.within in
-            (drop.place, omega (arith, size, (mid_later freed d.went).2), drop.event,
-            (ap (λ h. event_at h drop.place) d.went.is ∙ (event_at_more d.went.more mid drop.place size ∙ (ap (λ h. event_at h drop.place) found.split ∙ drop.at))), drop.drops_it, inr drop.others)
+            let size : drop.place ≤ length mid = subst (λ h. drop.place ≤ length h) (sym found.split) drop.within in (
+              drop.place,
+              omega (arith, size, (mid_later freed d.went).2),
+              drop.event,
+              (ap (λ h. event_at h drop.place) d.went.is ∙ (event_at_more d.went.more mid drop.place size ∙ (ap (λ h. event_at h drop.place) found.split ∙ drop.at))),
+              drop.drops_it,
+              inr drop.others,
+            )
 
         tile_gone : (freed : List Key) (d : Dropped s.client sole mid new dead.keys.keys freed) → history_at new (length new) ≡ new → (l : Linked) (key : Key) → Contains (links found.before symbol) l → IsDeadIndex found.before symbol l.row.index
             → Contains (reached l) key → IsKeyOf kinds.TableData symbol key → IsUnneeded found.before key

@@ -110,9 +110,13 @@ module _ (old cur new first more : History) (rows rest left : List LinkRow) (row
       ⊎ ((index : Index) × (index_put new row.index ≡ Some index) × ((key : Key) → Contains (reached_keys row.index index) key → has_key kept key ≡ false → has_key after.keys key ≡ true))
   row_each did = elim did [
     | inl miss ↦ inl (miss.none, miss.gone)
-    | inr hit ↦ inr (hit.index, hit.put, λ key reach lacks.
-        hit.keys key ∙ or_right (has_key before.keys key) (list_any (λ k. same_key k key) (reached_keys row.index hit.index) && not (has_key kept key))
-        (and_from _ _ (passes (λ k. same_key k key) (reached_keys row.index hit.index) key reach (same_key_self key)) (ap not lacks)))
+    | inr hit ↦ inr (
+      hit.index,
+      hit.put,
+      λ key reach lacks.
+          hit.keys key ∙ or_right (has_key before.keys key) (list_any (λ k. same_key k key) (reached_keys row.index hit.index) && not (has_key kept key))
+          (and_from _ _ (passes (λ k. same_key k key) (reached_keys row.index hit.index) key reach (same_key_self key)) (ap not lacks)),
+    )
   ]
 
   each_only : DidReach new row kept before after → (key : Key) → has_key after.keys key ≡ true → (has_key kept key ≡ false) × ((r : LinkRow) × Contains (row ∷ so_far.passed) r × IsReachedBy old new r key)
@@ -123,13 +127,19 @@ module _ (old cur new first more : History) (rows rest left : List LinkRow) (row
       | inr now ↦
           let parts = and_parts (list_any (λ k. same_key k key) (reached_keys row.index hit.index)) (not (has_key kept key)) now in
           let r = one_passes (λ k. same_key k key) (reached_keys row.index hit.index) parts.0 in
-          let p = put_at row (contains_first row so_far.passed) in
-          (not-true _ parts.1, (row, contains_first row so_far.passed, record {
-            stood = stood_before (more ++ first) old new row.index since_old (ap is_put p.kind) lawful p.put hit.stands;
-            index = hit.index;
-            put = hit.put;
-            reaches = subst (λ k. Contains (reached_keys row.index hit.index) k) (same_key_is r.0 key r.2) r.1;
-          }))
+          let p = put_at row (contains_first row so_far.passed) in (
+            not-true _ parts.1,
+            (
+              row,
+              contains_first row so_far.passed,
+              record {
+                stood = stood_before (more ++ first) old new row.index since_old (ap is_put p.kind) lawful p.put hit.stands;
+                index = hit.index;
+                put = hit.put;
+                reaches = subst (λ k. Contains (reached_keys row.index hit.index) k) (same_key_is r.0 key r.2) r.1;
+              },
+            ),
+          )
     ]
   ]
 

@@ -130,11 +130,7 @@ fn note_reached(
 }
 
 /// Puts a key into a set, unless it is kept.
-fn note_unless(
-    keys: &mut BTreeSet<Key>,
-    kept: &BTreeSet<Key>,
-    key: Key,
-) -> Result<(), NoMemory>
+fn note_unless(keys: &mut BTreeSet<Key>, kept: &BTreeSet<Key>, key: Key) -> Result<(), NoMemory>
     ensures { OnOk result ((other : Named) → has_key keys.new other ≡ (has_key keys.old other || (same_key key other && not (has_key kept.now other)))) }
 {
     if kept.contains(&key) {

@@ -14,5 +14,5 @@ pub returns : goal.returns
 returns c =
     let none : c.loop-key.rest.items ≡ [] = search rules in
     λ other.
-      sym (pieces_end c.loop-key.keys (λ (k : Key). has_piece c.in_ok-names.names (piece_name k)) c.loop-key.rest.items other none) ∙ (c.loop-key.invariant other
-      ∙ ap (λ b. has_key c.args.keys.now other || (list_any (λ k. same_key k other) c.args.listed && b)) (c.in_ok-names.ensures (piece_name other)))
+    sym (pieces_end c.loop-key.keys (λ (k : Key). has_piece c.in_ok-names.names (piece_name k)) c.loop-key.rest.items other none) ∙ (c.loop-key.invariant other
+    ∙ ap (λ b. has_key c.args.keys.now other || (list_any (λ k. same_key k other) c.args.listed && b)) (c.in_ok-names.ensures (piece_name other)))
