@@ -1,28 +1,26 @@
 -- Links and the keys that they reach: kinds, one link for an index, and that dead keys stay dead.
-use Rattle.std.proofs.Common.{◌≡◌, ℕ, suc, true, false, ◌&&◌, ◌||◌, [], ◌∷◌, ◌++◌, map, refl, ap, sym, ◌∙◌, subst, inl, inr, arith, cond, Option, Some, None}
+use Rattle.std.proofs.Common.{◌≡◌, ℕ, suc, true, false, ◌||◌, [], ◌∷◌, ◌++◌, map, refl, ap, sym, ◌∙◌, subst, inl, inr, arith, cond, Option, Some, None}
 use Rattle.std.specs.Prelude.{◌⊎◌, Contains, is_some, option_map, option_and_then}
 use Rattle.std.specs.List.{list_any, AllByRecursion}
 use Rattle.std.proofs.lemmas.Bool.{true≢false}
 use denote.Struct.Props.{props}
-use mathlib.Core.HLevel.{⊥_prop}
 use mathlib.Core.Logic.{∥∥₁_elim}
 use Rattle.index_tree.specs.declared.index.Slot.{Slot}
 use Rattle.index_tree.specs.declared.index.Index.{Index}
-use Rattle.segment_cut.specs.Tiles.{Tile}
 use Rattle.key_kind.specs.declared.key.KeyKind.TheVariants as kinds
 use Rattle.key_kind.specs.declared.key.Key.{Key}
 use Rattle.key_kind.specs.Names.{Name, same_name}
-use Rattle.key_kind.specs.Keys.{is_put, same_key, same_kind}
+use Rattle.key_kind.specs.Keys.{is_put, same_kind}
 use Rattle.key_kind.proofs.KeyTests.{same_name_is}
 use Rattle.bucket_core.specs.declared.event.Event.{Event}
 use Rattle.bucket_core.specs.declared.event.Event.TheVariants as events
 use Rattle.bucket_core.specs.History.{History, author, stored, body_put}
 use Rattle.store_model.specs.declared.chain.LinkRow.{LinkRow}
-use Rattle.store_model.specs.Links.{Linked, linked, links, links_at, reached, reaches, is_reached, index_put, tiles_put, IsUnneeded, IsConsumedPiece}
+use Rattle.store_model.specs.Links.{Linked, links, links_at, reached, reaches, is_reached, index_put, tiles_put, IsUnneeded, IsConsumedPiece}
 use Rattle.store_model.specs.Commits.{MayRefer, MayNameKey}
-use Rattle.store_model.specs.Law.{IsLawful, IsDead}
+use Rattle.store_model.specs.Law.{IsLawful}
 use Rattle.store_model.specs.Intact.{IsTableKey}
-use Rattle.store_model.proofs.Lists.{contains_first, contains_later, contains_cases, contains_none, contains_append, one_passes, none_passes, passes, mapped_of, all_weaker}
+use Rattle.store_model.proofs.Lists.{contains_first, contains_cases, contains_none, contains_append, one_passes, none_passes, passes, mapped_of, all_weaker}
 use Rattle.store_model.proofs.Lawful.{lawful_is_intact, lawful_as_put}
 use Rattle.store_model.proofs.Dropping.{reaches_it, it_is_reached, reached_is_table, table_is_not_staged}
 use Rattle.store_model.proofs.Histories.{stands_from}

@@ -1,14 +1,14 @@
 -- The drops of a reclaim, one after another.
-use Rattle.std.proofs.Common.{◌≡◌, ℕ, suc, ◌+◌, ◌≤◌, Bool, true, false, List, [], ◌∷◌, ◌++◌, map, length, refl, ap, sym, ◌∙◌, subst, inl, inr, arith, cond, Option, Some, None, Result, Ok, Err, length-append}
-use Rattle.std.specs.Prelude.{◌⊎◌, Contains, is_some}
+use Rattle.std.proofs.Common.{◌≡◌, ℕ, Bool, true, List, [], ◌∷◌, ◌++◌, map, length, refl, ap, sym, ◌∙◌, subst, inl, inr, arith, cond, Option, Some, None, Ok, Err}
+use Rattle.std.specs.Prelude.{Contains, is_some}
 use Rattle.std.specs.List.{AllByRecursion}
 use Rattle.std.specs.List.Sorted.{IsStrictlySortedBy}
 use Rattle.std.specs.declared.cmp.Ordering.TheVariants as orders
-use Rattle.std.proofs.lemmas.Bool.{true≢false}
+use Rattle.std.proofs.lemmas.List.Elements.{Contains-append_left}
 use Rattle.frame_core.specs.declared.refusal.Refusal.TheVariants as refusals
 use Rattle.frame_core.specs.declared.refusal.Refused.{Refused}
 use Rattle.key_kind.specs.declared.key.Key.{Key}
-use Rattle.key_kind.specs.Keys.{same_key, key_cmp}
+use Rattle.key_kind.specs.Keys.{key_cmp}
 use Rattle.key_kind.proofs.KeyTests.{same_key_self}
 use Rattle.bucket_core.specs.declared.answer.Dropped.{Dropped as Answer}
 use Rattle.bucket_core.specs.declared.answer.Dropped.TheVariants as answers
@@ -16,16 +16,16 @@ use Rattle.bucket_core.specs.declared.answer.StoreErr.{StoreErr}
 use Rattle.bucket_core.specs.declared.answer.StoreErr.TheVariants as errs
 use Rattle.bucket_core.specs.Calls.{IsSteady, MayTryDrop, drop_event, DidDrop as DidCall}
 use Rattle.bucket_core.specs.History.{History, stored}
-use Rattle.bucket_core.specs.Laws.{Adds, Looks}
+use Rattle.bucket_core.specs.Laws.{Adds}
 use Rattle.store_model.specs.Law.{IsClaimed, IsLawful}
-use Rattle.store_model.proofs.Lists.{contains_first, contains_later, contains_cases, contains_none, contains_append, contains_right}
+use Rattle.store_model.proofs.Lists.{contains_first, contains_cases, contains_none, contains_append, contains_right}
 use Rattle.version_chain.specs.Traces.{Went}
 use Rattle.version_chain.specs.Stops.{refused_by, StopsAt}
-use Rattle.version_chain.specs.StoreCalls.{StoppedCall}
 use Rattle.version_chain.proofs.CallLemmas.{drop_refused}
 use Rattle.version_chain.proofs.SteadyLemmas.{grown_steady, stop_steady}
 use Rattle.version_chain.proofs.TraceLemmas.{append_assoc, went_none, went_looks, went_adds, went_then, went_as, went_longer}
-use Rattle.prune_rule.specs.DropCalls.{IsDroppable, DidDropOne, StoppedDrop, DidDrop, IsPartOf, part_none, part_with, part_without, Dropped, StoppedDrops}
+use Rattle.prune_rule.specs.DropCalls.{IsDroppable, DidDropOne, StoppedDrop, IsPartOf, part_none, part_with, part_without, Dropped, StoppedDrops}
+use Rattle.prune_rule.proofs.TurnLemmas.{append_none}
 use Rattle.prune_rule.proofs.GoneLemmas.{stays_gone}
 use Rattle.prune_rule.proofs.DeadLemmas.{droppable_is_put, droppable_later}
 
@@ -110,17 +110,14 @@ map_behind : {X Y : Type 0} (f : X → Y) (xs : List X) (x : X) → map f (xs ++
 map_behind f [] x = refl
 map_behind f (y ∷ xs) x = ap (λ l. f y ∷ l) (map_behind f xs x)
 
-append_nothing : {X : Type 0} (xs : List X) → xs ++ [] ≡ xs
-append_nothing [] = refl
-append_nothing (x ∷ xs) = ap (λ l. x ∷ l) (append_nothing xs)
-
 all_at : (P : Key → Type 0) (xs ys : List Key) (key : Key) → AllByRecursion P (xs ++ key ∷ ys) → P key
 all_at P [] ys key all = all.0
 all_at P (x ∷ xs) ys key all = all_at P xs ys key all.1
 
-all_in : (P : Key → Type 0) (xs : List Key) (key : Key) → AllByRecursion P xs → Contains xs key → P key
-all_in P [] key all c = absurd (contains_none key c)
-all_in P (x ∷ xs) key all c = elim (contains_cases key x xs c) [ inl e ↦ subst P e all.0 | inr d ↦ all_in P xs key all.1 d ]
+-- what holds of each element holds of one
+pub all_in : {X : Type 0} (P : X → Type 0) (xs : List X) (x : X) → AllByRecursion P xs → Contains xs x → P x
+all_in P [] x all c = absurd (contains_none x c)
+all_in P (y ∷ xs) x all c = elim (contains_cases x y xs c) [ inl e ↦ subst P e all.0 | inr d ↦ all_in P xs x all.1 d ]
 
 -- the first of these keys were dropped where they were there, and the others are left
 pub record DropsSoFar (client : ℕ) (sole : Bool) (old cur : History) (keys rest freed : List Key) : Type 0 where
@@ -143,13 +140,9 @@ module _ (client : ℕ) (sole : Bool) (old cur : History) (keys rest freed : Lis
   -- what was passed stays gone
   still_gone : (new more : History) → new ≡ more ++ cur → ∥ IsLawful cur ∥₁ → ∥ IsLawful new ∥₁ → (key : Key) → Contains so_far.passed key → stored new key ≡ None
   still_gone new more is was lawful key c =
-      let here : IsDroppable old key = all_in (IsDroppable old) keys key all (subst (λ l. Contains l key) (sym so_far.is) (left_of so_far.passed rest key c)) in
+      let here : IsDroppable old key = all_in (IsDroppable old) keys key all (subst (λ l. Contains l key) (sym so_far.is) (Contains-append_left so_far.passed rest key c)) in
       let now = droppable_later so_far.went.more old cur key so_far.went.is was here in
       stays_gone more cur new key is (droppable_is_put cur key was now) lawful now.put (so_far.gone key c)
-    where
-      left_of : (xs ys : List Key) (x : Key) → Contains xs x → Contains (xs ++ ys) x
-      left_of [] ys x c = absurd (contains_none x c)
-      left_of (z ∷ xs) ys x c = elim (contains_cases x z xs c) [ inl e ↦ subst (λ w. Contains (z ∷ (xs ++ ys)) w) e (contains_first z (xs ++ ys)) | inr d ↦ contains_later x z (xs ++ ys) (left_of xs ys x d) ]
 
   passed_is : (key : Key) (left : List Key) → rest ≡ key ∷ left → keys ≡ (so_far.passed ++ key ∷ []) ++ left
   passed_is key left front = so_far.is ∙ (ap (λ l. so_far.passed ++ l) front ∙ sym (append_assoc so_far.passed (key ∷ []) left))
@@ -173,7 +166,7 @@ module _ (client : ℕ) (sole : Bool) (old cur : History) (keys rest freed : Lis
     | inr absent ↦ subst (DropsSoFar client sole old new keys left) (sym absent.2) (record {
       passed = so_far.passed ++ key ∷ [];
       is = passed_is key left front;
-      went = went_as client sole old new _ _ (append_nothing (map (drop_event client) freed)) (went_then client sole old cur new _ _ so_far.went (went_looks client sole cur new absent.0));
+      went = went_as client sole old new _ _ (append_none (map (drop_event client) freed)) (went_then client sole old cur new _ _ so_far.went (went_looks client sole cur new absent.0));
       part = without_last freed so_far.passed key so_far.part;
       gone = each_gone new absent.0.others key absent.0.is was lawful absent.1;
     })
@@ -185,7 +178,7 @@ module _ (client : ℕ) (sole : Bool) (old cur : History) (keys rest freed : Lis
   -- the keys are through
   pub drops_end : rest ≡ [] → Dropped client sole old cur keys freed
   drops_end none =
-      let same : keys ≡ so_far.passed = so_far.is ∙ (ap (λ l. so_far.passed ++ l) none ∙ append_nothing so_far.passed) in
+      let same : keys ≡ so_far.passed = so_far.is ∙ (ap (λ l. so_far.passed ++ l) none ∙ append_none so_far.passed) in
       record { went = so_far.went; part = subst (IsPartOf freed) (sym same) so_far.part; gone = λ key c. so_far.gone key (subst (λ l. Contains l key) same c) }
 
   -- a call failed
@@ -204,7 +197,7 @@ module _ (client : ℕ) (sole : Bool) (old cur : History) (keys rest freed : Lis
       elim s.stopped.is [
         | inl none ↦ record {
           freed = freed;
-          went = went_as client sole old new _ _ (ap (λ l. map (drop_event client) freed ++ l) none ∙ append_nothing (map (drop_event client) freed)) (went_then client sole old cur new _ _ so_far.went s.stopped.went);
+          went = went_as client sole old new _ _ (ap (λ l. map (drop_event client) freed ++ l) none ∙ append_none (map (drop_event client) freed)) (went_then client sole old cur new _ _ so_far.went s.stopped.went);
           part = subst (IsPartOf freed) (sym so_far.is) (part_less freed so_far.passed rest so_far.part);
           stops = stops;
           cause = s.stopped.cause;

@@ -1,22 +1,17 @@
 -- How the tries of a reclaim end.
-use Rattle.std.proofs.Common.{◌≡◌, ℕ, ◌+◌, ◌≤◌, ◌<◌, Bool, true, false, List, [], ◌∷◌, ◌++◌, length, refl, ap, sym, ◌∙◌, subst, inl, inr, arith, Ok, Err, length-append}
+use Rattle.std.proofs.Common.{◌≡◌, ℕ, ◌≤◌, Bool, false, length, refl, ap, sym, ◌∙◌, subst, arith}
 use Rattle.std.specs.Prelude.{is_some}
-use Rattle.base_types.specs.Faults.{Rose}
 use Rattle.frame_core.specs.declared.refusal.Refusal.{Refusal}
 use Rattle.frame_core.specs.declared.refusal.Refusal.TheVariants as refusals
 use Rattle.frame_core.specs.declared.refusal.Refused.{Refused}
 use Rattle.key_kind.specs.Names.{Name}
-use Rattle.bucket_core.specs.Calls.{IsSteady}
 use Rattle.bucket_core.specs.History.{History, history_at}
-use Rattle.bucket_core.specs.Laws.{Looks}
-use Rattle.store_model.specs.Law.{IsClaimed}
 use Rattle.store_model.specs.Library.{state_of}
 use Rattle.version_chain.specs.declared.state.SymbolState.{SymbolState}
 use Rattle.version_chain.specs.States.{IsStateAt, IsWithin, IsLookRefusal, RefusesWalk}
 use Rattle.version_chain.specs.Marking.{IsMet}
-use Rattle.version_chain.proofs.MeetLemmas.{met_later, met_sooner}
-use Rattle.version_chain.proofs.SteadyLemmas.{grown_steady, rose_sooner}
-use Rattle.version_chain.proofs.Walked.{looks_then, looks_length}
+use Rattle.version_chain.proofs.SteadyLemmas.{rose_sooner}
+use Rattle.version_chain.proofs.Walked.{looks_length}
 use Rattle.prune_rule.specs.declared.finding.Dead.{Dead}
 use Rattle.prune_rule.specs.DeadKeys.{FoundDead}
 use Rattle.prune_rule.specs.Finding.{IsFindRefusal, RefusesFinding, MetAll}

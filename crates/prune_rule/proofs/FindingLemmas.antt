@@ -1,53 +1,50 @@
 -- What the looks of a reclaim find is dead, and all of it; and that a try was met.
-use Rattle.std.proofs.Common.{◌≡◌, ℕ, suc, ◌+◌, ◌≤◌, Bool, true, false, ◌||◌, ◌&&◌, not, List, [], ◌∷◌, ◌++◌, map, length, reverse, refl, ap, sym, ◌∙◌, subst, inl, inr, arith, cond, nat_eq, Option, Some, None, length-append}
-use Rattle.std.specs.Prelude.{◌⊎◌, Contains, filter, find, is_some}
+use Rattle.std.proofs.Common.{◌≡◌, ℕ, ◌≤◌, Bool, true, false, ◌||◌, ◌&&◌, not, List, [], ◌∷◌, ◌++◌, map, length, reverse, refl, ap, sym, ◌∙◌, subst, inl, inr, arith, cond, nat_eq, Option, Some, None}
+use Rattle.std.specs.Prelude.{◌⊎◌, Contains, find, is_some}
 use Rattle.std.specs.List.{list_any, AllByRecursion}
 use Rattle.std.specs.BTreeSet.{BTreeSet}
-use Rattle.std.proofs.lemmas.Bool.{true≢false, or_cases, or_parts, or_left, or_right, and_parts, and_from, not-true, eq-eqb}
+use Rattle.std.proofs.lemmas.Bool.{true≢false, or_cases, or_left, or_right, and_parts, and_from, not-true, eq-eqb}
 use Rattle.std.proofs.lemmas.List.{reverse-append}
+use Rattle.std.proofs.lemmas.List.Elements.{Contains-append_left}
 use Rattle.std.proofs.lemmas.List.Folds.{list_any-append}
 use denote.Struct.Props.{props}
 use mathlib.Core.HLevel.{⊥_prop}
 use mathlib.Core.Logic.{∥∥₁_elim}
-use Rattle.index_tree.specs.declared.index.Slot.{Slot}
 use Rattle.index_tree.specs.declared.index.Index.{Index}
 use Rattle.key_kind.specs.declared.key.KeyKind.TheVariants as kinds
 use Rattle.key_kind.specs.declared.key.Key.{Key}
 use Rattle.key_kind.specs.Names.{Name, same_name}
-use Rattle.key_kind.specs.Keys.{is_put, same_key, same_kind}
+use Rattle.key_kind.specs.Keys.{is_put, same_kind}
 use Rattle.key_kind.proofs.KeyTests.{same_kind_is, same_name_is, same_name_self}
-use Rattle.bucket_core.specs.History.{History, Bytes, stored, body_put, reference, referred_at, AllByOthers}
-use Rattle.bucket_core.specs.Laws.{Looks, refers}
+use Rattle.bucket_core.specs.History.{History, Bytes, stored, body_put, referred_at, AllByOthers}
+use Rattle.bucket_core.specs.Laws.{refers}
 use Rattle.store_model.specs.declared.chain.LinkRow.{LinkRow}
 use Rattle.store_model.specs.declared.hold.HoldRow.{HoldRow}
-use Rattle.store_model.specs.Law.{IsClaimed, IsLawful}
-use Rattle.store_model.specs.Library.{State, Hold, state_of, is_live, is_held, is_kept, is_consumed, same_piece}
+use Rattle.store_model.specs.Law.{IsLawful}
+use Rattle.store_model.specs.Library.{Hold, state_of, is_live, is_held, is_kept, is_consumed, same_piece}
 use Rattle.store_model.specs.Links.{Linked, links, reached, reaches, is_needed, is_reached_by_needed, index_put, IsUnneeded, IsConsumedPiece}
-use Rattle.store_model.specs.Intact.{IsTableKey}
 use Rattle.store_model.proofs.AsPut.{index_stays}
 use Rattle.store_model.proofs.Dropping.{reaches_it, it_is_reached}
 use Rattle.store_model.proofs.Following.{puts_stay}
 use Rattle.store_model.proofs.Lawful.{lawful_is_intact, beginning_lawful}
-use Rattle.store_model.proofs.Lists.{contains_first, contains_later, contains_cases, contains_none, contains_append, contains_right, one_passes, none_passes, passes, filter_in, in_filter, mapped_of}
+use Rattle.store_model.proofs.Lists.{contains_first, contains_later, contains_cases, contains_none, contains_append, contains_right, one_passes, none_passes, passes, filter_in, in_filter}
 use Rattle.store_model.proofs.Stability.{is_false, none_pass}
 use Rattle.store_model.proofs.Untouched.{as_it_was}
 use Rattle.version_chain.specs.declared.state.SymbolState.{SymbolState}
-use Rattle.version_chain.specs.States.{hold_of, is_tomb, live_link, IsStateOf, IsStateAt, IsWithin}
+use Rattle.version_chain.specs.States.{hold_of, is_tomb, IsStateOf, IsStateAt}
 use Rattle.version_chain.specs.Marking.{IsMet}
 use Rattle.version_chain.proofs.ElementForms.{walked_lawful}
 use Rattle.version_chain.proofs.MeetLemmas.{others_refer_not, met_here, met_sooner}
 use Rattle.version_chain.proofs.Walked.{others_append}
 use Rattle.version_chain.proofs.TraceLemmas.{append_assoc, split_more, others_first}
 use Rattle.frame_read.proofs.ChoosingLemmas.{has_reference_told}
-use Rattle.reply_model.specs.Drops.{IsDeadTile, IsDeadIndex, IsDeadPiece}
-use Rattle.reply_model.specs.Tries.{IsKeyOf}
-use Rattle.prune_rule.specs.declared.finding.Dead.{Dead}
+use Rattle.reply_model.specs.Drops.{IsDeadIndex, IsDeadPiece}
 use Rattle.prune_rule.specs.declared.parting.Rows.{Rows}
 use Rattle.prune_rule.specs.declared.reaching.Reached.{Reached}
-use Rattle.prune_rule.specs.DeadKeys.{has_key, IsDeadKey, reached_keys, IsIndexPut, IsReachedBy, Reaches, keeps, AreParted, NotesStaged, FoundDead}
+use Rattle.prune_rule.specs.DeadKeys.{has_key, IsDeadKey, reached_keys, IsIndexPut, Reaches, keeps, AreParted, NotesStaged, FoundDead}
 use Rattle.prune_rule.proofs.StateLemmas.{link_told}
 use Rattle.prune_rule.proofs.GoneLemmas.{stays_gone, stood_before, still_put, none_and_some}
-use Rattle.prune_rule.proofs.DeadLemmas.{HasKinds, link_kinds, own_index, index_once, reached_put, index_is, stored_was_put, table_is_put}
+use Rattle.prune_rule.proofs.DeadLemmas.{link_kinds, own_index, index_once, reached_put, index_is}
 use Rattle.prune_rule.proofs.PieceLemmas.{piece_was_put}
 
 -- ---- lists
@@ -57,12 +54,8 @@ reversed_in [] x c = absurd (contains_none x c)
 reversed_in (y ∷ xs) x c =
     subst (λ l. Contains l x) (sym (reverse-append (y ∷ []) xs)) (elim (contains_cases x y xs c) [
       | inl is ↦ contains_right (reverse xs) (y ∷ []) x (subst (λ z. Contains (z ∷ []) x) (sym is) (contains_first x []))
-      | inr later ↦ left_of (reverse xs) (y ∷ []) x (reversed_in xs x later)
+      | inr later ↦ Contains-append_left (reverse xs) (y ∷ []) x (reversed_in xs x later)
     ])
-  where
-    left_of : {X : Type 0} (xs ys : List X) (x : X) → Contains xs x → Contains (xs ++ ys) x
-    left_of [] ys x c = absurd (contains_none x c)
-    left_of (z ∷ xs) ys x c = elim (contains_cases x z xs c) [ inl e ↦ subst (λ w. Contains (w ∷ (xs ++ ys)) x) (sym e) (contains_first x (xs ++ ys)) | inr d ↦ contains_later x z (xs ++ ys) (left_of xs ys x d) ]
 
 in_reversed : {X : Type 0} (xs : List X) (x : X) → Contains (reverse xs) x → Contains xs x
 in_reversed [] x c = c

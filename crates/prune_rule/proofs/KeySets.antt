@@ -1,17 +1,16 @@
 -- Sets of keys: their members, their order, and their parts by kind.
-use Rattle.std.proofs.Common.{◌≡◌, ℕ, ◌≤◌, Bool, true, false, ◌||◌, ◌&&◌, not, List, [], ◌∷◌, ◌++◌, refl, ap, sym, ◌∙◌, subst, inl, inr, arith, cond, nat_eq}
+use Rattle.std.proofs.Common.{◌≡◌, ℕ, ◌≤◌, true, false, List, [], ◌∷◌, ◌++◌, refl, ap, sym, ◌∙◌, subst, inl, inr, arith, cond}
 use Rattle.std.specs.Prelude.{◌⊎◌, Contains, filter}
-use Rattle.std.specs.List.{list_any, AllByRecursion}
+use Rattle.std.specs.List.{AllByRecursion}
 use Rattle.std.specs.List.Sorted.{IsStrictlySortedBy}
 use Rattle.std.specs.BTreeSet.{BTreeSet}
-use Rattle.std.specs.Ordering.{nat_cmp, is_eq, is_lt, eq_by_cmp, ordering_then}
+use Rattle.std.specs.Ordering.{nat_cmp, is_eq, is_lt, ordering_then}
 use Rattle.std.specs.declared.cmp.Ordering.{Ordering}
 use Rattle.std.specs.declared.cmp.Ordering.TheVariants as orders
-use Rattle.std.proofs.lemmas.Bool.{true≢false, and_parts}
 use Rattle.key_kind.specs.declared.key.KeyKind.{KeyKind}
 use Rattle.key_kind.specs.declared.key.KeyKind.TheVariants as kinds
 use Rattle.key_kind.specs.declared.key.Key.{Key}
-use Rattle.key_kind.specs.Keys.{kind_code, same_key, same_kind, key_cmp, key_before}
+use Rattle.key_kind.specs.Keys.{kind_code, same_kind, key_cmp}
 use Rattle.key_kind.specs.KeyOrder.{same_key_ties}
 use Rattle.key_kind.proofs.KeyTests.{same_key_is, same_key_self, same_kind_is}
 use Rattle.store_model.proofs.Lists.{one_passes, passes}

@@ -1,5 +1,5 @@
 -- The reply of a reclaim is legal.
-use Rattle.std.proofs.Common.{◌≡◌, ◌≢◌, ℕ, suc, ◌+◌, ◌≤◌, ◌<◌, Bool, true, false, List, [], ◌∷◌, ◌++◌, map, length, refl, ap, sym, ◌∙◌, subst, inl, inr, arith, cond, not, Option, Some, None, Result, Ok, Err, length-append}
+use Rattle.std.proofs.Common.{◌≡◌, ℕ, ◌+◌, ◌≤◌, Bool, true, false, List, [], ◌∷◌, ◌++◌, map, length, refl, ap, sym, ◌∙◌, subst, inl, inr, arith, cond, None, Result, Ok, Err, length-append}
 use Rattle.std.specs.Prelude.{◌⊎◌, ⊤, Contains, MatchBool, is_some, count_by, filter}
 use Rattle.std.specs.List.{list_any, AllByRecursion}
 use Rattle.std.specs.List.Sorted.{IsStrictlySortedBy}
@@ -20,16 +20,15 @@ use Rattle.store_model.proofs.Lists.{contains_first, contains_later, all_weaker}
 use Rattle.bucket_core.specs.declared.event.Event.{Event}
 use Rattle.bucket_core.specs.declared.event.Event.TheVariants as events
 use Rattle.bucket_core.specs.Calls.{drop_event, IsFull}
-use Rattle.bucket_core.specs.History.{History, author, stored, body_put, history_at, event_at, AllByOthers}
+use Rattle.bucket_core.specs.History.{History, stored, body_put, history_at, event_at, AllByOthers}
 use Rattle.bucket_core.specs.Laws.{Looks}
 use Rattle.expr_clause.specs.declared.command.Command.TheVariants as commands
 use Rattle.store_model.specs.Law.{IsClaimed, IsLawful}
 use Rattle.store_model.specs.Library.{state_of}
 use Rattle.store_model.specs.Links.{Linked, links, reached, IsUnneeded}
 use Rattle.version_chain.specs.States.{IsWithin}
-use Rattle.version_chain.specs.Traces.{own_of, met_in, Went}
-use Rattle.version_chain.specs.Stops.{StopsAt, HasCause, is_fault}
-use Rattle.version_chain.specs.Marking.{IsMet}
+use Rattle.version_chain.specs.Traces.{own_of, Went}
+use Rattle.version_chain.specs.Stops.{HasCause, is_fault}
 use Rattle.version_chain.proofs.TraceLemmas.{append_assoc, went_looks, went_then, went_longer, split_more, split_at, others_first, own_of-others}
 use Rattle.version_chain.proofs.MeetLemmas.{event_at_later}
 use Rattle.reply_model.specs.declared.outcome.Outcome.TheVariants as outcomes
@@ -37,17 +36,17 @@ use Rattle.reply_model.specs.declared.reply.Reply.{Reply}
 use Rattle.reply_model.specs.Answering.{Session}
 use Rattle.reply_model.specs.Windows.{Window, own_events, refer_places, is_cut, is_store_fault, is_refused, AreCommits}
 use Rattle.reply_model.specs.Tries.{one_if, IsKeyOf}
-use Rattle.reply_model.specs.OwnEvents.{IsBeginning, IsOwn, is_done, is_last, is_end}
-use Rattle.reply_model.specs.Drops.{IsDeadTile, IsDeadIndex, IsDeadPiece, IsDropping, IsReclaiming, HasDeadKey, DroppedByAnother, IsFreedAt, drops_kind}
+use Rattle.reply_model.specs.OwnEvents.{IsBeginning, IsOwn, is_done, is_last}
+use Rattle.reply_model.specs.Drops.{IsDeadTile, IsDeadIndex, IsDeadPiece, IsDropping, IsReclaiming, HasDeadKey, DroppedByAnother, drops_kind}
 use Rattle.reply_model.specs.Legal.{IsLegalOutcome, IsLegalSeen, IsLegalReply}
 use Rattle.reply_model.proofs.Places.{history_at_end}
 use Rattle.reply_model.proofs.Later.{history_at_later}
 use Rattle.prune_rule.specs.declared.finding.Dead.{Dead}
 use Rattle.prune_rule.specs.declared.reclaiming.Freed.{Freed}
-use Rattle.prune_rule.specs.DeadKeys.{has_key, IsDeadKey, FoundDead}
+use Rattle.prune_rule.specs.DeadKeys.{IsDeadKey, FoundDead}
 use Rattle.prune_rule.specs.DropCalls.{IsPartOf, Dropped, StoppedDrops}
 use Rattle.prune_rule.specs.Finding.{IsFindRefusal, RefusesFinding, MetAll}
-use Rattle.prune_rule.specs.Reclaims.{DropsThese, keys_of_kind, reply_of, IsLegalReclaim}
+use Rattle.prune_rule.specs.Reclaims.{keys_of_kind, reply_of}
 use Rattle.prune_rule.proofs.KeySets.{has_is_among, among_is_had, rise_of, of_kind, split_kinds, IsDropKind}
 use Rattle.prune_rule.proofs.GoneLemmas.{stays_gone, stood_before, still_put, dropped_by}
 use Rattle.prune_rule.proofs.DeadLemmas.{unneeded_put, stored_was_put}

@@ -7,8 +7,7 @@ use Rattle.key_kind.specs.declared.key.KeyKind.TheVariants as kinds
 use Rattle.key_kind.specs.declared.key.Key.{Key}
 use Rattle.key_kind.specs.Names.{Name, same_name}
 use Rattle.key_kind.specs.Keys.{same_key, same_kind, key_before}
-use Rattle.key_kind.proofs.KeyTests.{same_key_is, same_key_self}
-use Rattle.bucket_core.specs.declared.event.Event.{Event}
+use Rattle.key_kind.proofs.KeyTests.{same_key_is}
 use Rattle.bucket_core.specs.declared.event.PieceName.{PieceName}
 use Rattle.bucket_core.specs.History.{History, Bytes, stored, stored_keys, insert_key, without_key, key_of, body_of}
 use Rattle.bucket_core.specs.Calls.{keys_that_match, matches}

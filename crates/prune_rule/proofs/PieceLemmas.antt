@@ -1,8 +1,8 @@
 -- Consumed pieces were staged before, and a staged key with the name of one was put before.
-use Rattle.std.proofs.Common.{◌≡◌, ℕ, suc, ◌+◌, ◌≤◌, ◌<◌, Bool, true, false, ◌||◌, List, [], ◌∷◌, ◌++◌, refl, ap, sym, ◌∙◌, subst, inl, inr, arith, cond, nat_eq, Option, Some, None}
+use Rattle.std.proofs.Common.{◌≡◌, ℕ, ◌≤◌, ◌<◌, Bool, true, false, List, [], ◌∷◌, ◌++◌, refl, ap, sym, ◌∙◌, subst, inl, inr, arith, cond, Option, Some, None}
 use Rattle.std.specs.Prelude.{◌⊎◌, fold, is_some, option_and_then}
 use Rattle.std.specs.List.{list_any, AllByRecursion}
-use Rattle.std.proofs.lemmas.Bool.{true≢false, or_cases, and_parts, eqb-true}
+use Rattle.std.proofs.lemmas.Bool.{true≢false, or_cases}
 use Rattle.std.proofs.lemmas.List.Folds.{list_any-append}
 use denote.Struct.Props.{props}
 use mathlib.Core.Logic.{∥∥₁_elim}

@@ -1,33 +1,34 @@
 -- Rows whose indexes are read, one after another, and tries that are met.
-use Rattle.std.proofs.Common.{◌≡◌, ℕ, suc, ◌+◌, ◌≤◌, Bool, true, false, ◌||◌, ◌&&◌, not, List, [], ◌∷◌, ◌++◌, length, refl, ap, sym, ◌∙◌, subst, inl, inr, arith, Some, None}
-use Rattle.std.specs.Prelude.{◌⊎◌, Contains, is_some}
+use Rattle.std.proofs.Common.{◌≡◌, ℕ, ◌+◌, ◌≤◌, Bool, true, false, ◌&&◌, not, List, [], ◌∷◌, ◌++◌, length, ap, sym, ◌∙◌, subst, inl, inr, arith, Some, None}
+use Rattle.std.specs.Prelude.{◌⊎◌, Contains}
 use Rattle.std.specs.List.{list_any, AllByRecursion}
 use Rattle.std.specs.BTreeSet.{BTreeSet}
 use Rattle.std.proofs.lemmas.Bool.{true≢false, and_parts, and_from, or_cases, or_left, or_right, not-true}
 use denote.Struct.Props.{props}
 use mathlib.Core.Logic.{∥∥₁_elim}
 use Rattle.index_tree.specs.declared.index.Index.{Index}
-use Rattle.key_kind.specs.declared.key.KeyKind.TheVariants as kinds
 use Rattle.key_kind.specs.declared.key.Key.{Key}
 use Rattle.key_kind.specs.Names.{Name}
 use Rattle.key_kind.specs.Keys.{is_put, same_key}
 use Rattle.key_kind.proofs.KeyTests.{same_key_is, same_key_self}
-use Rattle.bucket_core.specs.History.{History, stored, body_put}
+use Rattle.bucket_core.specs.History.{History, stored}
 use Rattle.bucket_core.specs.Laws.{Looks}
 use Rattle.store_model.specs.declared.chain.LinkRow.{LinkRow}
 use Rattle.store_model.specs.Law.{IsClaimed, IsLawful}
 use Rattle.store_model.specs.Links.{index_put}
 use Rattle.store_model.proofs.AsPut.{index_stays}
 use Rattle.store_model.proofs.Following.{puts_stay}
-use Rattle.store_model.proofs.Lists.{contains_first, contains_later, contains_cases, contains_none, contains_append, contains_right, one_passes, passes}
+use Rattle.store_model.proofs.Lists.{contains_first, contains_later, contains_cases, contains_none, contains_right, one_passes, passes}
 use Rattle.version_chain.specs.Marking.{IsMet}
 use Rattle.version_chain.specs.Traces.{met_in}
 use Rattle.version_chain.proofs.MeetLemmas.{met_counts}
 use Rattle.version_chain.proofs.TraceLemmas.{append_assoc, met_in-append}
 use Rattle.version_chain.proofs.Walked.{others_append, looks_none}
 use Rattle.prune_rule.specs.declared.reaching.Reached.{Reached}
-use Rattle.prune_rule.specs.DeadKeys.{has_key, reached_keys, IsIndexPut, IsReachedBy, ReachesRow, MissesRow, DidReach, Reaches}
+use Rattle.prune_rule.specs.DeadKeys.{has_key, reached_keys, IsIndexPut, IsReachedBy, DidReach, Reaches}
+use Rattle.prune_rule.proofs.TurnLemmas.{append_none}
 use Rattle.prune_rule.proofs.GoneLemmas.{stays_gone, stood_before, still_put}
+use Rattle.prune_rule.proofs.DropLemmas.{all_in}
 
 -- an index that was put stays put
 pub index_later : (more h new : History) (key : Key) (index : Index) → new ≡ more ++ h → ∥ IsLawful new ∥₁ → index_put h key ≡ Some index → index_put new key ≡ Some index
@@ -40,24 +41,16 @@ pub record ReachesSoFar (old cur : History) (rows rest : List LinkRow) (kept : B
   pub is : rows ≡ rest ++ passed
   pub reaches : Reaches old cur passed kept reached
 
-all_in : (P : LinkRow → Type 0) (rows : List LinkRow) (row : LinkRow) → AllByRecursion P rows → Contains rows row → P row
-all_in P [] row all c = absurd (contains_none row c)
-all_in P (r ∷ rows) row all c = elim (contains_cases row r rows c) [ inl e ↦ subst P e all.0 | inr d ↦ all_in P rows row all.1 d ]
-
 pub reaches_none : (h : History) (rows rest : List LinkRow) (kept : BTreeSet Key) (reached : Reached) → rest ≡ rows → reached.gone ≡ false → ((key : Key) → has_key reached.keys key ≡ false) → ReachesSoFar h h rows rest kept reached
 reaches_none h rows rest kept reached same not_gone lacks = record {
   passed = [];
-  is = sym same ∙ sym (same_end rest);
+  is = sym same ∙ sym (append_none rest);
   reaches = record {
     each = λ row c. absurd (contains_none row c);
     only = λ key has. absurd (true≢false (sym has ∙ lacks key));
     gone = λ g. absurd (true≢false (sym g ∙ not_gone));
   };
 }
-  where
-    same_end : (xs : List LinkRow) → xs ++ [] ≡ xs
-    same_end [] = refl
-    same_end (x ∷ xs) = ap (λ l. x ∷ l) (same_end xs)
 
 -- the next row may be read
 pub row_put : (old cur first : History) (rows rest left : List LinkRow) (row : LinkRow) (kept : BTreeSet Key) (reached : Reached) → cur ≡ first ++ old → ∥ IsLawful cur ∥₁ → AllByRecursion (IsIndexPut old) rows → rest ≡ left ++ row ∷ []

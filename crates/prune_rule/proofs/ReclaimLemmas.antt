@@ -1,9 +1,7 @@
 -- A reclaim: its keys may be dropped, and its reply is legal for each session of its client.
-use Rattle.std.proofs.Common.{◌≡◌, ℕ, ◌≤◌, Bool, true, List, [], ◌∷◌, ◌++◌, map, refl, ap, sym, ◌∙◌, subst, inl, inr, Ok, Err, Result}
-use Rattle.std.specs.Prelude.{◌⊎◌, Contains}
+use Rattle.std.proofs.Common.{ℕ, Bool, List, [], ◌∷◌, map, sym, ◌∙◌, subst, inl, inr, Ok, Err}
 use Rattle.std.specs.List.{AllByRecursion}
 use Rattle.std.specs.List.Sorted.{IsStrictlySortedBy}
-use Rattle.base_types.specs.Faults.{Rose}
 use Rattle.frame_core.specs.declared.refusal.Refused.{Refused}
 use Rattle.key_kind.specs.declared.key.Key.{Key}
 use Rattle.key_kind.specs.Keys.{key_cmp}
@@ -14,14 +12,12 @@ use Rattle.bucket_core.specs.Laws.{Looks}
 use Rattle.store_model.specs.Law.{IsClaimed, IsLawful}
 use Rattle.version_chain.specs.Stops.{StopsAt, HasCause}
 use Rattle.version_chain.specs.Traces.{Went}
-use Rattle.version_chain.proofs.ElementForms.{walked_lawful}
 use Rattle.version_chain.proofs.SteadyLemmas.{went_steady, cause_sooner}
 use Rattle.version_chain.proofs.TraceLemmas.{went_looks, went_then}
-use Rattle.reply_model.specs.Answering.{Session}
 use Rattle.prune_rule.specs.declared.finding.Dead.{Dead}
 use Rattle.prune_rule.specs.DeadKeys.{IsDeadKey, FoundDead}
-use Rattle.prune_rule.specs.DropCalls.{IsDroppable, Dropped, StoppedDrops, DidDrops}
-use Rattle.prune_rule.specs.Finding.{RefusesFinding, MetAll, RefusesDead}
+use Rattle.prune_rule.specs.DropCalls.{IsDroppable, Dropped, StoppedDrops}
+use Rattle.prune_rule.specs.Finding.{MetAll, RefusesDead}
 use Rattle.prune_rule.specs.Reclaims.{DropsThese, IsLegalReclaim}
 use Rattle.prune_rule.proofs.DeadLemmas.{droppable_later}
 use Rattle.prune_rule.proofs.LegalReclaims.{each_dead, found_was_put, find_refused, all_met, drops_refused, drops_done, drops_are}

@@ -1,6 +1,5 @@
 -- The place of the event that set a reference is that of the symbol's newest Refer.
-use Rattle.std.proofs.Common.{◌≡◌, ℕ, suc, true, false, ◌||◌, ◌&&◌, [], ◌∷◌, refl, ap, sym, ◌∙◌, subst, inl, inr, cond, length, Some, None}
-use Rattle.std.specs.Prelude.{is_some}
+use Rattle.std.proofs.Common.{◌≡◌, ℕ, suc, true, false, ◌||◌, ◌&&◌, [], ◌∷◌, refl, ap, sym, ◌∙◌, subst, inl, inr, cond, length}
 use Rattle.std.proofs.lemmas.Bool.{true≢false}
 use denote.Struct.Props.{props}
 use mathlib.Core.Logic.{∥∥₁_elim}

@@ -1,9 +1,9 @@
 -- Sets that grow, element by element, and the looks of a reclaim.
-use Rattle.std.proofs.Common.{◌≡◌, ℕ, suc, ◌≤◌, Bool, true, false, ◌||◌, ◌&&◌, not, List, [], ◌∷◌, ◌++◌, map, length, refl, ap, sym, ◌∙◌, subst, inl, inr, arith, cond, nat_eq, Option, Some, None, Ok}
+use Rattle.std.proofs.Common.{◌≡◌, ℕ, ◌≤◌, Bool, true, false, ◌||◌, ◌&&◌, not, List, [], ◌∷◌, ◌++◌, map, length, refl, ap, sym, ◌∙◌, subst, arith, cond, nat_eq, Some, Ok}
 use Rattle.std.specs.Prelude.{filter, reverse, is_some, option_and_then}
-use Rattle.std.specs.List.{list_any, AllByRecursion}
+use Rattle.std.specs.List.{list_any}
 use Rattle.std.specs.BTreeSet.{BTreeSet}
-use Rattle.std.specs.Ordering.{nat_cmp, is_eq, ordering_then, eq_by_cmp}
+use Rattle.std.specs.Ordering.{nat_cmp, is_eq, ordering_then}
 use Rattle.std.specs.Cmp.{both_tied, unsigned_ties}
 use Rattle.std.proofs.lemmas.Bool.{eq-eqb, eqb-true}
 use Rattle.std.proofs.lemmas.List.Folds.{list_any-append}
@@ -24,7 +24,7 @@ use Rattle.bucket_core.specs.declared.event.PieceName.{PieceName}
 use Rattle.bucket_core.specs.declared.answer.StoreErr.{StoreErr}
 use Rattle.bucket_core.specs.declared.answer.StoreErr.TheVariants as errs
 use Rattle.bucket_core.specs.Calls.{RefusesLook}
-use Rattle.bucket_core.specs.History.{History, Bytes, stored, body_put}
+use Rattle.bucket_core.specs.History.{History, Bytes, stored}
 use Rattle.bucket_core.specs.Laws.{Looks}
 use Rattle.store_model.specs.declared.chain.LinkRow.{LinkRow}
 use Rattle.store_model.specs.Law.{IsClaimed}
@@ -35,6 +35,7 @@ use Rattle.version_chain.specs.States.{RefusesWalk}
 use Rattle.version_chain.specs.Stops.{refused_by}
 use Rattle.version_chain.proofs.TraceLemmas.{append_assoc}
 use Rattle.version_chain.proofs.Walked.{looks_length}
+use Rattle.prune_rule.proofs.TurnLemmas.{append_none}
 use Rattle.prune_rule.specs.declared.parting.Rows.{Rows}
 use Rattle.prune_rule.specs.DeadKeys.{has_key, reached_keys, keeps_in, PartsFrom}
 
@@ -186,20 +187,16 @@ index_found h key body index kind stands spelled = (
 
 -- ---- rows
 
-append_nothing : (xs : List LinkRow) → xs ++ [] ≡ xs
-append_nothing [] = refl
-append_nothing (x ∷ xs) = ap (λ l. x ∷ l) (append_nothing xs)
-
 -- a row of its kind
 pub parts_kept : (tombs held : BTreeSet ℕ) (row : LinkRow) (old new : Rows) → keeps_in tombs held row ≡ true → new.kept ≡ old.kept ++ row ∷ [] → new.dead ≡ old.dead → PartsFrom tombs held row old new
 parts_kept tombs held row old new on kept dead = record {
   kept = kept ∙ ap (λ b. old.kept ++ cond b (row ∷ []) []) (sym on);
-  dead = dead ∙ (sym (append_nothing old.dead) ∙ ap (λ b. old.dead ++ cond (not b) (row ∷ []) []) (sym on));
+  dead = dead ∙ (sym (append_none old.dead) ∙ ap (λ b. old.dead ++ cond (not b) (row ∷ []) []) (sym on));
 }
 
 pub parts_dead : (tombs held : BTreeSet ℕ) (row : LinkRow) (old new : Rows) → keeps_in tombs held row ≡ false → new.kept ≡ old.kept → new.dead ≡ old.dead ++ row ∷ [] → PartsFrom tombs held row old new
 parts_dead tombs held row old new off kept dead = record {
-  kept = kept ∙ (sym (append_nothing old.kept) ∙ ap (λ b. old.kept ++ cond b (row ∷ []) []) (sym off));
+  kept = kept ∙ (sym (append_none old.kept) ∙ ap (λ b. old.kept ++ cond b (row ∷ []) []) (sym off));
   dead = dead ∙ ap (λ b. old.dead ++ cond (not b) (row ∷ []) []) (sym off);
 }
 
@@ -216,7 +213,7 @@ filter_same p q same (row ∷ rows) = (λ i. cond (same row i) (row ∷ filter_s
 
 pub parted_end : (p q : LinkRow → Bool) → ((row : LinkRow) → p row ≡ q row) → (rows rest links : List LinkRow) → rest ≡ [] → rows ++ filter p (reverse rest) ≡ filter p (reverse links) → rows ≡ filter q (reverse links)
 parted_end p q same rows rest links none is =
-    sym (append_nothing rows) ∙ (ap (λ l. rows ++ filter p (reverse l)) (sym none) ∙ (is ∙ filter_same p q same (reverse links)))
+    sym (append_none rows) ∙ (ap (λ l. rows ++ filter p (reverse l)) (sym none) ∙ (is ∙ filter_same p q same (reverse links)))
 
 -- ---- pieces
 

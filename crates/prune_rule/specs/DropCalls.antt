@@ -3,7 +3,7 @@
 --     DidDrop             one drop, and the keys that were dropped so far
 --     IsPartOf            some of the elements of a list, in their order
 --     Dropped, StoppedDrops, DidDrops      the drops of a list of keys
-use Rattle.std.specs.Prelude.{◌≡◌, ◌≢◌, ◌⊎◌, ℕ, Bool, true, List, [], ◌∷◌, ◌++◌, map, None, Result, Ok, Err, Contains, is_some}
+use Rattle.std.specs.Prelude.{◌≡◌, ◌⊎◌, ℕ, Bool, true, List, [], ◌∷◌, ◌++◌, map, None, Result, Ok, Err, Contains, is_some}
 use Rattle.frame_core.specs.declared.refusal.Refusal.TheVariants as refusals
 use Rattle.frame_core.specs.declared.refusal.Refused.{Refused}
 use Rattle.key_kind.specs.declared.key.Key.{Key}

@@ -1,7 +1,7 @@
 use Rattle.std.proofs.Common.{refl, arith}
 use Rattle.version_chain.proofs.SteadyLemmas.{on_err, steady_then}
 use Rattle.prune_rule.specs.DropCalls.{DidDrops}
-use Rattle.prune_rule.proofs.DropLemmas.{drops_none, next_may, drops_more, drops_end, drops_stop, drops_wanting, one_steady, stopped_steady}
+use Rattle.prune_rule.proofs.DropLemmas.{drops_none, next_may, drops_more, drops_stop, drops_wanting, one_steady, stopped_steady}
 use Rattle.prune_rule.proofs.dropping.drop_all.Goals as goal
 
 pub returns-in_default-clause-did : goal.returns-in_default-clause-did

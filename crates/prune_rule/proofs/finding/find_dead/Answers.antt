@@ -1,6 +1,5 @@
-use Rattle.std.proofs.Common.{◌≡◌, ◌<◌, ◌≤◌, length, inl, inr, subst, refl, arith, rules, Ok, Err, []}
+use Rattle.std.proofs.Common.{length, inl, inr, subst, refl, arith, Ok, []}
 use Rattle.std.specs.Prelude.{IfErr}
-use Rattle.bucket_core.specs.History.{History}
 use Rattle.version_chain.specs.Marking.{IsMet}
 use Rattle.version_chain.proofs.MeetLemmas.{met_sooner}
 use Rattle.version_chain.proofs.SteadyLemmas.{on_err, steady_then, grown_steady}

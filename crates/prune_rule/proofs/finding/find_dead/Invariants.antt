@@ -1,4 +1,4 @@
-use Rattle.std.proofs.Common.{◌<◌, ◌≤◌, length}
+use Rattle.std.proofs.Common.{◌<◌, length}
 use Rattle.bucket_core.specs.Calls.{IsSteady}
 use Rattle.version_chain.specs.Marking.{IsMet}
 use Rattle.prune_rule.proofs.ReachLemmas.{MetSoFar}

@@ -2,7 +2,7 @@ use Rattle.std.proofs.Common.{refl, arith}
 use Rattle.version_chain.proofs.Walked.{looks_none, looks_then}
 use Rattle.version_chain.proofs.SteadyLemmas.{steady_then}
 use Rattle.prune_rule.proofs.SetLemmas.{empty_lacks}
-use Rattle.prune_rule.proofs.ReachLemmas.{reaches_none, row_put, reaches_more, reaches_end}
+use Rattle.prune_rule.proofs.ReachLemmas.{reaches_none, row_put, reaches_more}
 use Rattle.prune_rule.proofs.reaching.reach.Goals as goal
 
 pub loop-row-init : goal.loop-row-init

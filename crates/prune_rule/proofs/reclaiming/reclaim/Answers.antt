@@ -1,5 +1,3 @@
-use Rattle.std.specs.Prelude.{IfOk}
-use Rattle.version_chain.specs.Traces.{GoesOn}
 use Rattle.version_chain.proofs.SteadyLemmas.{on_err}
 use Rattle.version_chain.proofs.TraceLemmas.{went_looks}
 use Rattle.prune_rule.specs.Reclaims.{IsLegalReclaim}
