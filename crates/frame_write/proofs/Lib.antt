@@ -18,3 +18,7 @@ pub mod LegalLemmas
 pub mod ReplyLemmas
 pub mod LegalReplies
 pub mod LegalWrites
+pub mod CoverTiles
+pub mod BaseLinks
+pub mod Runs
+pub mod SharedSlots

@@ -4,4 +4,6 @@ pub mod Plans
 pub mod Loops
 pub mod Tries
 pub mod Writes
+pub mod Pieces
+pub mod Links
 pub mod WritePlans

@@ -6,8 +6,10 @@ mod attempt;
 mod commit;
 mod drops;
 mod elements;
+mod link;
 mod numbers;
 mod options;
+mod pieces;
 mod placing;
 mod plan;
 mod puts;
@@ -17,5 +19,7 @@ mod tiles;
 mod write;
 
 pub use base_types::NoMemory;
+pub use link::link_on;
 pub use options::{Committed, Options};
+pub use pieces::{LinkPlan, Piece};
 pub use write::write_link;

@@ -1,0 +1,15 @@
+//! Appends and updates: a new version of a symbol that shares the tiles of its newest live version.
+#![tactic(auto)]
+
+mod appending;
+mod base;
+mod cuts;
+mod judging;
+mod pieces;
+mod planning;
+mod updating;
+
+pub use appending::append;
+pub use base_types::NoMemory;
+pub use frame_write::{Committed, Options};
+pub use updating::{delete_range, update};
