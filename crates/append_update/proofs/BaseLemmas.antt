@@ -171,7 +171,7 @@ gone_was_met client symbol before more place number refused lawful none le live 
       why = m.why;
     }
 
-walked_here : (h : History) (symbol : Name) (state : SymbolState) (at : IsStateAt h symbol state) → history_at h state.place ≡ at.before
+pub walked_here : (h : History) (symbol : Name) (state : SymbolState) (at : IsStateAt h symbol state) → history_at h state.place ≡ at.before
 walked_here h symbol state at =
     ap (λ g. history_at g state.place) at.split
     ∙ (ap (history_at (at.later ++ at.before)) at.place
@@ -181,26 +181,25 @@ gone_of : (before now : ℕ) (h : History) (symbol : Name) (version number : ℕ
 gone_of before now h symbol version number why is e = (subst (IsGetRefusal before now h symbol version) e is).1
 
 -- so the look at the reference tells that commit
-pub base_gone : (client before now : ℕ) (symbol : Name) (state : SymbolState) (old mid new first more : History) (at : IsStateAt old symbol state) → list_any (own_refers client symbol) at.later ≡ false
-    → ∥ IsLawful old ∥₁ → ∥ IsLawful new ∥₁ → mid ≡ first ++ old → new ≡ more ++ mid → AllByOthers client first → AllByOthers client more
-    → (row : LinkRow) → newest_link state ≡ Some row → (target : Target) → target.symbol ≡ symbol → target.version ≡ row.version
-    → (got refused : Refused) (number : ℕ) → got.why ≡ refusals.VersionGone number → RefusesGet before now old mid target.symbol target.version got
-    → MetCommit new symbol refused → MetAt client symbol state.place new refused
-base_gone client before now symbol state old mid new first more at none lawful lawful_new is_mid is_new by_first by_more row newest target symbol_is version_is got refused number why r m =
-    let gone = gone_of before now (history_at mid got.place) target.symbol target.version number got.why r.why why in
-    let all : History = more ++ (first ++ at.later) in
-    let whole : new ≡ all ++ at.before =
-    is_new ∙ (ap (λ h. more ++ h) (is_mid ∙ (ap (λ h. first ++ h) at.split ∙ sym (append_assoc first at.later at.before))) ∙ sym (append_assoc more (first ++ at.later) at.before)) in
+pub base_gone : (client faults now : ℕ) (symbol : Name) (later before old mid new first more : History) → old ≡ later ++ before → list_any (own_refers client symbol) later ≡ false
+    → ∥ IsLawful new ∥₁ → mid ≡ first ++ old → new ≡ more ++ mid → AllByOthers client first → AllByOthers client more
+    → (target : Target) → target.symbol ≡ symbol → is_buried (state_of before symbol) target.version ≡ false
+    → (got refused : Refused) (number : ℕ) → got.why ≡ refusals.VersionGone number → RefusesGet faults now old mid target.symbol target.version got
+    → MetCommit new symbol refused → MetAt client symbol (length before) new refused
+base_gone client faults now symbol later before old mid new first more split none lawful_new is_mid is_new by_first by_more target symbol_is live got refused number why r m =
+    let gone = gone_of faults now (history_at mid got.place) target.symbol target.version number got.why r.why why in
+    let all : History = more ++ (first ++ later) in
+    let whole : new ≡ all ++ before =
+    is_new ∙ (ap (λ h. more ++ h) (is_mid ∙ (ap (λ h. first ++ h) split ∙ sym (append_assoc first later before))) ∙ sym (append_assoc more (first ++ later) before)) in
     let no_own : list_any (own_refers client symbol) all ≡ false =
-    none_in_both (own_refers client symbol) more (first ++ at.later) (others_refer_not client symbol more by_more)
-    (none_in_both (own_refers client symbol) first at.later (others_refer_not client symbol first by_first) none) in
-    let size : length old ≡ length at.later + length at.before = ap length at.split ∙ length-append at.later at.before in
-    let low : length at.before ≤ got.place = omega (arith, size, r.place.from) in
-    let live : is_buried (state_of at.before symbol) row.version ≡ false = subst (λ h. is_buried (state_of h symbol) row.version ≡ false) (walked_here old symbol state at) (lives old symbol state at lawful row newest) in
-    let buried_mid : is_buried (state_of (history_at mid got.place) symbol) row.version ≡ true =
-    subst (λ n. is_buried (state_of (history_at mid got.place) symbol) n ≡ true) version_is (subst (λ s. is_buried (state_of (history_at mid got.place) s) target.version ≡ true) symbol_is gone.buried) in
-    let here : history_at (all ++ at.before) got.place ≡ history_at mid got.place =
+    none_in_both (own_refers client symbol) more (first ++ later) (others_refer_not client symbol more by_more)
+    (none_in_both (own_refers client symbol) first later (others_refer_not client symbol first by_first) none) in
+    let size : length old ≡ length later + length before = ap length split ∙ length-append later before in
+    let low : length before ≤ got.place = omega (arith, size, r.place.from) in
+    let buried_mid : is_buried (state_of (history_at mid got.place) symbol) target.version ≡ true =
+    subst (λ s. is_buried (state_of (history_at mid got.place) s) target.version ≡ true) symbol_is gone.buried in
+    let here : history_at (all ++ before) got.place ≡ history_at mid got.place =
     ap (λ h. history_at h got.place) (sym whole ∙ is_new) ∙ history_at_later mid more got.place r.place.to in
-    let buried : is_buried (state_of (history_at (all ++ at.before) got.place) symbol) row.version ≡ true = subst (λ h. is_buried (state_of h symbol) row.version ≡ true) (sym here) buried_mid in
-    let met = gone_was_met client symbol at.before all got.place row.version refused (subst (λ h. ∥ IsLawful h ∥₁) whole lawful_new) no_own low live buried (subst (λ h. MetCommit h symbol refused) whole m) in
-    subst (λ n. MetAt client symbol n new refused) (sym at.place) (subst (λ h. MetAt client symbol (length at.before) h refused) (sym whole) met)
+    let buried : is_buried (state_of (history_at (all ++ before) got.place) symbol) target.version ≡ true = subst (λ h. is_buried (state_of h symbol) target.version ≡ true) (sym here) buried_mid in
+    let met = gone_was_met client symbol before all got.place target.version refused (subst (λ h. ∥ IsLawful h ∥₁) whole lawful_new) no_own low live buried (subst (λ h. MetCommit h symbol refused) whole m) in
+    subst (λ h. MetAt client symbol (length before) h refused) (sym whole) met

@@ -9,6 +9,7 @@ use Rattle.segment_cut.specs.Tiles.{cut, cut_row}
 use Rattle.index_tree.specs.declared.index.Slot.{Slot}
 use Rattle.index_tree.specs.IndexRules.{LeadOn}
 use Rattle.frame_write.specs.Pieces.{begin_of, end_of, IsRun}
+use Rattle.append_update.specs.Blocks.{from_place}
 use Rattle.append_update.proofs.SlotLemmas.{lead-reaches}
 
 take_less : (n m : ℕ) (rows : List Row) → n ≤ m → take n (take m rows) ≡ take n rows
@@ -33,10 +34,6 @@ slice_slice rows begin end first n low high =
     ∙ (take_less n m (drop k (drop begin rows)) (omega (arith, high))
     ∙ (ap (take n) (drop-drop k begin rows ∙ ap (λ i. drop i rows) place)
     ∙ ap (λ i. take i (drop first rows)) (sym size')))))
-
--- the part, with its rows counted from a place on
-abbrev pub from_place : ℕ → Part → Part
-from_place begin part = record part { first_row = part.first_row - begin }
 
 -- what the part has of the rows from a place on is what it has of the whole
 pub cut_slice : (f : Frame) (part : Part) (begin end : ℕ) → begin ≤ part.first_row → part.first_row + part.rows ≤ end → cut (slice f begin end) (from_place begin part) ≡ cut f part

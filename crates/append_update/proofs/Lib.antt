@@ -19,3 +19,10 @@ pub mod CoverLemmas
 pub mod BlockLemmas
 pub mod GotLemmas
 pub mod RunTiles
+pub mod BlockFrames
+pub mod SizeLemmas
+pub mod AskedLemmas
+pub mod TryLemmas
+pub mod PlanLemmas
+pub mod LoopLemmas
+pub mod ReplyLemmas

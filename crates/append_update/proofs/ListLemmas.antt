@@ -15,7 +15,7 @@ falls_later p x [] falls = tt
 falls_later p x (y ∷ more) falls = falls.1
 
 -- behind an element that fails none passes
-none_behind : {X : Type 0} (p : X → Bool) (x : X) (xs : List X) → FallsOff p (x ∷ xs) → p x ≡ false → AllByRecursion (λ y. p y ≡ false) xs
+pub none_behind : {X : Type 0} (p : X → Bool) (x : X) (xs : List X) → FallsOff p (x ∷ xs) → p x ≡ false → AllByRecursion (λ y. p y ≡ false) xs
 none_behind p x [] falls fails = tt
 none_behind p x (y ∷ more) falls fails =
     let here : p y ≡ false = fails_too (p y) refl in
@@ -25,7 +25,7 @@ none_behind p x (y ∷ more) falls fails =
     fails_too true e = absurd (true≢false (sym (falls.0 e) ∙ fails))
     fails_too false e = e
 
-filter_none : {X : Type 0} (p : X → Bool) (xs : List X) → AllByRecursion (λ y. p y ≡ false) xs → filter p xs ≡ []
+pub filter_none : {X : Type 0} (p : X → Bool) (xs : List X) → AllByRecursion (λ y. p y ≡ false) xs → filter p xs ≡ []
 filter_none p [] none = refl
 filter_none p (x ∷ xs) none = rw none.0 (filter_none p xs none.1)
 

@@ -57,13 +57,13 @@ module _ (base : Frame) (index : Index) (of_base : IsIndexOf base index) (range 
   rises : NeverFall (stamps_of base.rows)
   rises = of_base.storable.is_frame.ascending
 
-  cover : Cover (length base.rows) columns slots
+  pub cover : Cover (length base.rows) columns slots
   cover = subst (λ n. Cover n columns slots) of_base.rows of_base.rules.cover
 
   is_run : IsRun columns slots
   is_run = cover_is_run (length base.rows) columns slots cover
 
-  all_rows : rows_of_slots base slots ≡ base.rows
+  pub all_rows : rows_of_slots base slots ≡ base.rows
   all_rows = rows_of_all base columns slots of_base.rules.each cover
 
   -- ---- the four tests
@@ -115,10 +115,10 @@ module _ (base : Frame) (index : Index) (of_base : IsIndexOf base index) (range 
   ends_then_begins_by : AllByRecursion (λ s. ends_by s ≡ true → begins_by s ≡ true) slots
   ends_then_begins_by = map_all (IsSlot columns) _ (λ s is e. flip (is_above range s.first) (is_above range s.last) (above_behind range s.first s.last is.ordered) e) slots of_base.rules.each
 
-  below_few : passing ends_below slots ≤ passing begins_below slots
+  pub below_few : passing ends_below slots ≤ passing begins_below slots
   below_few = passing-le ends_below begins_below slots ends_then_begins
 
-  above_few : passing ends_by slots ≤ passing begins_by slots
+  pub above_few : passing ends_by slots ≤ passing begins_by slots
   above_few = passing-le ends_by begins_by slots ends_then_begins_by
 
   -- ---- the rows below the range, and those above it
@@ -159,6 +159,9 @@ module _ (base : Frame) (index : Index) (of_base : IsIndexOf base index) (range 
   pub run_above : IsRun columns (drop (passing begins_by slots) slots)
   run_above = run-drop columns begins_by begins_by_of_blocks slots is_run falls-begins_by
 
+  pub run_reached : IsRun columns (take (passing begins_by slots) slots)
+  run_reached = run-take columns begins_by begins_by_of_blocks slots is_run falls-begins_by
+
   -- of the row blocks that are cut
   pub run_cut_below : IsRun columns (slice_range slots (passing ends_below slots) (passing begins_below slots))
   run_cut_below = run-between columns ends_below begins_below ends_of_blocks begins_of_blocks slots ends_then_begins is_run falls-ends falls-begins
@@ -174,13 +177,13 @@ module _ (base : Frame) (index : Index) (of_base : IsIndexOf base index) (range 
     left_rows rows None is = sym is
     left_rows rows (Some f) is = append-nil f.rows ∙ ap (λ (g : Frame). g.rows) is
 
-    below_rows : rows_below range base.rows ≡ rows_of_slots base (take cuts.below slots) ++ rows_below range (rows_of_slots base (slice_range slots cuts.below cuts.begun))
+    pub below_rows : rows_below range base.rows ≡ rows_of_slots base (take cuts.below slots) ++ rows_below range (rows_of_slots base (slice_range slots cuts.below cuts.begun))
     below_rows =
         rows_below-base
         ∙ (ap (λ k. rows_of_slots base (take k slots) ++ rows_below range (rows_of_slots base (slice_range slots k (passing begins_below slots)))) (sym divides.below)
         ∙ ap (λ n. rows_of_slots base (take cuts.below slots) ++ rows_below range (rows_of_slots base (slice_range slots cuts.below n))) (sym divides.begun))
 
-    above_rows : rows_above range base.rows ≡ rows_above range (rows_of_slots base (slice_range slots cuts.ended cuts.reached)) ++ rows_of_slots base (drop cuts.reached slots)
+    pub above_rows : rows_above range base.rows ≡ rows_above range (rows_of_slots base (slice_range slots cuts.ended cuts.reached)) ++ rows_of_slots base (drop cuts.reached slots)
     above_rows =
         rows_above-base
         ∙ (ap (λ k. rows_above range (rows_of_slots base (slice_range slots k (passing begins_by slots))) ++ rows_of_slots base (drop (passing begins_by slots) slots)) (sym divides.ended)

@@ -89,7 +89,7 @@ both_pass : {X : Type 0} (p q : X → Bool) (xs : List X) → AllByRecursion (λ
 both_pass p q [] each all = tt
 both_pass p q (x ∷ xs) each all = (each.0 all.0, both_pass p q xs each.1 all.1)
 
-length_taken : {X : Type 0} (n : ℕ) (xs : List X) → n ≤ length xs → length (take n xs) ≡ n
+pub length_taken : {X : Type 0} (n : ℕ) (xs : List X) → n ≤ length xs → length (take n xs) ≡ n
 length_taken zero xs le = refl
 length_taken (suc n) [] le = absurd (omega (arith, le))
 length_taken (suc n) (x ∷ xs) le = ap suc (length_taken n xs (omega (arith, le)))

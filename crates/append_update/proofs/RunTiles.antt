@@ -20,12 +20,9 @@ use Rattle.frame_read.specs.Wholes.{HoldsPart, AreTilesOf}
 use Rattle.frame_write.specs.Pieces.{begin_of, end_of, IsRun}
 use Rattle.append_update.specs.Newest.{IsNewest}
 use Rattle.append_update.proofs.CoverLemmas.{row_in, cell_in, run_has_row, run_has_cell}
-use Rattle.append_update.proofs.BlockLemmas.{from_place, LiesBetween, cut_slice, run_lies}
+use Rattle.append_update.specs.Blocks.{from_place, moved_tile}
+use Rattle.append_update.proofs.BlockLemmas.{LiesBetween, cut_slice, run_lies}
 use Rattle.append_update.proofs.GotLemmas.{got_holds}
-
--- a tile with its rows counted from a place on
-abbrev pub moved_tile : ℕ → FetchedTile → FetchedTile
-moved_tile begin t = record t { part = from_place begin t.part }
 
 -- ---- what a part has is counted from the place on
 

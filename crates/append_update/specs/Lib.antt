@@ -4,3 +4,6 @@ pub mod Replies
 pub mod Newest
 pub mod Looking
 pub mod Attempts
+pub mod Asking
+pub mod Sizes
+pub mod Blocks

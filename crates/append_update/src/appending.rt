@@ -6,8 +6,10 @@ ghost use Rattle.bucket_core.specs.Calls.{IsSteady};
 ghost use Rattle.version_chain.specs.Traces.{GoesOn};
 ghost use Rattle.append_update.specs.Replies.{IsLegalAppend};
 
+use crate::attempt::try_all;
+use crate::wish::Wish;
 use bucket_core::Bucket;
-use frame_core::{Frame, Refusal, Refused};
+use frame_core::{Frame, Refused};
 use frame_write::{Committed, Options};
 use key_kind::Symbol;
 use std::alloc::Global;
@@ -35,8 +37,5 @@ pub fn append<R: Wait, B: Bucket<StoreLaw>>(
     ensures grown { GoesOn (B.number bucket.old) (B.sole bucket.old) (B.seen bucket.old) (B.seen bucket.new) }
     ensures legal { IsLegalAppend (B.limit bucket.old) (B.number bucket.old) symbol.now frame.now options.now (B.faults bucket.old) (B.faults bucket.new) (B.seen bucket.old) (B.seen bucket.new) result }
 {
-    Err(Refused {
-        place: bucket.place(),
-        why: Refusal::NoMemory,
-    })
+    try_all(rt, alloc, bucket, symbol, Wish::Append(frame), options)
 }

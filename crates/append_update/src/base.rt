@@ -5,6 +5,7 @@ ghost use Rattle.std.specs.List.{list_any};
 ghost use Rattle.bucket_core.specs.History.{history_at};
 ghost use Rattle.bucket_core.specs.Laws.{Looks};
 ghost use Rattle.bucket_core.specs.Calls.{IsSteady};
+ghost use Rattle.store_model.specs.Library.{state_of, is_buried};
 ghost use Rattle.store_model.specs.Law.{IsClaimed};
 ghost use Rattle.version_chain.specs.States.{IsStateAt};
 ghost use Rattle.frame_read.specs.Fetches.{IsTargetIndex};
@@ -49,6 +50,8 @@ pub(crate) fn base_of<R: Wait, B: Bucket<StoreLaw>>(
     ensures base { IfOk result (IsBase (history_at (B.seen bucket.old) state.now.place) symbol.now) }
     ensures target { IfOk result (λ base. IfSome base (λ it. IsTargetIndex (B.seen bucket.new) it.target it.index)) }
     ensures symbol { IfOk result (λ base. IfSome base (λ it. it.target.symbol ≡ symbol.now)) }
+    ensures place { IfOk result (λ base. IfSome base (λ it. it.target.place ≡ state.now.place)) }
+    ensures live { IfOk result (λ base. IfSome base (λ it. is_buried (state_of (history_at (B.seen bucket.old) state.now.place) symbol.now) it.target.version ≡ false)) }
     ensures refused { IfErr result (RefusesBase (B.number bucket.old) symbol.now state.now.place (B.faults bucket.old) (B.faults bucket.new) (B.seen bucket.old) (B.seen bucket.new)) }
 {
     let Some(row) = state.newest() else {
@@ -79,7 +82,7 @@ fn target_of(alloc: Global, symbol: &Symbol, row: &LinkRow, place: u64) -> Resul
 }
 
 /// The refusal of a try that was met: Moved, with the place of the symbol's newest commit. It may wait for the store.
-fn met_commit<R: Wait, B: Bucket<StoreLaw>>(
+pub(crate) fn met_commit<R: Wait, B: Bucket<StoreLaw>>(
     rt: &R,
     alloc: Global,
     bucket: &mut B,

@@ -1,13 +1,39 @@
 //! Whether a frame may go on from a base, told by the base's index.
 
-ghost use Rattle.std.specs.Prelude.{◌≡◌, ◌-◌, length, option_map, slice_get};
+ghost use Rattle.std.specs.Prelude.{◌≡◌, ◌≤◌, ◌-◌, ℤ, Bool, Some, Err, length, option_map, slice_get, IfOk, IfErr};
 ghost use Rattle.frame_core.specs.Schemas.{same_column, differs_from, schemas_differ};
-ghost use Rattle.frame_core.specs.Limits.{too_large};
+ghost use Rattle.frame_core.specs.Frames.{Frame as Table};
+ghost use Rattle.frame_core.specs.Limits.{too_large, IsStorable};
+ghost use Rattle.store_model.specs.Library.{State, Version, base_of};
 ghost use Rattle.reply_model.specs.Answering.{append_before};
+ghost use Rattle.reply_model.specs.CommitAnswers.{append_answer};
 ghost use Rattle.index_tree.specs.declared.index.Slot.{Slot as Place};
+ghost use Rattle.append_update.specs.Bases.{IsIndexOf};
+ghost use Rattle.append_update.specs.Sizes.{FitsBehind};
 
-use frame_core::{ColName, ColType, Extent, Schema};
+use frame_core::{ColName, ColType, Extent, Frame, Refusal, Schema};
 use index_tree::Index;
+
+/// Whether a frame may be appended to the base of this index, but for the bytes of all texts.
+pub(crate) fn judge_append(index: &Index, frame: &Frame) -> Result<(), Refusal>
+    requires storable { IsStorable frame.now }
+    requires rows { index.now.rows ≤ 2000000 }
+    ensures judged { IfOk result (λ done. (base : Table) → IsIndexOf base index.now → FitsBehind base frame.now) }
+    ensures refused { IfErr result (λ why. (v : Version) (st : State) (prune : Bool) (at : ℤ) → IsIndexOf v.frame index.now → base_of st ≡ Some v → append_answer st prune at frame.now ≡ Err why) }
+{
+    if let Some(column) = first_difference(&index.schema, frame.schema()) {
+        return Err(Refusal::SchemaDiffers { column });
+    }
+    if let Some((last, first)) = begins_before(last_stamp_of(index), frame.first_stamp()) {
+        return Err(Refusal::AppendBefore { last, first });
+    }
+    let rows = index.rows + frame.rows();
+    let columns = frame.schema().len() as u64;
+    if let Some((what, limit)) = exceeded(rows, columns, 0) {
+        return Err(Refusal::TooLarge { what, limit });
+    }
+    Ok(())
+}
 
 /// The least column, counted from 1, at which the columns of two schemas differ, or where one has a column more.
 pub(crate) fn first_difference(first: &Schema, other: &Schema) -> Option<u64>

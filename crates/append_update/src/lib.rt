@@ -2,12 +2,18 @@
 #![tactic(auto)]
 
 mod appending;
+mod asking;
+mod attempt;
 mod base;
+mod blocks;
 mod cuts;
+mod edges;
 mod judging;
 mod pieces;
 mod planning;
+mod sizes;
 mod updating;
+mod wish;
 
 pub use appending::append;
 pub use base_types::NoMemory;
