@@ -1,11 +1,12 @@
 -- The frame that is read from the tiles of a run of the base's slots.
-use Rattle.std.proofs.Common.{◌≡◌, ℕ, zero, suc, ◌+◌, ◌-◌, ◌<◌, ◌≤◌, List, [], ◌∷◌, ◌++◌, length, take, drop, refl, sym, ap, ◌∙◌, subst, arith, None, Some, Ok, option_copied}
-use Rattle.std.specs.Prelude.{Contains, slice_range, slice_get, filter_map}
+use Rattle.std.proofs.Common.{◌≡◌, ℕ, zero, suc, ◌+◌, ◌-◌, ◌<◌, ◌≤◌, List, [], ◌∷◌, ◌++◌, length, take, drop, refl, sym, ap, ◌∙◌, subst, map, arith, Option, None, Some, Result, Ok, Err}
+use Rattle.std.specs.Prelude.{Contains, slice_range, slice_get, IfOk}
 use Rattle.std.specs.List.{AllByRecursion, AllZip, range_with_len}
 use Rattle.std.proofs.lemmas.List.{append_assoc}
+use Rattle.frame_core.specs.Ranges.{Range}
+use Rattle.frame_core.specs.Texts.{Text}
 use Rattle.frame_core.specs.Schemas.{Schema}
 use Rattle.frame_core.specs.Frames.{Row, Frame, IsFrame, rows_within, slice}
-use Rattle.frame_core.specs.Limits.{IsStorable}
 use Rattle.frame_core.specs.Selecting.{at_places}
 use Rattle.frame_core.proofs.Rows.{drop_at_place}
 use Rattle.index_tree.specs.declared.index.Slot.{Slot}
@@ -15,13 +16,14 @@ use Rattle.bucket_core.specs.History.{History}
 use Rattle.store_model.specs.Law.{IsLawful}
 use Rattle.reply_model.specs.ReadAnswers.{ask}
 use Rattle.frame_read.specs.declared.tiles.FetchedTile.{FetchedTile}
+use Rattle.frame_read.specs.declared.tiles.Tiles.{Tiles}
 use Rattle.frame_read.specs.TileSets.{IsGot}
 use Rattle.frame_read.specs.Wholes.{AreTilesOf}
 use Rattle.frame_read.specs.Gathers.{AreOfFrame}
 use Rattle.frame_write.specs.Pieces.{begin_of, end_of, IsRun}
 use Rattle.append_update.specs.declared.base.Base.{Base}
 use Rattle.append_update.specs.Bases.{rows_of_slots}
-use Rattle.append_update.specs.Blocks.{whole, tiles_from}
+use Rattle.append_update.specs.Blocks.{whole, moved_tile, tiles_from}
 use Rattle.append_update.specs.Newest.{IsBaseAt}
 use Rattle.append_update.proofs.ListLemmas.{take_all_of, drop_all_of}
 use Rattle.append_update.proofs.SlotLemmas.{rows_of_run}
@@ -58,6 +60,33 @@ at_range (suc n) from xs le =
 pub range_below : (n from most : ℕ) → from + n ≤ most → AllByRecursion (λ (place : ℕ). place < most) (range_with_len from n)
 range_below zero from most le = tt
 range_below (suc n) from most le = (omega (arith, le), range_below n (from + 1) most (omega (arith, le)))
+
+range_more : (n from : ℕ) → range_with_len from n ++ (from + n) ∷ [] ≡ range_with_len from (suc n)
+range_more zero from = let same : from + 0 ≡ from = omega arith in ap (λ k. k ∷ []) same
+range_more (suc n) from =
+    let same : from + suc n ≡ from + 1 + n = omega arith in
+    ap (λ k. from ∷ range_with_len (from + 1) n ++ k ∷ []) same ∙ ap (λ l. from ∷ l) (range_more n (from + 1))
+
+-- one place more
+pub places_more : (from place : ℕ) → from ≤ place → range_with_len from (place - from) ++ place ∷ [] ≡ range_with_len from (place + 1 - from)
+places_more from place le =
+    let here : from + (place - from) ≡ place = omega (arith, le) in
+    let step : suc (place - from) ≡ place + 1 - from = omega (arith, le) in
+    ap (λ k. range_with_len from (place - from) ++ k ∷ []) (sym here) ∙ (range_more (place - from) from ∙ ap (range_with_len from) step)
+
+-- ---- tiles in memory
+
+pub tiles_are_from : (schema s : Schema) (range : Range) (begin b : ℕ) (tiles moved : List FetchedTile) → s ≡ schema → range ≡ whole → moved ≡ map (moved_tile b) tiles → b ≡ begin
+    → record { schema = s; range = range; tiles = moved } ≡ tiles_from schema begin tiles
+tiles_are_from schema s range begin b tiles moved a r m e = rw (a, r, m, e) refl
+
+-- what they are read as
+pub read_as : {E : Type 0} (r : Result Frame E) (self : Tiles) (schema : Schema) (begin : ℕ) (tiles : List FetchedTile) → self ≡ tiles_from schema begin tiles
+    → IfOk r (λ made. (f : Frame) (columns : Option (List Text)) → IsFrame f → AreTilesOf f self.range columns self → ask f self.range columns ≡ Ok made)
+    → IfOk r (λ made. (f : Frame) → IsFrame f → AreTilesOf f whole None (tiles_from schema begin tiles) → f ≡ made)
+read_as (Ok made) self schema begin tiles same read = λ f is of.
+    ask_whole f made (subst (λ (t : Tiles). ask f t.range None ≡ Ok made) same (read f None is (subst (λ (t : Tiles). AreTilesOf f t.range None t) (sym same) of)))
+read_as (Err e) self schema begin tiles same read = tt
 
 -- ---- a run of the base
 

@@ -26,3 +26,4 @@ pub mod TryLemmas
 pub mod PlanLemmas
 pub mod LoopLemmas
 pub mod ReplyLemmas
+pub mod CountLemmas

@@ -50,5 +50,5 @@ pub append_is_legal : (client : ℕ) (sole : Bool) (symbol : Name) (frame : _) (
 append_is_legal client sole symbol frame wish options limit before now old new result is d = λ s n asked b.
     wish_is_legal s (commands.Append symbol n asked options.prune) sole symbol wish options client options.tries limit before now old new result of_append
     (λ listed l p. with_brought s n frame.now asked options.at (λ at f. append_answer (l.state symbol) options.prune at f) b.frame_is b.stamp_is
-        ∙ ap (λ w. Some (answered (answer_to w options.prune options.at (l.state symbol)))) (sym is))
+    ∙ ap (λ w. Some (answered (answer_to w options.prune options.at (l.state symbol)))) (sym is))
     b.client_is b.tries_are d

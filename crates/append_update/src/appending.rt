@@ -37,5 +37,5 @@ pub fn append<R: Wait, B: Bucket<StoreLaw>>(
     ensures grown { GoesOn (B.number bucket.old) (B.sole bucket.old) (B.seen bucket.old) (B.seen bucket.new) }
     ensures legal { IsLegalAppend (B.limit bucket.old) (B.number bucket.old) symbol.now frame.now options.now (B.faults bucket.old) (B.faults bucket.new) (B.seen bucket.old) (B.seen bucket.new) result }
 {
-    try_all(rt, alloc, bucket, symbol, Wish::Append(frame), options)
+    try_all(rt, alloc, bucket, symbol, &Wish::Append(frame), options)
 }

@@ -45,15 +45,15 @@ pub(crate) fn plan_on<R: Wait, B: Bucket<StoreLaw>>(
     bucket: &mut B,
     symbol: &Symbol,
     state: &SymbolState,
-    wish: Wish,
+    wish: &Wish<'_>,
     options: &Options,
 ) -> Result<LinkPlan, Refused>
     requires walked { (at : IsStateAt (B.seen bucket.old) symbol.now state.now) × (list_any (own_refers (B.number bucket.old) symbol.now) at.later ≡ false) }
-    requires wish { IsWish wish.entry }
+    requires wish { IsWish wish.now }
     ensures looks { Looks IsClaimed (B.number bucket.old) (B.sole bucket.old) (B.seen bucket.old) (B.seen bucket.new) }
     ensures steady { IsSteady B.number B.limit B.faults B.sole bucket.old bucket.new }
-    ensures plan { IfOk result (IsPlanOf (history_at (B.seen bucket.old) state.now.place) symbol.now options.now (answer_to wish.entry options.now.prune options.now.at)) }
-    ensures refused { IfErr result (RefusesPlan (B.number bucket.old) symbol.now (answer_to wish.entry options.now.prune options.now.at) (history_at (B.seen bucket.old) state.now.place) (B.faults bucket.old) (B.faults bucket.new) (B.seen bucket.old) (B.seen bucket.new)) }
+    ensures plan { IfOk result (IsPlanOf (history_at (B.seen bucket.old) state.now.place) symbol.now options.now (answer_to wish.now options.now.prune options.now.at)) }
+    ensures refused { IfErr result (RefusesPlan (B.number bucket.old) symbol.now (answer_to wish.now options.now.prune options.now.at) (history_at (B.seen bucket.old) state.now.place) (B.faults bucket.old) (B.faults bucket.new) (B.seen bucket.old) (B.seen bucket.new)) }
 {
     match base_of(rt, alloc, bucket, symbol, state)? {
         Some(base) => plan_over(rt, alloc, bucket, symbol, &base, wish, options),
@@ -81,10 +81,10 @@ fn missing(state: &SymbolState) -> Refusal
 }
 
 /// The plan where there is no live version; None where the command wants one.
-fn plan_without(alloc: Global, wish: Wish, at: i64) -> Result<Option<LinkPlan>, NoMemory>
-    ensures { IfOk result (IsAlone wish.entry at) }
+fn plan_without(alloc: Global, wish: &Wish<'_>, at: i64) -> Result<Option<LinkPlan>, NoMemory>
+    ensures { IfOk result (IsAlone wish.now at) }
 {
-    match wish {
+    match *wish {
         Wish::Append(frame) => {
             let change = Change::Appended {
                 frame: frame.copy(alloc)?,
@@ -115,17 +115,17 @@ fn plan_over<R: Wait, B: Bucket<StoreLaw>>(
     bucket: &mut B,
     symbol: &Symbol,
     base: &Base,
-    wish: Wish,
+    wish: &Wish<'_>,
     options: &Options,
 ) -> Result<LinkPlan, Refused>
     requires base { IsBaseAt (B.number bucket.old) (B.seen bucket.old) symbol.now base.now }
-    requires wish { IsWish wish.entry }
+    requires wish { IsWish wish.now }
     ensures looks { Looks IsClaimed (B.number bucket.old) (B.sole bucket.old) (B.seen bucket.old) (B.seen bucket.new) }
     ensures steady { IsSteady B.number B.limit B.faults B.sole bucket.old bucket.new }
-    ensures plan { (b : IsBaseAt (B.number bucket.old) (B.seen bucket.old) symbol.now base.now) → IfOk result (IsPlanOf b.before symbol.now options.now (answer_to wish.entry options.now.prune options.now.at)) }
-    ensures refused { (b : IsBaseAt (B.number bucket.old) (B.seen bucket.old) symbol.now base.now) → IfErr result (RefusesPlan (B.number bucket.old) symbol.now (answer_to wish.entry options.now.prune options.now.at) b.before (B.faults bucket.old) (B.faults bucket.new) (B.seen bucket.old) (B.seen bucket.new)) }
+    ensures plan { (b : IsBaseAt (B.number bucket.old) (B.seen bucket.old) symbol.now base.now) → IfOk result (IsPlanOf b.before symbol.now options.now (answer_to wish.now options.now.prune options.now.at)) }
+    ensures refused { (b : IsBaseAt (B.number bucket.old) (B.seen bucket.old) symbol.now base.now) → IfErr result (RefusesPlan (B.number bucket.old) symbol.now (answer_to wish.now options.now.prune options.now.at) b.before (B.faults bucket.old) (B.faults bucket.new) (B.seen bucket.old) (B.seen bucket.new)) }
 {
-    match wish {
+    match *wish {
         Wish::Append(frame) => append_over(rt, alloc, bucket, symbol, base, frame, options),
         Wish::Replace { .. } => Err(out_of_memory(bucket.place())),
         Wish::Clear(_) => Err(out_of_memory(bucket.place())),

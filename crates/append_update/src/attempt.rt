@@ -22,13 +22,13 @@ pub(crate) fn try_all<R: Wait, B: Bucket<StoreLaw>>(
     alloc: Global,
     bucket: &mut B,
     symbol: &Symbol,
-    wish: Wish,
+    wish: &Wish<'_>,
     options: &Options,
 ) -> Result<Committed, Refused>
-    requires wish { IsWish wish.entry }
+    requires wish { IsWish wish.now }
     requires some_tries { 1 ≤ options.now.tries }
     ensures steady { IsSteady B.number B.limit B.faults B.sole bucket.old bucket.new }
-    ensures did { DidTries (B.number bucket.old) (B.sole bucket.old) symbol.now (IsAnswered symbol.now wish.entry options.now) (Declines symbol.now wish.entry options.now) (Wants symbol.now wish.entry options.now) options.now.tries (B.limit bucket.old) (B.faults bucket.old) (B.faults bucket.new) (B.seen bucket.old) (B.seen bucket.new) result }
+    ensures did { DidTries (B.number bucket.old) (B.sole bucket.old) symbol.now (IsAnswered symbol.now wish.now options.now) (Declines symbol.now wish.now options.now) (Wants symbol.now wish.now options.now) options.now.tries (B.limit bucket.old) (B.faults bucket.old) (B.faults bucket.new) (B.seen bucket.old) (B.seen bucket.new) result }
 {
     let mut met = 0;
     for _ in 0..options.tries {
@@ -53,12 +53,12 @@ fn attempt<R: Wait, B: Bucket<StoreLaw>>(
     alloc: Global,
     bucket: &mut B,
     symbol: &Symbol,
-    wish: Wish,
+    wish: &Wish<'_>,
     options: &Options,
 ) -> Result<Committed, Refused>
-    requires wish { IsWish wish.entry }
+    requires wish { IsWish wish.now }
     ensures steady { IsSteady B.number B.limit B.faults B.sole bucket.old bucket.new }
-    ensures did { DidAttempt (B.number bucket.old) (B.sole bucket.old) symbol.now (IsAnswered symbol.now wish.entry options.now) (Declines symbol.now wish.entry options.now) (Wants symbol.now wish.entry options.now) (B.limit bucket.old) (B.faults bucket.old) (B.faults bucket.new) (B.seen bucket.old) (B.seen bucket.new) result }
+    ensures did { DidAttempt (B.number bucket.old) (B.sole bucket.old) symbol.now (IsAnswered symbol.now wish.now options.now) (Declines symbol.now wish.now options.now) (Wants symbol.now wish.now options.now) (B.limit bucket.old) (B.faults bucket.old) (B.faults bucket.new) (B.seen bucket.old) (B.seen bucket.new) result }
 {
     let state = walk(rt, alloc, bucket, symbol)?;
     let plan = plan_on(rt, alloc, bucket, symbol, &state, wish, options)?;

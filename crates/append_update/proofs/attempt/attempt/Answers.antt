@@ -47,9 +47,9 @@ link_on-requires g c =
 
 pub returns-in_err-state-clause-did : goal.returns-in_err-state-clause-did
 returns-in_err-state-clause-did g c =
-    on_err (Did (g.B.Bucket.number c.args.bucket.now) (g.B.Bucket.sole c.args.bucket.now) c.args.symbol.now c.args.wish c.args.options.now (g.B.Bucket.limit c.args.bucket.now) (g.B.Bucket.faults c.args.bucket.now) (g.B.Bucket.faults c.walk.new.bucket) (g.B.Bucket.seen c.args.bucket.now) (g.B.Bucket.seen c.walk.new.bucket))
+    on_err (Did (g.B.Bucket.number c.args.bucket.now) (g.B.Bucket.sole c.args.bucket.now) c.args.symbol.now c.args.wish.now c.args.options.now (g.B.Bucket.limit c.args.bucket.now) (g.B.Bucket.faults c.args.bucket.now) (g.B.Bucket.faults c.walk.new.bucket) (g.B.Bucket.seen c.args.bucket.now) (g.B.Bucket.seen c.walk.new.bucket))
     c.from_residual.result c.in_err-state.field-0.0 c.from_residual.ensures.0 c.from_residual.ensures.1
-    (look_ends (g.B.Bucket.number c.args.bucket.now) (g.B.Bucket.sole c.args.bucket.now) c.args.symbol.now c.args.wish c.args.options.now (g.B.Bucket.limit c.args.bucket.now) (g.B.Bucket.faults c.args.bucket.now) (g.B.Bucket.faults c.walk.new.bucket) (g.B.Bucket.seen c.args.bucket.now) (g.B.Bucket.seen c.walk.new.bucket)
+    (look_ends (g.B.Bucket.number c.args.bucket.now) (g.B.Bucket.sole c.args.bucket.now) c.args.symbol.now c.args.wish.now c.args.options.now (g.B.Bucket.limit c.args.bucket.now) (g.B.Bucket.faults c.args.bucket.now) (g.B.Bucket.faults c.walk.new.bucket) (g.B.Bucket.seen c.args.bucket.now) (g.B.Bucket.seen c.walk.new.bucket)
     c.in_err-state.field-0.0 c.walk.ensures.looks c.in_err-state.ensures.refused)
 
 pub returns-in_err-plan-clause-did : goal.returns-in_err-plan-clause-did
@@ -58,12 +58,12 @@ returns-in_err-plan-clause-did g c =
     let looks = looks_more IsClaimed (g.B.Bucket.number c.args.bucket.now) (g.B.Bucket.sole c.args.bucket.now) (g.B.Bucket.number c.walk.new.bucket) (g.B.Bucket.sole c.walk.new.bucket)
     (g.B.Bucket.seen c.args.bucket.now) (g.B.Bucket.seen c.walk.new.bucket) (g.B.Bucket.seen c.plan_on.new.bucket) c.walk.ensures.steady.same_number c.walk.ensures.steady.stays_sole c.walk.ensures.looks c.plan_on.ensures.looks in
     let here = walked_here (g.B.Bucket.seen c.walk.new.bucket) c.args.symbol.now c.in_ok-state.state walked in
-    let answer = answer_to c.args.wish c.args.options.now.prune c.args.options.now.at in
+    let answer = answer_to c.args.wish.now c.args.options.now.prune c.args.options.now.at in
     let refuses = subst (λ n. RefusesPlan n c.args.symbol.now answer walked.before (g.B.Bucket.faults c.walk.new.bucket) (g.B.Bucket.faults c.plan_on.new.bucket) (g.B.Bucket.seen c.walk.new.bucket) (g.B.Bucket.seen c.plan_on.new.bucket) c.in_err-plan.field-0.0) c.walk.ensures.steady.same_number
     (subst (λ h. RefusesPlan (g.B.Bucket.number c.walk.new.bucket) c.args.symbol.now answer h (g.B.Bucket.faults c.walk.new.bucket) (g.B.Bucket.faults c.plan_on.new.bucket) (g.B.Bucket.seen c.walk.new.bucket) (g.B.Bucket.seen c.plan_on.new.bucket) c.in_err-plan.field-0.0) here c.in_err-plan.ensures.refused) in
-    on_err (Did (g.B.Bucket.number c.args.bucket.now) (g.B.Bucket.sole c.args.bucket.now) c.args.symbol.now c.args.wish c.args.options.now (g.B.Bucket.limit c.args.bucket.now) (g.B.Bucket.faults c.args.bucket.now) (g.B.Bucket.faults c.plan_on.new.bucket) (g.B.Bucket.seen c.args.bucket.now) (g.B.Bucket.seen c.plan_on.new.bucket))
+    on_err (Did (g.B.Bucket.number c.args.bucket.now) (g.B.Bucket.sole c.args.bucket.now) c.args.symbol.now c.args.wish.now c.args.options.now (g.B.Bucket.limit c.args.bucket.now) (g.B.Bucket.faults c.args.bucket.now) (g.B.Bucket.faults c.plan_on.new.bucket) (g.B.Bucket.seen c.args.bucket.now) (g.B.Bucket.seen c.plan_on.new.bucket))
     c.from_residual-2.result c.in_err-plan.field-0.0 c.from_residual-2.ensures.0 c.from_residual-2.ensures.1
-    (plan_ends (g.B.Bucket.number c.args.bucket.now) (g.B.Bucket.sole c.args.bucket.now) c.args.symbol.now c.args.wish c.args.options.now (g.B.Bucket.limit c.args.bucket.now) (g.B.Bucket.faults c.args.bucket.now) (g.B.Bucket.faults c.plan_on.new.bucket) (g.B.Bucket.seen c.args.bucket.now) (g.B.Bucket.seen c.plan_on.new.bucket)
+    (plan_ends (g.B.Bucket.number c.args.bucket.now) (g.B.Bucket.sole c.args.bucket.now) c.args.symbol.now c.args.wish.now c.args.options.now (g.B.Bucket.limit c.args.bucket.now) (g.B.Bucket.faults c.args.bucket.now) (g.B.Bucket.faults c.plan_on.new.bucket) (g.B.Bucket.seen c.args.bucket.now) (g.B.Bucket.seen c.plan_on.new.bucket)
     c.in_ok-state.state c.in_err-plan.field-0.0 looks (state_later (g.B.Bucket.seen c.walk.new.bucket) (g.B.Bucket.seen c.plan_on.new.bucket) c.plan_on.ensures.looks.others c.args.symbol.now c.in_ok-state.state c.plan_on.ensures.looks.is walked) c.in_ok-state.ensures.place.from
     (plan_wider (g.B.Bucket.number c.args.bucket.now) c.args.symbol.now answer walked.before (g.B.Bucket.faults c.args.bucket.now) (g.B.Bucket.faults c.walk.new.bucket) (g.B.Bucket.faults c.plan_on.new.bucket) c.walk.ensures.looks.others
     (g.B.Bucket.seen c.args.bucket.now) (g.B.Bucket.seen c.walk.new.bucket) (g.B.Bucket.seen c.plan_on.new.bucket) c.in_err-plan.field-0.0 c.walk.ensures.steady.faults_rise c.walk.ensures.looks.is refuses))
@@ -75,8 +75,8 @@ returns-clause-did g c =
     (g.B.Bucket.seen c.args.bucket.now) (g.B.Bucket.seen c.walk.new.bucket) (g.B.Bucket.seen c.plan_on.new.bucket) c.walk.ensures.steady.same_number c.walk.ensures.steady.stays_sole c.walk.ensures.looks c.plan_on.ensures.looks in
     let steady = steady_more g.B.Bucket.number g.B.Bucket.limit g.B.Bucket.faults g.B.Bucket.sole c.args.bucket.now c.walk.new.bucket c.plan_on.new.bucket c.walk.ensures.steady c.plan_on.ensures.steady in
     let mid = g.B.Bucket.seen c.plan_on.new.bucket in
-    let answer = answer_to c.args.wish c.args.options.now.prune c.args.options.now.at in
-    commit_ends (g.B.Bucket.number c.args.bucket.now) (g.B.Bucket.sole c.args.bucket.now) c.args.symbol.now c.args.wish c.args.options.now (g.B.Bucket.limit c.args.bucket.now) (g.B.Bucket.faults c.args.bucket.now) (g.B.Bucket.faults c.link_on.new.bucket) (g.B.Bucket.seen c.args.bucket.now)
+    let answer = answer_to c.args.wish.now c.args.options.now.prune c.args.options.now.at in
+    commit_ends (g.B.Bucket.number c.args.bucket.now) (g.B.Bucket.sole c.args.bucket.now) c.args.symbol.now c.args.wish.now c.args.options.now (g.B.Bucket.limit c.args.bucket.now) (g.B.Bucket.faults c.args.bucket.now) (g.B.Bucket.faults c.link_on.new.bucket) (g.B.Bucket.seen c.args.bucket.now)
     mid (g.B.Bucket.seen c.link_on.new.bucket) (went_looks (g.B.Bucket.number c.args.bucket.now) (g.B.Bucket.sole c.args.bucket.now) (g.B.Bucket.seen c.args.bucket.now) mid looks) c.in_ok-state.state
     (state_later (g.B.Bucket.seen c.walk.new.bucket) mid c.plan_on.ensures.looks.others c.args.symbol.now c.in_ok-state.state c.plan_on.ensures.looks.is walked) c.in_ok-state.ensures.place.from c.in_ok-plan.plan
     (subst (λ h. IsPlanOf h c.args.symbol.now c.args.options.now answer c.in_ok-plan.plan) (walked_here (g.B.Bucket.seen c.walk.new.bucket) c.args.symbol.now c.in_ok-state.state walked) c.in_ok-plan.ensures.plan)
