@@ -14,7 +14,7 @@ use Rattle.frame_core.specs.Limits.{IsStorable, frame_too_large, refuse_large}
 use Rattle.frame_core.proofs.JoinLemmas.{same_columns}
 use Rattle.index_tree.specs.declared.index.Slot.{Slot}
 use Rattle.index_tree.specs.declared.index.Index.{Index}
-use Rattle.index_tree.specs.IndexRules.{Cover}
+use Rattle.index_tree.specs.IndexRules.{IsSlot, Cover}
 use Rattle.key_kind.specs.Names.{Name}
 use Rattle.bucket_core.specs.declared.event.Change.TheVariants as changes
 use Rattle.bucket_core.specs.History.{History}
@@ -82,6 +82,16 @@ all_contained slots = each slots (λ s there. there)
     each [] there = tt
     each (x ∷ xs) there = (there x (contains_first x xs), each xs (λ s in_xs. there s (contains_later s x xs in_xs)))
 
+both_of : {X : Type 0} (P Q : X → Type 0) (xs : List X) → AllByRecursion P xs → AllByRecursion Q xs → AllByRecursion (λ x. P x × Q x) xs
+both_of P Q [] one two = tt
+both_of P Q (x ∷ xs) one two = ((one.0, two.0), both_of P Q xs one.1 two.1)
+
+-- each slot of the base keeps the rules, in a frame of its columns
+pub slots_keep : (frame : Frame) (index : Index) (schema : Schema) → IsIndexOf frame index → frame.schema ≡ schema → AllByRecursion (λ s. Contains index.slots s × IsSlot (length schema.columns) s) index.slots
+slots_keep frame index schema of same =
+    both_of (λ s. Contains index.slots s) (IsSlot (length schema.columns)) index.slots (all_contained index.slots)
+    (subst (λ (s : Schema). AllByRecursion (IsSlot (length s.columns)) index.slots) (of.schema ∙ same) of.rules.each)
+
 -- the newest live version is a base of pieces
 pub has_base : (h : History) (symbol : Name) (v : Version) (index : Index) (schema : Schema) → IsNewest h symbol v index → v.frame.schema ≡ schema → HasBase h symbol schema v.frame.rows index.slots
 has_base h symbol v index schema n same = record {
@@ -111,7 +121,7 @@ appended_pieces h symbol v index frame n f same = record {
   rows = v.frame.rows;
   slots = index.slots;
   base = inr (has_base h symbol v index frame.schema n same);
-  each = ((all_contained index.slots, subst (λ (s : Schema). IsRun (length s.columns) index.slots) same (index_run v.frame index n.index_of)), ((f, refl), tt));
+  each = ((slots_keep v.frame index frame.schema n.index_of same, subst (λ (s : Schema). IsRun (length s.columns) index.slots) same (index_run v.frame index n.index_of)), ((f, refl), tt));
   held = ap (λ rs. rs ++ frame.rows) (sym (all_held v.frame index n.index_of)) ∙ ap (λ rs. slice_range v.frame.rows (begin_of index.slots) (end_of index.slots) ++ rs) (sym (append-nil frame.rows));
 }
 

@@ -3,6 +3,7 @@ use Rattle.std.proofs.Common.{◌≡◌, ℕ, zero, suc, ◌+◌, ◌-◌, ◌<�
 use Rattle.std.specs.Prelude.{Contains, slice_range, slice_get, IfOk}
 use Rattle.std.specs.List.{AllByRecursion, AllZip, range_with_len}
 use Rattle.std.proofs.lemmas.List.{append_assoc}
+use Rattle.frame_core.specs.declared.refusal.Refusal.{Refusal}
 use Rattle.frame_core.specs.Ranges.{Range}
 use Rattle.frame_core.specs.Texts.{Text}
 use Rattle.frame_core.specs.Schemas.{Schema}
@@ -14,7 +15,7 @@ use Rattle.index_tree.specs.IndexRules.{IsSlot}
 use Rattle.key_kind.specs.Names.{Name}
 use Rattle.bucket_core.specs.History.{History}
 use Rattle.store_model.specs.Law.{IsLawful}
-use Rattle.reply_model.specs.ReadAnswers.{ask}
+use Rattle.reply_model.specs.ReadAnswers.{select_columns, ask}
 use Rattle.frame_read.specs.declared.tiles.FetchedTile.{FetchedTile}
 use Rattle.frame_read.specs.declared.tiles.Tiles.{Tiles}
 use Rattle.frame_read.specs.TileSets.{IsGot}
@@ -37,11 +38,14 @@ all_rows : (rows : List Row) → rows_within whole rows ≡ rows
 all_rows [] = refl
 all_rows (r ∷ rows) = ap (λ rs. r ∷ rs) (all_rows rows)
 
+ask_all : (f : Frame) → ask f whole None ≡ Ok f
+ask_all f = ap (λ (rows : List Row). select_columns None (record f { rows = rows })) (all_rows f.rows)
+
+ok_frame : (f made : Frame) → ◌≡◌ {A = Result Frame Refusal} (Ok f) (Ok made) → f ≡ made
+ok_frame f made e = cc
+
 pub ask_whole : (f made : Frame) → ask f whole None ≡ Ok made → f ≡ made
-ask_whole f made e = same (sym (ap (λ (rows : List Row). Ok (record f { rows = rows })) (all_rows f.rows)) ∙ e)
-  where
-    same : Ok f ≡ Ok made → f ≡ made
-    same e = cc
+ask_whole f made e = ok_frame f made (sym (ask_all f) ∙ e)
 
 -- ---- places one behind the other
 

@@ -27,3 +27,4 @@ pub mod PlanLemmas
 pub mod LoopLemmas
 pub mod ReplyLemmas
 pub mod CountLemmas
+pub mod WholeBase

@@ -51,6 +51,10 @@ first_three false false false d e p q r s t x is = absurd cc
 pub large_anyway : (r c o a : ℕ) (x : Extent × ℕ) → too_large r c 0 0 ≡ Some x → too_large r c o a ≡ Some x
 large_anyway r c o a x e = first_three (nat_lt 2000000 r) (nat_lt 4096 c) (nat_lt 8000000 (r * c)) (nat_lt 65535 o) (nat_lt 67108864 a) _ _ _ _ _ x e
 
+-- the limits of equal numbers
+pub same_limits : (r s m n c d : ℕ) (o : Option (Extent × ℕ)) → r ≡ s → m ≡ n → c ≡ d → o ≡ too_large (r + m) c 0 0 → too_large (s + n) d 0 0 ≡ o
+same_limits r s m n c d o rs mn cd is = sym (is ∙ rw (rs, mn, cd) refl)
+
 texts_only : (r c o a : ℕ) → r ≤ 2000000 → c ≤ 4096 → r * c ≤ 8000000 → o ≤ 65535 → 67108864 < a → too_large r c o a ≡ Some (extents.TextBytes, 67108864)
 texts_only r c o a rs cs cells one all = grind arith
 
@@ -146,3 +150,4 @@ base_found client old new others symbol state base at none is by_others found ta
       symbol_is = symbol_is;
       live = subst (λ h. is_buried (state_of h symbol) base.target.version ≡ false) here live;
     }
+

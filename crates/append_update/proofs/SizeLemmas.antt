@@ -111,8 +111,10 @@ module _ (range : Range) (rows : List Row) (rising : NeverFall (stamps_of rows))
   -- those below are the first ones
   pub below_first : rows_below range rows ≡ slice_range rows 0 (count_by (λ (r : Row). is_below range r.stamp) rows)
   below_first =
+      let n : ℕ = count_by (λ (r : Row). is_below range r.stamp) rows in
+      let same : n ≡ n - 0 = omega arith in
       keep_front (λ (r : Row). is_below range r.stamp) rows (falls_by_stamp (is_below range) (below_before range) rows rising)
-      ∙ ap (λ n. take n rows) (length-filter (λ (r : Row). is_below range r.stamp) rows)
+      ∙ (ap (λ k. take k rows) (length-filter (λ (r : Row). is_below range r.stamp) rows) ∙ ap (λ k. take k rows) same)
 
   -- and those above are the last
   pub above_last : rows_above range rows ≡ slice_range rows (count_by (λ (r : Row). not (is_above range r.stamp)) rows) (length rows)

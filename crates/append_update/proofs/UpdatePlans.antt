@@ -21,7 +21,7 @@ use Rattle.append_update.specs.Replacing.{fresh, replaced, IsLeft, AreEdges}
 use Rattle.append_update.proofs.ListLemmas.{passing, take_all_of, drop_all_of}
 use Rattle.append_update.proofs.FrameLemmas.{storable-kept, all-both}
 use Rattle.append_update.proofs.ReplaceLemmas.{run_cut_below, run_cut_above, rows_run, first_run, last_run, replaced_rows}
-use Rattle.append_update.proofs.AppendLemmas.{all_contained, has_base}
+use Rattle.append_update.proofs.AppendLemmas.{slots_keep, has_base}
 use Rattle.append_update.proofs.UpdateLemmas.{storable-slice}
 
 module _ (base : Frame) (index : Index) (of : IsIndexOf base index) (range : Range) (cuts : Cuts) (divides : Divides range index.slots cuts) where
@@ -64,11 +64,11 @@ replaced_pieces h symbol v index range cuts edges frame n divides are f same =
       slots = index.slots;
       base = inr (has_base h symbol v index frame.schema n same);
       each = (
-        (take_all_of (λ s. Contains index.slots s) cuts.below index.slots (all_contained index.slots), subst (λ c. IsRun c (take cuts.below index.slots)) columns_is (first_run v.frame index of range cuts divides edges are frame)),
+        (take_all_of (λ s. Contains index.slots s × IsSlot (length frame.schema.columns) s) cuts.below index.slots (slots_keep v.frame index frame.schema of same), subst (λ c. IsRun c (take cuts.below index.slots)) columns_is (first_run v.frame index of range cuts divides edges are frame)),
         all-both (IsPiece frame.schema index.slots) (fresh edges.below) _ (left_piece v.frame index of range cuts divides frame.schema same _ edges.below low are.below) (
           (f, refl),
           all-both (IsPiece frame.schema index.slots) (fresh edges.above) _ (left_piece v.frame index of range cuts divides frame.schema same _ edges.above high are.above) (
-            (drop_all_of (λ s. Contains index.slots s) cuts.reached index.slots (all_contained index.slots), subst (λ c. IsRun c (drop cuts.reached index.slots)) columns_is (last_run v.frame index of range cuts divides edges are frame)),
+            (drop_all_of (λ s. Contains index.slots s × IsSlot (length frame.schema.columns) s) cuts.reached index.slots (slots_keep v.frame index frame.schema of same), subst (λ c. IsRun c (drop cuts.reached index.slots)) columns_is (last_run v.frame index of range cuts divides edges are frame)),
             tt,
           ),
         ),

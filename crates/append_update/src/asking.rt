@@ -55,7 +55,8 @@ pub(crate) fn plan_on<R: Wait, B: Bucket<StoreLaw>>(
     ensures plan { IfOk result (IsPlanOf (history_at (B.seen bucket.old) state.now.place) symbol.now options.now (answer_to wish.now options.now.prune options.now.at)) }
     ensures refused { IfErr result (RefusesPlan (B.number bucket.old) symbol.now (answer_to wish.now options.now.prune options.now.at) (history_at (B.seen bucket.old) state.now.place) (B.faults bucket.old) (B.faults bucket.new) (B.seen bucket.old) (B.seen bucket.new)) }
 {
-    match base_of(rt, alloc, bucket, symbol, state)? {
+    let base = base_of(rt, alloc, bucket, symbol, state)?;
+    match base {
         Some(base) => plan_over(rt, alloc, bucket, symbol, &base, wish, options),
         None => match plan_without(alloc, wish, options.at) {
             Ok(Some(plan)) => Ok(plan),
@@ -150,10 +151,12 @@ fn append_over<R: Wait, B: Bucket<StoreLaw>>(
     ensures refused { (b : IsBaseAt (B.number bucket.old) (B.seen bucket.old) symbol.now base.now) → IfErr result (RefusesPlan (B.number bucket.old) symbol.now (λ st. append_answer st options.now.prune options.now.at frame.now) b.before (B.faults bucket.old) (B.faults bucket.new) (B.seen bucket.old) (B.seen bucket.new)) }
 {
     let place = base.target.place;
-    if let Err(why) = judge_append(&base.index, frame) {
-        return Err(Refused { place, why });
+    match judge_append(&base.index, frame) {
+        Ok(()) => {}
+        Err(why) => return Err(Refused { place, why }),
     }
-    if exceeds_texts(rt, alloc, bucket, symbol, base, frame, None)? {
+    let exceeds = exceeds_texts(rt, alloc, bucket, symbol, base, frame, None)?;
+    if exceeds {
         return Err(Refused {
             place,
             why: too_many_texts(),

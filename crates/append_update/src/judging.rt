@@ -24,8 +24,11 @@ pub(crate) fn judge_append(index: &Index, frame: &Frame) -> Result<(), Refusal>
     if let Some(column) = first_difference(&index.schema, frame.schema()) {
         return Err(Refusal::SchemaDiffers { column });
     }
-    if let Some((last, first)) = begins_before(last_stamp_of(index), frame.first_stamp()) {
-        return Err(Refusal::AppendBefore { last, first });
+    if let Some(ends) = begins_before(last_stamp_of(index), frame.first_stamp()) {
+        return Err(Refusal::AppendBefore {
+            last: ends.0,
+            first: ends.1,
+        });
     }
     let rows = index.rows + frame.rows();
     let columns = frame.schema().len() as u64;
