@@ -7,8 +7,8 @@ use Rattle.frame_core.specs.declared.refusal.Extent.{Extent}
 use Rattle.frame_core.specs.declared.refusal.Extent.TheVariants as extents
 use Rattle.frame_core.specs.declared.refusal.Refusal.{Refusal}
 use Rattle.frame_core.specs.declared.refusal.Refused.{Refused}
-use Rattle.frame_core.specs.Schemas.{Schema}
-use Rattle.frame_core.specs.Frames.{Row, Frame}
+use Rattle.frame_core.specs.Ranges.{Range, IsRange}
+use Rattle.frame_core.specs.Frames.{Row, Frame, replace_range}
 use Rattle.frame_core.specs.Limits.{IsStorable, too_large, frame_too_large, refuse_large}
 use Rattle.key_kind.specs.Names.{Name}
 use Rattle.bucket_core.specs.declared.event.Change.{Change}
@@ -19,8 +19,9 @@ use Rattle.version_chain.specs.declared.state.SymbolState.{SymbolState}
 use Rattle.version_chain.specs.States.{IsStateAt, IsStateOf}
 use Rattle.version_chain.specs.Marking.{own_refers}
 use Rattle.reply_model.specs.Answering.{Answer, committed}
-use Rattle.reply_model.specs.CommitAnswers.{append_answer}
+use Rattle.reply_model.specs.CommitAnswers.{append_answer, update_answer, update_range, outside}
 use Rattle.frame_read.specs.Fetches.{IsTargetIndex}
+use Rattle.frame_read.proofs.ChoosingLemmas.{has_reference_told}
 use Rattle.frame_write.specs.declared.options.Options.{Options}
 use Rattle.frame_write.specs.declared.pieces.LinkPlan.{LinkPlan}
 use Rattle.frame_write.specs.declared.pieces.Piece.TheVariants as pieces
@@ -30,13 +31,14 @@ use Rattle.frame_write.proofs.MeetLemmas.{none_in_both, others_refer_not}
 use Rattle.append_update.specs.declared.base.Base.{Base}
 use Rattle.append_update.specs.declared.wish.Wish.{Wish}
 use Rattle.append_update.specs.declared.wish.Wish.TheVariants as wishes
-use Rattle.append_update.specs.Asking.{answer_to, IsPlanOf}
+use Rattle.append_update.specs.Asking.{answer_to, IsWish, IsPlanOf, IsAlone, why_missing}
 use Rattle.append_update.specs.Bases.{IsIndexOf}
 use Rattle.append_update.specs.Newest.{IsNewest, IsBase, IsBaseAt}
 use Rattle.append_update.specs.Replacing.{appended}
 use Rattle.append_update.specs.Sizes.{FitsBehind, text_total}
 use Rattle.append_update.proofs.FrameLemmas.{longest, longest-append, within_from, within_to, frame_within, bytes-append}
 use Rattle.append_update.proofs.AppendLemmas.{MayAppend, append_plan_fits, append_answers, append_alone, append_large}
+use Rattle.append_update.proofs.UpdateAnswers.{upsert_alone, update_unreferred, update_unlinked}
 use Rattle.append_update.proofs.BaseLemmas.{walked_here}
 
 -- ---- how large
@@ -151,3 +153,54 @@ base_found client old new others symbol state base at none is by_others found ta
       live = subst (λ h. is_buried (state_of h symbol) base.target.version ≡ false) here live;
     }
 
+-- ---- the plan of what is asked where there is no live version
+
+none_some : {X : Type 0} (x : X) → None ≡ Some x → ⊥
+none_some x e = cc
+
+some_same : {X : Type 0} (x y : X) → Some x ≡ Some y → x ≡ y
+some_same x y e = cc
+
+inside_range : (range : Range) (frame : Frame) → outside 1 range frame.rows ≡ None → update_range (Some range) frame ≡ Ok range
+inside_range range frame e = rw e refl
+
+has_reference_is : (h : History) (symbol : Name) (state : SymbolState) → IsStateOf h symbol state → (state_of h symbol).has_reference ≡ is_some state.was
+has_reference_is h symbol state is = has_reference_told h symbol ∙ ap is_some (sym is.was)
+
+module _ (h : History) (symbol : Name) (state : SymbolState) (walked : IsStateOf h symbol state) (options : Options) (none : base_of (state_of h symbol) ≡ None) where
+  -- an update without a live version
+  module _ (frame : Frame) (range : Range) (f : IsStorable frame) (order : IsRange range) (inside : outside 1 range frame.rows ≡ None) where
+    replaced_alone : (plan : LinkPlan) → Some plan ≡ Some (record { schema = frame.schema; pieces = pieces.Fresh frame ∷ []; change = changes.Updated frame range options.at })
+        → IsPlanOf h symbol options (λ st. update_answer st true options.prune options.at (Some range) frame) plan
+    replaced_alone plan is = subst (IsPlanOf h symbol options (λ st. update_answer st true options.prune options.at (Some range) frame)) (sym (some_same plan _ is)) (record {
+      fits = alone_fits h symbol options.at frame (changes.Updated frame range options.at) (ap (λ (o : Option Version). Some (version_of (state_of h symbol) options.at (on_base (λ old new. replace_range range new old) o frame))) none) order f;
+      answered = upsert_alone (state_of h symbol) true options.prune options.at (Some range) frame range (inside_range range frame inside) refl none;
+    })
+
+    missing_alone : update_answer (state_of h symbol) false options.prune options.at (Some range) frame ≡ Err (why_missing (is_some state.was))
+    missing_alone = by (is_some state.was) (has_reference_is h symbol state walked)
+      where
+        by : (b : Bool) → (state_of h symbol).has_reference ≡ b → update_answer (state_of h symbol) false options.prune options.at (Some range) frame ≡ Err (why_missing b)
+        by true e = update_unlinked (state_of h symbol) false options.prune options.at (Some range) frame range (inside_range range frame inside) refl none e
+        by false e = update_unreferred (state_of h symbol) false options.prune options.at (Some range) frame range (inside_range range frame inside) refl none e
+
+  clear_missing : (range : Range) → answer_to (wishes.Clear range) options.prune options.at (state_of h symbol) ≡ Err (why_missing (is_some state.was))
+  clear_missing range = by (is_some state.was) (has_reference_is h symbol state walked)
+    where
+      by : (b : Bool) → (state_of h symbol).has_reference ≡ b → answer_to (wishes.Clear range) options.prune options.at (state_of h symbol) ≡ Err (why_missing b)
+      by true e = rw (e, none) refl
+      by false e = rw e refl
+
+  -- the plan makes what is asked
+  pub alone_plan : (wish : Wish) (plan : LinkPlan) → IsWish wish → IsAlone wish options.at (Some plan) → IsPlanOf h symbol options (answer_to wish options.prune options.at) plan
+  alone_plan (wishes.Append frame) plan f is = subst (IsPlanOf h symbol options (λ st. append_answer st options.prune options.at frame.now)) (sym (some_same plan _ is)) (append_alone_is h symbol options frame.now f none)
+  alone_plan (wishes.Replace frame range true) plan f is = replaced_alone frame.now range f.0 f.1 f.2 plan is
+  alone_plan (wishes.Replace frame range false) plan f is = absurd (none_some plan (sym is))
+  alone_plan (wishes.Clear range) plan f is = absurd (none_some plan (sym is))
+
+  -- where there is none the library refuses
+  pub alone_refused : (wish : Wish) → IsWish wish → IsAlone wish options.at None → answer_to wish options.prune options.at (state_of h symbol) ≡ Err (why_missing (is_some state.was))
+  alone_refused (wishes.Append frame) f is = absurd (none_some _ is)
+  alone_refused (wishes.Replace frame range true) f is = absurd (none_some _ is)
+  alone_refused (wishes.Replace frame range false) f is = missing_alone frame.now range f.0 f.1 f.2
+  alone_refused (wishes.Clear range) f is = clear_missing range

@@ -4,10 +4,11 @@
 --     IsAnswered, Declines, Wants      a commit that makes what is asked; a refusal; a history in which there is a version to make
 --     IsPlanOf            a plan of what is asked
 --     IsAlone, why_missing        the plan where there is no live version; why there is none
-use Rattle.std.specs.Prelude.{◌≡◌, ℤ, Bool, true, false, if◌then◌else◌, [], ◌∷◌, Option, Some, None, Result, Ok, Err, ⊤}
+use Rattle.std.specs.Prelude.{◌≡◌, ℤ, Bool, true, false, if◌then◌else◌, [], ◌∷◌, Option, Some, None, Result, Ok, Err}
 use Rattle.frame_core.specs.declared.refusal.Asked.TheVariants as asks
 use Rattle.frame_core.specs.declared.refusal.Refusal.{Refusal}
 use Rattle.frame_core.specs.declared.refusal.Refusal.TheVariants as refusals
+use Rattle.frame_core.specs.Ranges.{IsRange}
 use Rattle.frame_core.specs.Limits.{IsStorable}
 use Rattle.key_kind.specs.Names.{Name}
 use Rattle.bucket_core.specs.declared.event.Change.{Change}
@@ -30,11 +31,11 @@ answer_to (wishes.Append frame) prune at st = append_answer st prune at frame.no
 answer_to (wishes.Replace frame range upsert) prune at st = update_answer st upsert prune at (Some range) frame.now
 answer_to (wishes.Clear range) prune at st = base_or st then λ v. update_answer st false prune at (Some range) (record v.frame { rows = [] })
 
--- the frame may be written, and its rows lie in the range
+-- the frame may be written, and its rows lie in the range, which is in order
 abbrev pub IsWish : Wish → Type 0
 IsWish (wishes.Append frame) = IsStorable frame.now
-IsWish (wishes.Replace frame range upsert) = IsStorable frame.now × (outside 1 range frame.now.rows ≡ None)
-IsWish (wishes.Clear range) = ⊤
+IsWish (wishes.Replace frame range upsert) = IsStorable frame.now × IsRange range × (outside 1 range frame.now.rows ≡ None)
+IsWish (wishes.Clear range) = IsRange range
 
 -- the commit has one change, and what it buries; the library answers so just before it
 pub record IsAnswered (symbol : Name) (wish : Wish) (options : Options) (m : Made) : Type 0 where

@@ -58,7 +58,7 @@ pub(crate) fn plan_on<R: Wait, B: Bucket<StoreLaw>>(
     let base = base_of(rt, alloc, bucket, symbol, state)?;
     match base {
         Some(base) => plan_over(rt, alloc, bucket, symbol, &base, wish, options),
-        None => match plan_without(alloc, wish, options.at) {
+        None => match plan_without(alloc, wish, stamp_of(options)) {
             Ok(Some(plan)) => Ok(plan),
             Ok(None) => Err(Refused {
                 place: state.place,
@@ -162,10 +162,17 @@ fn append_over<R: Wait, B: Bucket<StoreLaw>>(
             why: too_many_texts(),
         });
     }
-    match plan_append(alloc, &base.index, frame, options.at) {
+    match plan_append(alloc, &base.index, frame, stamp_of(options)) {
         Ok(plan) => Ok(plan),
         Err(_) => Err(out_of_memory(bucket.place())),
     }
+}
+
+/// The stamp of the new version.
+fn stamp_of(options: &Options) -> i64
+    ensures { result ≡ options.now.at }
+{
+    options.at
 }
 
 /// The refusal of too many bytes of text.

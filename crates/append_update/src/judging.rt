@@ -25,10 +25,7 @@ pub(crate) fn judge_append(index: &Index, frame: &Frame) -> Result<(), Refusal>
         return Err(Refusal::SchemaDiffers { column });
     }
     if let Some(ends) = begins_before(last_stamp_of(index), frame.first_stamp()) {
-        return Err(Refusal::AppendBefore {
-            last: ends.0,
-            first: ends.1,
-        });
+        return Err(early(ends));
     }
     let rows = index.rows + frame.rows();
     let columns = frame.schema().len() as u64;
@@ -77,6 +74,16 @@ pub(crate) fn begins_before(last: Option<i64>, first: Option<i64>) -> Option<(i6
     match (last, first) {
         (Some(last), Some(first)) if first < last => Some((last, first)),
         _ => None,
+    }
+}
+
+/// The refusal of a first stamp that lies below the last.
+fn early(ends: (i64, i64)) -> Refusal
+    ensures { result ≡ Refusal.AppendBefore ends.0 ends.1 }
+{
+    Refusal::AppendBefore {
+        last: ends.0,
+        first: ends.1,
     }
 }
 
