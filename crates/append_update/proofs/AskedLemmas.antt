@@ -1,5 +1,6 @@
 -- What a command asks, as the one-thread library answers it.
-use Rattle.std.proofs.Common.{◌≡◌, ℕ, ℤ, Bool, true, false, [], ◌∷◌, ◌++◌, refl, sym, ap, ◌∙◌, subst, inl, Option, Some, None, Result, Ok, Err}
+use Rattle.std.proofs.Common.{◌&&◌, not, ◌≡◌, ℕ, ℤ, Bool, true, false, List, [], ◌∷◌, ◌++◌, refl, sym, ap, ◌∙◌, subst, inl, Option, Some, None, Result, Ok, Err}
+use Rattle.frame_core.specs.declared.refusal.Asked.TheVariants as asks
 use Rattle.frame_core.specs.declared.refusal.Refusal.{Refusal}
 use Rattle.frame_core.specs.declared.refusal.Refusal.TheVariants as refusals
 use Rattle.frame_core.specs.Ranges.{Range}
@@ -32,10 +33,10 @@ IsGood r = (why : Refusal) → r ≡ Err why → is_answer why ≡ true
 good_ok : {A : Type 0} (a : A) → IsGood (Ok a)
 good_ok a why e = absurd cc
 
-good_err : {A : Type 0} (w : Refusal) → is_answer w ≡ true → IsGood {A} (Err w)
+good_err : {A : Type 0} (w : Refusal) → is_answer w ≡ true → IsGood {A = A} (Err w)
 good_err {A} w t why e = subst (λ x. is_answer x ≡ true) (same e) t
   where
-    same : {x y : Refusal} → Err {A = A} x ≡ Err y → x ≡ y
+    same : {x y : Refusal} → ◌≡◌ {A = Result A Refusal} (Err x) (Err y) → x ≡ y
     same e = cc
 
 good_then : {A B : Type 0} (r : Result A Refusal) (f : A → Result B Refusal) → IsGood r → ((a : A) → IsGood (f a)) → IsGood (r then f)
@@ -75,7 +76,9 @@ good_range (Some range) frame = good_unless _ refusals.OutsideRange (Ok range) (
 good_range None frame = good_then _ _ (good_or _ refusals.EmptyUpdate refl) (λ first. good_ok _)
 
 good_may_update : (st : State) (upsert : Bool) (base : Option Version) (frame : Frame) → IsGood (may_update st upsert base frame)
-good_may_update st upsert None frame = good_if _ refusals.NoSuchSymbol _ refl (good_if _ _ _ refl (good_ok frame))
+good_may_update st upsert None frame =
+    good_if (not upsert && not st.has_reference) refusals.NoSuchSymbol (refuse_if (not upsert) (refusals.NoSuchVersion (asks.Back 1)) (Ok frame)) refl
+    (good_if (not upsert) (refusals.NoSuchVersion (asks.Back 1)) (Ok frame) refl (good_ok frame))
 good_may_update st upsert (Some base) frame = good_fits base.frame frame
 
 good_update : (st : State) (upsert prune : Bool) (at : ℤ) (asked : Option Range) (frame : Frame) → IsGood (update_answer st upsert prune at asked frame)
@@ -88,7 +91,7 @@ pub good_answer : (wish : Wish) (prune : Bool) (at : ℤ) (st : State) → IsGoo
 good_answer (wishes.Append frame) prune at st = good_append st prune at frame.now
 good_answer (wishes.Replace frame range upsert) prune at st = good_update st upsert prune at (Some range) frame.now
 good_answer (wishes.Clear range) prune at st =
-    good_then (base_or st) _ (good_if _ refusals.NoSuchSymbol _ refl (good_or (base_of st) _ refl))
+    good_then (base_or st) _ (good_if (not st.has_reference) refusals.NoSuchSymbol (or_refuse (base_of st) (refusals.NoSuchVersion (asks.Back 1))) refl (good_or (base_of st) (refusals.NoSuchVersion (asks.Back 1)) refl))
     (λ v. good_update st false prune at (Some range) (record v.frame { rows = [] }))
 
 -- ---- more staged pieces change no answer

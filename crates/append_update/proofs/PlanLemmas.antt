@@ -135,7 +135,7 @@ append_over_is h symbol options v base frame plan n f may is =
 
 -- ---- the base of a walked state
 
-pub base_found : (client : ℕ) (old new others : History) (symbol : Name) (state : SymbolState) (base : Base) (at : IsStateAt old symbol state) → list_any (own_refers client symbol) at.later ≡ false → new ≡ others ++ old → AllByOthers client others
+abbrev pub base_found : (client : ℕ) (old new others : History) (symbol : Name) (state : SymbolState) (base : Base) (at : IsStateAt old symbol state) → list_any (own_refers client symbol) at.later ≡ false → new ≡ others ++ old → AllByOthers client others
     → (v : Version) × IsNewest (history_at old state.place) symbol v base.index → IsTargetIndex new base.target base.index → base.target.symbol ≡ symbol → base.target.place ≡ state.place
     → is_buried (state_of (history_at old state.place) symbol) base.target.version ≡ false → IsBaseAt client new symbol base
 base_found client old new others symbol state base at none is by_others found target symbol_is place live =

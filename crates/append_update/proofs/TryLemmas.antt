@@ -32,7 +32,7 @@ use Rattle.append_update.proofs.AskedLemmas.{answer_unmoved}
 
 -- ---- a state that was walked, later
 
-pub state_later : (old new others : History) (symbol : Name) (state : SymbolState) → new ≡ others ++ old → IsStateAt old symbol state → IsStateAt new symbol state
+abbrev pub state_later : (old new others : History) (symbol : Name) (state : SymbolState) → new ≡ others ++ old → IsStateAt old symbol state → IsStateAt new symbol state
 state_later old new others symbol state is at = record {
   later = others ++ at.later;
   before = at.before;

@@ -62,7 +62,7 @@ returns-in_err-plan-clause-did g c =
     let refuses = subst (λ n. RefusesPlan n c.args.symbol.now answer walked.before (g.B.Bucket.faults c.walk.new.bucket) (g.B.Bucket.faults c.plan_on.new.bucket) (g.B.Bucket.seen c.walk.new.bucket) (g.B.Bucket.seen c.plan_on.new.bucket) c.in_err-plan.field-0.0) c.walk.ensures.steady.same_number
     (subst (λ h. RefusesPlan (g.B.Bucket.number c.walk.new.bucket) c.args.symbol.now answer h (g.B.Bucket.faults c.walk.new.bucket) (g.B.Bucket.faults c.plan_on.new.bucket) (g.B.Bucket.seen c.walk.new.bucket) (g.B.Bucket.seen c.plan_on.new.bucket) c.in_err-plan.field-0.0) here c.in_err-plan.ensures.refused) in
     on_err (Did (g.B.Bucket.number c.args.bucket.now) (g.B.Bucket.sole c.args.bucket.now) c.args.symbol.now c.args.wish.now c.args.options.now (g.B.Bucket.limit c.args.bucket.now) (g.B.Bucket.faults c.args.bucket.now) (g.B.Bucket.faults c.plan_on.new.bucket) (g.B.Bucket.seen c.args.bucket.now) (g.B.Bucket.seen c.plan_on.new.bucket))
-    c.from_residual-2.result c.in_err-plan.field-0.0 c.from_residual-2.ensures.0 c.from_residual-2.ensures.1
+    c.from_residual-in_err-plan.result c.in_err-plan.field-0.0 c.from_residual-in_err-plan.ensures.0 c.from_residual-in_err-plan.ensures.1
     (plan_ends (g.B.Bucket.number c.args.bucket.now) (g.B.Bucket.sole c.args.bucket.now) c.args.symbol.now c.args.wish.now c.args.options.now (g.B.Bucket.limit c.args.bucket.now) (g.B.Bucket.faults c.args.bucket.now) (g.B.Bucket.faults c.plan_on.new.bucket) (g.B.Bucket.seen c.args.bucket.now) (g.B.Bucket.seen c.plan_on.new.bucket)
     c.in_ok-state.state c.in_err-plan.field-0.0 looks (state_later (g.B.Bucket.seen c.walk.new.bucket) (g.B.Bucket.seen c.plan_on.new.bucket) c.plan_on.ensures.looks.others c.args.symbol.now c.in_ok-state.state c.plan_on.ensures.looks.is walked) c.in_ok-state.ensures.place.from
     (plan_wider (g.B.Bucket.number c.args.bucket.now) c.args.symbol.now answer walked.before (g.B.Bucket.faults c.args.bucket.now) (g.B.Bucket.faults c.walk.new.bucket) (g.B.Bucket.faults c.plan_on.new.bucket) c.walk.ensures.looks.others
