@@ -8,7 +8,8 @@ use Rattle.frame_core.specs.Frames.{Row, Frame}
 use Rattle.frame_core.specs.RawFrames.{unless}
 use Rattle.key_kind.specs.Names.{Name}
 use Rattle.bucket_core.specs.History.{History}
-use Rattle.store_model.specs.Library.{State, Version, Piece, state_of, base_of}
+use Rattle.store_model.specs.Library.{State, Version, Piece, state_of, base_of, next_number}
+use Rattle.reply_model.specs.declared.outcome.Outcome.TheVariants as outcomes
 use Rattle.store_model.specs.Snapshots.{Library, library_of}
 use Rattle.store_model.specs.Commits.{IsFilled}
 use Rattle.expr_clause.specs.declared.command.Command.{Command}
@@ -113,7 +114,7 @@ pub asked_by : (s : Session) (c : Command) (symbol : Name) (wish : Wish) (option
     → IsAskedBy s c symbol (IsAnswered symbol wish options) (Declines symbol wish options) (Wants symbol wish options)
 asked_by s c symbol wish options makes is = record {
   makes = makes;
-  answers = λ m a l p. is l (library_of m.before) p ∙ (ap (λ r. Some (answered r)) a.answered ∙ ap (λ marks. Some (record { outcome = _; marks = marks })) (sym a.list));
+  answers = λ m a l p. is l (library_of m.before) p ∙ (ap (λ r. Some (answered r)) a.answered ∙ ap (λ marks. Some (record { outcome = outcomes.Committed (next_number (state_of m.before symbol)); marks = marks })) (sym a.list));
   filled = λ m a. subst IsFilled (sym a.list) tt;
   refuses = λ h why r. (good_answer wish options.prune options.at (state_of h symbol) why r, λ l p. is l (library_of h) p ∙ ap (λ r. Some (answered r)) r);
   wants = λ h w l p. subst MarksAt (sym (is l (library_of h) p ∙ ap (λ r. Some (answered r)) w.1)) (inl (λ e. absurd cc));
