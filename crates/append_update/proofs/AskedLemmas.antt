@@ -18,7 +18,7 @@ use Rattle.reply_model.specs.CommitAnswers.{append_answer, update_range, may_upd
 use Rattle.reply_model.specs.Answers.{answer}
 use Rattle.reply_model.specs.Causes.{MarksAt}
 use Rattle.frame_write.specs.declared.options.Options.{Options}
-use Rattle.frame_write.specs.Links.{IsUnmoved}
+use Rattle.frame_write.specs.Plans.{IsUnmoved}
 use Rattle.frame_write.specs.Tries.{Made}
 use Rattle.frame_write.proofs.CommandLemmas.{MakesVersion, is_answer, IsAskedBy}
 use Rattle.append_update.specs.declared.wish.Wish.{Wish}

@@ -26,5 +26,4 @@ pub mod TryLemmas
 pub mod PlanLemmas
 pub mod LoopLemmas
 pub mod ReplyLemmas
-pub mod CountLemmas
 pub mod WholeBase

@@ -18,7 +18,8 @@ use Rattle.version_chain.proofs.TraceLemmas.{went_looks}
 use Rattle.frame_write.specs.declared.options.Options.{Options}
 use Rattle.frame_write.specs.declared.options.Committed.{Committed}
 use Rattle.frame_write.specs.declared.pieces.LinkPlan.{LinkPlan}
-use Rattle.frame_write.specs.Links.{IsUnmoved, IsLinkMade}
+use Rattle.frame_write.specs.Plans.{IsUnmoved}
+use Rattle.frame_write.specs.Links.{IsLinkMade}
 use Rattle.frame_write.specs.Tries.{Made, DidTry, DidFail, IsBusy}
 use Rattle.frame_write.proofs.MeetLemmas.{met_sooner}
 use Rattle.frame_write.proofs.CommitLemmas.{walk_stops}

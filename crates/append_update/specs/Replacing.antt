@@ -1,15 +1,12 @@
 -- The pieces of an append and of an update.
 --     fresh               a piece of new rows, if there are any
 --     appended, replaced  the base's slots with a frame behind them, and with a frame in place of the rows in a range
---     rows_beside         the rows on a side of a range
 --     AreEdges            what is left of the row blocks that a range cuts
 use Rattle.std.specs.Prelude.{◌≡◌, List, [], ◌∷◌, ◌++◌, take, drop, slice_range, Option, Some, None}
 use Rattle.frame_core.specs.Ranges.{Range}
 use Rattle.frame_core.specs.Frames.{Row, Frame, rows_below, rows_above}
 use Rattle.index_tree.specs.declared.index.Slot.{Slot}
 use Rattle.append_update.specs.declared.cuts.Cuts.{Cuts}
-use Rattle.append_update.specs.declared.edges.Side.{Side}
-use Rattle.append_update.specs.declared.edges.Side.TheVariants as sides
 use Rattle.append_update.specs.declared.pieces.Edges.{Edges}
 use Rattle.frame_write.specs.declared.pieces.Piece.{Piece}
 use Rattle.frame_write.specs.declared.pieces.Piece.TheVariants as pieces
@@ -33,11 +30,6 @@ replaced slots cuts edges frame =
 abbrev pub IsLeft : Frame → List Row → Option Frame → Type 0
 IsLeft base rows None = rows ≡ []
 IsLeft base rows (Some frame) = frame ≡ record base { rows = rows }
-
--- the rows on a side of the range
-abbrev pub rows_beside : Side → Range → List Row → List Row
-rows_beside sides.Below range rows = rows_below range rows
-rows_beside sides.Above range rows = rows_above range rows
 
 -- the rows below the range in the row block that begins below it and does not end there, and those above it in the one that ends above it and does not begin there
 pub record AreEdges (base : Frame) (range : Range) (slots : List Slot) (cuts : Cuts) (edges : Edges) : Type 0 where

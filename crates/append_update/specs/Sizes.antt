@@ -2,20 +2,15 @@
 --     text_total          the bytes of all texts of rows
 --     kept_rows           the rows of a base that stay
 --     is_text             whether cells of a type are texts
---     rows_in, rows_replaced      how many rows a frame has, if there is one; how many an update makes
 --     FitsBehind          what the index tells of a frame that may be appended
-use Rattle.std.specs.Prelude.{◌≡◌, ℕ, ◌+◌, ◌-◌, Bool, true, false, List, ◌++◌, length, take, Option, Some, None, sum_by}
+use Rattle.std.specs.Prelude.{◌≡◌, ℕ, ◌+◌, Bool, true, false, List, ◌++◌, length, Option, Some, None, sum_by}
 use Rattle.frame_core.specs.declared.cell.ColType.{ColType}
 use Rattle.frame_core.specs.declared.cell.ColType.TheVariants as types
 use Rattle.frame_core.specs.Ranges.{Range}
 use Rattle.frame_core.specs.Schemas.{schemas_differ}
 use Rattle.frame_core.specs.Frames.{Row, Frame, first_stamp, last_stamp, rows_below, rows_above}
 use Rattle.frame_core.specs.Limits.{all_text_bytes, too_large}
-use Rattle.index_tree.specs.declared.index.Index.{Index}
 use Rattle.reply_model.specs.Answering.{append_before}
-use Rattle.frame_write.specs.Pieces.{end_of}
-use Rattle.append_update.specs.declared.cuts.Cuts.{Cuts}
-use Rattle.append_update.specs.declared.pieces.Edges.{Edges}
 
 -- the bytes of all texts
 abbrev pub text_total : List Row → ℕ
@@ -36,13 +31,3 @@ pub record FitsBehind (base frame : Frame) : Type 0 where
 abbrev pub is_text : ColType → Bool
 is_text types.Text = true
 is_text _ = false
-
--- how many rows there are, if there is a frame
-abbrev pub rows_in : Option Frame → ℕ
-rows_in None = 0
-rows_in (Some frame) = length frame.rows
-
--- how many rows the index and what is left of the cut blocks tell of an update
-abbrev pub rows_replaced : Index → Cuts → Edges → Frame → ℕ
-rows_replaced index cuts edges frame =
-    end_of (take cuts.below index.slots) + rows_in edges.below + length frame.rows + rows_in edges.above + (index.rows - end_of (take cuts.reached index.slots))

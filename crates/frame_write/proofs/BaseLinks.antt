@@ -1,8 +1,9 @@
 -- The link of the newest live version: its slots have the stamps of the version's rows, and a new link may share its keys.
-use Rattle.std.proofs.Common.{◌≡◌, ℕ, suc, ◌<◌, ◌≤◌, Bool, true, false, ◌&&◌, not, List, [], ◌∷◌, ◌++◌, refl, ap, sym, ◌∙◌, subst, inl, inr, Option, Some, cond, nat_eq, arith}
-use Rattle.std.specs.Prelude.{⊤, Contains, filter, fold}
+use Rattle.std.proofs.Common.{◌≡◌, ℕ, ◌<◌, Bool, true, false, ◌&&◌, not, List, [], ◌∷◌, ◌++◌, refl, ap, sym, ◌∙◌, subst, inl, inr, Option, Some, cond, nat_eq, arith}
+use Rattle.std.specs.Prelude.{Contains, filter, fold}
 use Rattle.std.specs.List.{AllZip, AllByRecursion, list_any}
-use Rattle.std.proofs.lemmas.Bool.{true≢false, and_from, eq-eqb}
+use Rattle.std.proofs.lemmas.Bool.{and_from, eq-eqb}
+use Rattle.frame_core.specs.Limits.{IsStorable}
 use Rattle.key_kind.specs.declared.key.Key.{Key}
 use Rattle.key_kind.specs.Names.{Name}
 use Rattle.bucket_core.specs.declared.event.Change.{Change}
@@ -19,9 +20,9 @@ use Rattle.store_model.proofs.Numbering.{AreNumbered}
 
 -- ---- stamps
 
--- the slots of a version's link have the stamps of their rows
+-- the slots of a version's link have the stamps of their rows, in a frame that may be written
 abbrev pub IsStamped : Linked → Version → Type 0
-IsStamped l v = AllByRecursion (HasSlotStamps v.frame) l.index.slots
+IsStamped l v = AllByRecursion (HasSlotStamps v.frame) l.index.slots × IsStorable v.frame
 
 refer_stamps : (h : History) (client : ℕ) (symbol : Name) (was : Option Key) (entry : Key) (list : List Change) → MayRefer h client symbol was entry list → AllZip IsStamped (links h symbol) (state_of h symbol).versions
     → AllZip IsStamped (links_at h entry ++ links h symbol) (fold after_change (state_of h symbol) list).versions
@@ -34,9 +35,10 @@ refer_stamps h client symbol was entry list may z =
       | inr one ↦
           let more : links_at h entry ++ links h symbol ≡ one.fits.link ∷ links h symbol = ap (λ ls. ls ++ links h symbol) (here ∙ one.links) in
           subst (λ vs. AllZip IsStamped (links_at h entry ++ links h symbol) vs) (sym one.versions)
-          (subst (λ ls. AllZip IsStamped ls (one.made ∷ (state_of h symbol).versions)) (sym more) (one.fits.stamps, z))
+          (subst (λ ls. AllZip IsStamped ls (one.made ∷ (state_of h symbol).versions)) (sym more) ((one.fits.stamps, one.fits.storable), z))
     ]
 
+-- each link of a lawful history has its slots' stamps
 pub links_stamped : (h : History) (symbol : Name) → IsLawful h → AllZip IsStamped (links h symbol) (state_of h symbol).versions
 links_stamped [] symbol l = tt
 links_stamped (events.Refer c s was entry list ∷ h) symbol l =
@@ -76,6 +78,7 @@ module _ (R : Linked → Version → Type 0) (st : State) (base : Version) (l : 
   abbrev not_buried : Version → Bool
   not_buried v = not (is_buried st v.number)
 
+  -- the link of the first version that is not buried goes with it, and reaches what the newest live link reaches
   pub base_link : (ls : List Linked) (vs : List Version) → AllZip R ls vs → AllZip (λ (l : Linked) (v : Version). l.row.version ≡ v.number) ls vs → ((v : Version) → Contains vs v → Contains st.versions v) → AreNumbered vs
       → first_of (filter not_buried vs) ≡ Some base → Contains ls l → R l base × ((key : Key) → newest_reaches st ls key ≡ reaches l key)
   base_link [] vs r z among n first c = absurd (contains_none l c)

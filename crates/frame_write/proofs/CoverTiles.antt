@@ -1,5 +1,5 @@
 -- Slots that cover a frame in order tile it.
-use Rattle.std.proofs.Common.{◌≡◌, ℕ, ◌+◌, ◌<◌, ◌≤◌, Bool, true, false, ◌&&◌, ◌||◌, List, [], ◌∷◌, length, map, refl, sym, ap, ◌∙◌, subst, cond, inl, inr, arith}
+use Rattle.std.proofs.Common.{◌≡◌, ℕ, ◌+◌, ◌<◌, ◌≤◌, Bool, true, false, ◌&&◌, ◌||◌, List, [], ◌∷◌, length, map, refl, sym, ap, ◌∙◌, cond, inl, inr, arith}
 use Rattle.std.specs.Prelude.{count_by, nat_le, nat_lt}
 use Rattle.std.specs.List.{AllByRecursion}
 use Rattle.std.proofs.lemmas.Bool.Decides.{nat_tests}
@@ -95,6 +95,7 @@ module _ (frame : Frame) where
   are_cut [] = tt
   are_cut (s ∷ slots) = (refl, are_cut slots)
 
+  -- the parts of slots that cover a frame tile it
   pub cover_tiled : (slots : List Slot) → AllByRecursion (IsSlot (length frame.schema.columns)) slots → Cover (length frame.rows) (length frame.schema.columns) slots → Tiled frame (map tile_of slots)
   cover_tiled [] each none = record {
     inside = tt;

@@ -22,3 +22,14 @@ pub mod CoverTiles
 pub mod BaseLinks
 pub mod Runs
 pub mod SharedSlots
+pub mod Stretches
+pub mod FewSlots
+pub mod VersionRefers
+pub mod ApartKeys
+pub mod BaseTold
+pub mod LaidPieces
+pub mod LaidPuts
+pub mod LayoutLemmas
+pub mod VersionPlans
+pub mod LinkLemmas
+pub mod VersionKeys

@@ -1,15 +1,15 @@
 -- Runs of slots behind one another, moved so that each begins where the one before it ends.
-use Rattle.std.proofs.Common.{◌≡◌, ℕ, zero, suc, ◌+◌, ◌-◌, ◌<◌, ◌≤◌, List, [], ◌∷◌, ◌++◌, length, map, take, drop, Some, refl, sym, ap, ◌∙◌, subst, inl, inr, arith}
+use Rattle.std.proofs.Common.{◌≡◌, ℕ, zero, suc, ◌+◌, ◌-◌, ◌≤◌, List, [], ◌∷◌, ◌++◌, length, map, take, drop, Some, refl, sym, ap, ◌∙◌, subst, inl, inr, arith}
 use Rattle.std.specs.Prelude.{slice_range}
 use Rattle.std.specs.List.{AllByRecursion, AllZip}
 use Rattle.std.proofs.lemmas.List.{drop-drop, take-append-drop}
 use Rattle.frame_core.specs.declared.part.Part.{Part}
-use Rattle.frame_core.specs.Frames.{Row, Frame, IsFrame, first_stamp, last_stamp}
-use Rattle.segment_cut.specs.Tiles.{cut, cut_row}
+use Rattle.frame_core.specs.Frames.{Row, Frame, IsFrame, first_stamp}
+use Rattle.segment_cut.specs.Tiles.{cut}
 use Rattle.index_tree.specs.declared.index.Slot.{Slot}
 use Rattle.index_tree.specs.IndexRules.{SameBlock, NextBlock, LeadOn}
 use Rattle.store_model.specs.Commits.{HasSlotStamps}
-use Rattle.frame_write.specs.Pieces.{begin_of, end_of, IsRun, moved}
+use Rattle.frame_write.specs.Pieces.{end_of, IsRun, moved}
 use Rattle.frame_write.proofs.RowStamps.{slices_ordered, length_slice}
 
 -- ---- moved slots
@@ -22,6 +22,7 @@ pub record IsMoved (from to : ℕ) (s t : Slot) : Type 0 where
   pub cols : t.part.cols ≡ s.part.cols
   pub first : t.first ≡ s.first
   pub last : t.last ≡ s.last
+  pub key : t.key ≡ s.key
 
 moved_same : (columns from to : ℕ) (s s2 t t2 : Slot) → IsMoved from to s t → IsMoved from to s2 t2 → SameBlock columns s s2 → SameBlock columns t t2
 moved_same columns from to s s2 t t2 m n b = record {
@@ -69,8 +70,9 @@ lead_between columns end s (t ∷ more) l =
     later le [] all = tt
     later le (x ∷ xs) all = ((omega (arith, le, all.0.0), all.0.1), later le xs all.1)
 
+-- a moved slot is the same but for its first row
 pub moved_is : (from to : ℕ) (s : Slot) → from ≤ s.part.first_row → IsMoved from to s (moved from to s)
-moved_is from to s le = record { first_row = omega (arith, le); rows = refl; first_col = refl; cols = refl; first = refl; last = refl }
+moved_is from to s le = record { first_row = omega (arith, le); rows = refl; first_col = refl; cols = refl; first = refl; last = refl; key = refl }
 
 -- ---- one run behind another
 
@@ -97,6 +99,7 @@ module _ (f : Frame) (is : IsFrame f) (columns : ℕ) where
   lead_join mid rows s [] (t ∷ rest) l c a hs ks = (inr (next_run s t l.1 (c.0 ∙ sym l.0) c.1 a ks.0), c.2)
   lead_join mid rows s (t ∷ more) rest l c a hs ks = (l.0, lead_join mid rows t more rest l.1 c hs.0 hs.1 ks)
 
+  -- slots that cover one stretch, and behind them slots that cover the next, cover both
   pub cover_join : (from mid rows : ℕ) (first rest : List Slot) → CoverFrom from mid columns first → CoverFrom mid rows columns rest → AllByRecursion (HasSlotStamps f) first → AllByRecursion (HasSlotStamps f) rest
       → CoverFrom from rows columns (first ++ rest)
   cover_join from mid rows [] rest a c hs ks = subst (λ n. CoverFrom n rows columns rest) (sym a) c
@@ -144,6 +147,7 @@ pub lead_end : (columns rows : ℕ) (s : Slot) (more : List Slot) → LeadOn row
 lead_end columns rows s [] l = l.0
 lead_end columns rows s (t ∷ more) l = lead_end columns rows t more l.1
 
+-- slots that cover a stretch are a run
 pub cover_is_run : (from rows columns : ℕ) (slots : List Slot) → CoverFrom from rows columns slots → IsRun columns slots
 cover_is_run from rows columns [] c = tt
 cover_is_run from rows columns (s ∷ more) c = (c.1, subst (λ n. LeadOn n columns s more) (sym (lead_end columns rows s more c.2)) c.2)

@@ -1,12 +1,13 @@
 -- A slot of the newest live version: its tile stands, and a new link may name its key.
-use Rattle.std.proofs.Common.{◌≡◌, ℕ, Bool, true, false, ◌&&◌, ◌||◌, not, List, [], ◌∷◌, map, refl, ap, sym, ◌∙◌, subst, inl, inr, Option, Some, None, nat_eq}
-use Rattle.std.specs.Prelude.{Contains, filter, is_some, option_and_then, option_map}
-use Rattle.std.specs.List.{AllZip, AllByRecursion, list_any}
+use Rattle.std.proofs.Common.{◌≡◌, ℕ, true, not, List, [], ◌∷◌, map, refl, ap, sym, ◌∙◌, subst, inl, inr, Option, Some, None, nat_eq}
+use Rattle.std.specs.Prelude.{Contains, is_some, option_and_then, option_map}
+use Rattle.std.specs.List.{AllZip, AllByRecursion}
 use Rattle.std.proofs.lemmas.Bool.{and_from, or_left, eq-eqb}
 use Rattle.frame_core.specs.Frames.{Row, Frame}
 use Rattle.frame_core.specs.Schemas.{Schema}
+use Rattle.frame_core.specs.Limits.{IsStorable}
 use Rattle.frame_core.specs.declared.part.Part.{Part}
-use Rattle.segment_cut.specs.Tiles.{Tile, cut}
+use Rattle.segment_cut.specs.Tiles.{Tile, LiesIn, cut}
 use Rattle.index_tree.specs.declared.index.Slot.{Slot}
 use Rattle.index_tree.specs.declared.index.Index.{Index}
 use Rattle.index_tree.specs.IndexRules.{IsSlot}
@@ -14,10 +15,10 @@ use Rattle.key_kind.specs.declared.key.Key.{Key}
 use Rattle.key_kind.specs.Names.{Name}
 use Rattle.key_kind.specs.Keys.{same_key}
 use Rattle.key_kind.proofs.KeyTests.{same_key_self}
-use Rattle.bucket_core.specs.History.{History, StandsAsPut}
+use Rattle.bucket_core.specs.History.{History}
 use Rattle.store_model.specs.declared.chain.LinkRow.{LinkRow}
-use Rattle.store_model.specs.Library.{State, Version, state_of, is_buried, is_live, is_held}
-use Rattle.store_model.specs.Links.{Linked, linked, links, frame_put, index_put, tiles_put, with_tile, reaches, reached, is_needed}
+use Rattle.store_model.specs.Library.{Version, state_of, is_buried, is_live}
+use Rattle.store_model.specs.Links.{Linked, linked, links, frame_put, index_put, tiles_put, with_tile, reaches, reached}
 use Rattle.store_model.specs.Commits.{MayNameKey, HasSlotStamps, newest_reaches}
 use Rattle.store_model.specs.Intact.{IsLinkOf}
 use Rattle.store_model.specs.Law.{IsLawful}
@@ -68,6 +69,16 @@ slot_frame h frame s (x ∷ slots) tiles e all c =
       | inr later ↦ slot_frame h frame s slots w.1 w.3 each.1 later
     ]
 
+slot_lies : (h : History) (frame : Frame) (s : Slot) (slots : List Slot) (tiles : List Tile) → tiles_put h slots ≡ Some tiles → AllByRecursion (λ (t : Tile). LiesIn frame t.0) tiles → Contains slots s → LiesIn frame s.part
+slot_lies h frame s [] tiles e all c = absurd (contains_none s c)
+slot_lies h frame s (x ∷ slots) tiles e all c =
+    let w = with_parts x.part (frame_put h x.key) (tiles_put h slots) tiles e in
+    let each = subst (AllByRecursion (λ (t : Tile). LiesIn frame t.0)) (sym w.4) all in
+    elim (contains_cases s x slots c) [
+      | inl same ↦ subst (λ (y : Slot). LiesIn frame y.part) same each.0
+      | inr later ↦ slot_lies h frame s slots w.1 w.3 each.1 later
+    ]
+
 stamps_in : (frame : Frame) (s : Slot) (slots : List Slot) → AllByRecursion (HasSlotStamps frame) slots → Contains slots s → HasSlotStamps frame s
 stamps_in frame s [] all c = absurd (contains_none s c)
 stamps_in frame s (x ∷ slots) all c = elim (contains_cases s x slots c) [ inl same ↦ subst (HasSlotStamps frame) same all.0 | inr later ↦ stamps_in frame s slots all.1 later ]
@@ -91,6 +102,10 @@ module _ (h : History) (lawful : IsLawful h) (symbol : Name) (schema : Schema) (
       and_from _ _ (passes (λ (w : Version). nat_eq b.link.row.version w.number) (state_of h symbol).versions b.version among.0 (eq-eqb b.link.row.version b.version.number b.number))
       (ap (λ n. not (is_buried (state_of h symbol) n)) b.number ∙ among.1)
 
+  -- the base's frame may be written
+  pub base_storable : IsStorable b.version.frame
+  base_storable = facts.0.1.1
+
   module _ (s : Slot) (there : Contains slots s) where
     in_link : Contains b.link.index.slots s
     in_link = subst (λ xs. Contains xs s) (sym b.slots_are) there
@@ -99,15 +114,21 @@ module _ (h : History) (lawful : IsLawful h) (symbol : Name) (schema : Schema) (
     in_reached = contains_later s.key b.link.row.index (map (λ (x : Slot). x.key) b.link.index.slots) (key_in s b.link.index.slots in_link)
 
     pub shared_stamps : HasSlotStamps b.version.frame s
-    shared_stamps = stamps_in b.version.frame s b.link.index.slots facts.0.1 in_link
+    shared_stamps = stamps_in b.version.frame s b.link.index.slots facts.0.1.0 in_link
 
     pub shared_put : frame_put h s.key ≡ Some (cut b.version.frame s.part)
     shared_put = slot_frame h b.version.frame s b.link.index.slots b.link.tiles (linked_parts h b.link.row b.link (links_as_put h (lawful_is_intact h lawful).once symbol b.link b.link_is)) facts.0.0.assembled.parts in_link
+
+    pub shared_lies : LiesIn b.version.frame s.part
+    shared_lies = slot_lies h b.version.frame s b.link.index.slots b.link.tiles (linked_parts h b.link.row b.link (links_as_put h (lawful_is_intact h lawful).once symbol b.link b.link_is)) facts.0.0.assembled.inside in_link
+
+    pub shared_reaches : newest_reaches (state_of h symbol) (links h symbol) s.key ≡ true
+    shared_reaches = facts.1 s.key ∙ passes (λ k. same_key k s.key) (reached b.link) s.key in_reached (same_key_self s.key)
 
     pub shared_may_name : (client columns : ℕ) → IsSlot columns s → MayNameKey h client symbol s.key
     shared_may_name client columns rule = record {
       kind = rule.is_tile;
       name = ((lawful_is_intact h lawful).table_keys symbol b.link s.key b.link_is in_reached).name;
       stands = ap is_some ((lawful_is_intact h lawful).needed symbol b.link s.key b.link_is (or_left _ _ lives) in_reached).stands;
-      fresh_or_shared = inr (facts.1 s.key ∙ passes (λ k. same_key k s.key) (reached b.link) s.key in_reached (same_key_self s.key));
+      fresh_or_shared = inr shared_reaches;
     }

@@ -7,3 +7,7 @@ pub mod Writes
 pub mod Pieces
 pub mod Links
 pub mod WritePlans
+pub mod Laying
+pub mod Layouts
+pub mod SlotKeys
+pub mod Versions

@@ -2,9 +2,8 @@
 --     IsInOrder           the range of an update is in order
 --     FitsPlan            the plan of the version that a change makes of a symbol
 --     IsLinkable          when the plan may be tried
---     IsUnmoved           a state that was left as it was, but for more staged pieces
 --     IsLinkMade          what the commit of the plan made
-use Rattle.std.specs.Prelude.{◌≡◌, ℕ, ◌+◌, ℤ, false, List, ◌∷◌, ◌++◌, length, Some, ⊤}
+use Rattle.std.specs.Prelude.{◌≡◌, ℕ, ◌+◌, ℤ, false, ◌∷◌, length, Some, ⊤}
 use Rattle.std.specs.List.{list_any}
 use Rattle.frame_core.specs.Ranges.{IsRange}
 use Rattle.frame_core.specs.Limits.{IsStorable}
@@ -12,14 +11,15 @@ use Rattle.key_kind.specs.Names.{Name}
 use Rattle.bucket_core.specs.declared.event.Change.{Change}
 use Rattle.bucket_core.specs.declared.event.Change.TheVariants as changes
 use Rattle.bucket_core.specs.History.{History}
-use Rattle.store_model.specs.Library.{State, Version, Piece, state_of, new_version, next_number}
+use Rattle.store_model.specs.Library.{State, Version, state_of, new_version, next_number}
 use Rattle.version_chain.specs.declared.state.SymbolState.{SymbolState}
 use Rattle.version_chain.specs.States.{IsStateAt}
+use Rattle.version_chain.specs.Marking.{own_refers}
 use Rattle.reply_model.specs.Answering.{pruned}
 use Rattle.frame_write.specs.declared.options.Options.{Options}
 use Rattle.frame_write.specs.declared.pieces.LinkPlan.{LinkPlan}
 use Rattle.frame_write.specs.Pieces.{ArePieces, laid, new_tiles}
-use Rattle.version_chain.specs.Marking.{own_refers}
+use Rattle.frame_write.specs.Plans.{IsUnmoved}
 use Rattle.frame_write.specs.Tries.{Made}
 
 -- the range of an update is in order
@@ -42,11 +42,6 @@ pub record IsLinkable (client : ℕ) (h : History) (symbol : Name) (state : Symb
   pub walked : IsStateAt h symbol state
   pub none_own : list_any (own_refers client symbol) walked.later ≡ false
   pub fits : FitsPlan walked.before symbol at plan
-
--- the state as it was, but for more staged pieces
-pub record IsUnmoved (st now : State) : Type 0 where
-  pub more : List Piece
-  pub is : now ≡ record st { staged = more ++ st.staged }
 
 -- the plan's change and what it buries, on a state that was left as it was walked; a put for each new tile, the index and the element;
 -- and the index has the slots of the pieces, with keys from this serial on

@@ -6,6 +6,7 @@ mod attempt;
 mod commit;
 mod drops;
 mod elements;
+mod laying;
 mod link;
 mod numbers;
 mod options;

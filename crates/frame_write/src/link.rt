@@ -2,13 +2,14 @@ ghost use Rattle.std.specs.Prelude.{◌≡◌};
 ghost use Rattle.bucket_core.specs.History.{puts_by, history_at};
 ghost use Rattle.bucket_core.specs.Calls.{IsSteady};
 ghost use Rattle.store_model.specs.Library.{state_of};
-ghost use Rattle.segment_cut.specs.Cuttings.{IsCutting};
 ghost use Rattle.frame_write.specs.Links.{IsLinkable, IsLinkMade};
 ghost use Rattle.frame_write.specs.Tries.{DidTry};
 ghost use Rattle.version_chain.specs.Traces.{GoesOn};
 
+use crate::commit::commit;
 use crate::options::{Committed, Options};
 use crate::pieces::LinkPlan;
+use crate::plan::plan_link;
 use bucket_core::Bucket;
 use frame_core::{Refusal, Refused};
 use key_kind::Symbol;
@@ -36,8 +37,19 @@ pub fn link_on<R: Wait, B: Bucket<StoreLaw>>(
     ensures grown { GoesOn (B.number bucket.old) (B.sole bucket.old) (B.seen bucket.old) (B.seen bucket.new) }
     ensures did { DidTry (B.number bucket.old) (B.sole bucket.old) symbol.now (IsLinkMade (B.number bucket.old) (puts_by (B.number bucket.old) (B.seen bucket.old)) symbol.now (state_of (history_at (B.seen bucket.old) state.now.place) symbol.now) plan.now options.now) (B.limit bucket.old) (B.faults bucket.old) (B.faults bucket.new) state.now.place (B.seen bucket.old) (B.seen bucket.new) result }
 {
-    Err(Refused {
-        place: bucket.place(),
-        why: Refusal::NoMemory,
-    })
+    let Ok(made) = plan_link(
+        alloc,
+        bucket.client(),
+        bucket.serial(),
+        symbol,
+        state,
+        plan,
+        options,
+    ) else {
+        return Err(Refused {
+            place: bucket.place(),
+            why: Refusal::NoMemory,
+        });
+    };
+    commit(rt, alloc, bucket, symbol, made)
 }
