@@ -11,6 +11,8 @@ mod judging;
 mod pieces;
 mod planning;
 mod sizes;
+#[cfg(test)]
+mod tests;
 mod updating;
 mod wish;
 
