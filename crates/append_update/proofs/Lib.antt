@@ -12,7 +12,6 @@ pub mod AppendLemmas
 pub mod BaseLemmas
 pub mod UpdateLemmas
 pub mod UpdatePlans
-pub mod StubLemmas
 pub mod AttemptLemmas
 pub mod UpdateAnswers
 pub mod CoverLemmas

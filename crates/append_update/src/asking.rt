@@ -109,7 +109,7 @@ fn plan_without(alloc: Global, wish: &Wish<'_>, at: i64) -> Result<Option<LinkPl
     }
 }
 
-/// The plan over the newest live version.
+/// The plan over the newest live version. No call asks for other rows in place of its rows yet.
 fn plan_over<R: Wait, B: Bucket<StoreLaw>>(
     rt: &R,
     alloc: Global,

@@ -1,4 +1,4 @@
-//! Appends and updates: a new version of a symbol that shares the tiles of its newest live version.
+//! Appends: a new version of a symbol that shares the tiles of its newest live version.
 #![tactic(auto)]
 
 mod appending;
@@ -13,10 +13,8 @@ mod planning;
 mod sizes;
 #[cfg(test)]
 mod tests;
-mod updating;
 mod wish;
 
 pub use appending::append;
 pub use base_types::NoMemory;
 pub use frame_write::{Committed, Options};
-pub use updating::{delete_range, update};
