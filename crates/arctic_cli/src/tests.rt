@@ -258,8 +258,7 @@ fn a_reclaim_keeps_the_tiles_that_an_append_shares(rt: HostRuntime) -> Result<()
 #[test]
 fn a_reclaim_drops_what_no_live_version_has(rt: HostRuntime) -> Result<(), Fail> {
     let alloc = rt.alloc();
-    let script =
-        "load t t.csv int,int\nfirst\nwrite S t\nwrite S t prune\nreclaim S\nkeys S\n";
+    let script = "load t t.csv int,int\nfirst\nwrite S t\nwrite S t prune\nreclaim S\nkeys S\n";
     let (status, out) = ran_files(
         &rt,
         alloc,

@@ -153,7 +153,7 @@ blocks_are_sole c s t first block last begun met ended h g k is other frames_are
 
     of_first : (o : Option (List Reply × Alone)) → RunsTo c o begun h
         → option_and_then {U = SoleRun} (λ (x : List Reply × Alone).
-          option_and_then {U = SoleRun} (λ (y : List Reply × Alone). made x y (alone c (session_of s.frames s.moment 1) last y.1)) (alone c (session_of s.frames s.moment 2) block x.1)) o ≡ result
+        option_and_then {U = SoleRun} (λ (y : List Reply × Alone). made x y (alone c (session_of s.frames s.moment 1) last y.1)) (alone c (session_of s.frames s.moment 2) block x.1)) o ≡ result
     of_first None to = absurd to
     of_first (Some x) to =
         of_block x (alone c (session_of s.frames s.moment 2) block x.1) to.0 (of_session c t s.frames s.moment 2 block met h g frames_are moment_is other runs_block x.1 to.1)
