@@ -1,5 +1,5 @@
 -- What a command asks, as the one-thread library answers it.
-use Rattle.std.proofs.Common.{◌&&◌, not, ◌≡◌, ℕ, ℤ, Bool, true, false, List, [], ◌∷◌, ◌++◌, refl, sym, ap, ◌∙◌, subst, inl, Option, Some, None, Result, Ok, Err}
+use Rattle.std.proofs.Common.{◌&&◌, not, ◌≡◌, ℕ, ℤ, Bool, true, false, List, [], ◌++◌, refl, sym, ap, ◌∙◌, subst, inl, Option, Some, None, Result, Ok, Err}
 use Rattle.frame_core.specs.declared.refusal.Asked.TheVariants as asks
 use Rattle.frame_core.specs.declared.refusal.Refusal.{Refusal}
 use Rattle.frame_core.specs.declared.refusal.Refusal.TheVariants as refusals
@@ -7,19 +7,17 @@ use Rattle.frame_core.specs.Ranges.{Range}
 use Rattle.frame_core.specs.Frames.{Row, Frame}
 use Rattle.frame_core.specs.RawFrames.{unless}
 use Rattle.key_kind.specs.Names.{Name}
-use Rattle.bucket_core.specs.History.{History}
 use Rattle.store_model.specs.Library.{State, Version, Piece, state_of, base_of, next_number}
 use Rattle.reply_model.specs.declared.outcome.Outcome.TheVariants as outcomes
 use Rattle.store_model.specs.Snapshots.{Library, library_of}
 use Rattle.store_model.specs.Commits.{IsFilled}
 use Rattle.expr_clause.specs.declared.command.Command.{Command}
-use Rattle.reply_model.specs.Answering.{Session, Answer, answered, ◌then◌, refuse_if, or_refuse, committed, pruned, fits_schema, in_order, may_append, joined_within, base_or}
+use Rattle.reply_model.specs.Answering.{Session, answered, ◌then◌, refuse_if, or_refuse, committed, fits_schema, in_order, may_append, joined_within, base_or}
 use Rattle.reply_model.specs.CommitAnswers.{append_answer, update_range, may_update, update_answer}
 use Rattle.reply_model.specs.Answers.{answer}
 use Rattle.reply_model.specs.Causes.{MarksAt}
 use Rattle.frame_write.specs.declared.options.Options.{Options}
 use Rattle.frame_write.specs.Plans.{IsUnmoved}
-use Rattle.frame_write.specs.Tries.{Made}
 use Rattle.frame_write.proofs.CommandLemmas.{MakesVersion, is_answer, IsAskedBy}
 use Rattle.append_update.specs.declared.wish.Wish.{Wish}
 use Rattle.append_update.specs.declared.wish.Wish.TheVariants as wishes

@@ -1,8 +1,7 @@
 -- The tries of what is asked, one after another.
-use Rattle.std.proofs.Common.{◌≡◌, ℕ, ◌+◌, Bool, true, false, [], length, sym, ◌∙◌, ap, subst, inl, inr, Result, Ok, Err}
+use Rattle.std.proofs.Common.{◌≡◌, ℕ, ◌+◌, Bool, length, sym, ◌∙◌, ap, subst, inl, inr, Result, Ok, Err}
 use Rattle.std.specs.Prelude.{◌⊎◌}
 use Rattle.std.proofs.lemmas.Bool.{true≢false}
-use Rattle.frame_core.specs.declared.refusal.Refusal.{Refusal}
 use Rattle.frame_core.specs.declared.refusal.Refusal.TheVariants as refusals
 use Rattle.frame_core.specs.declared.refusal.Refused.{Refused}
 use Rattle.key_kind.specs.Names.{Name}
@@ -15,7 +14,7 @@ use Rattle.frame_write.specs.Tries.{DidMeet, DidTry, DidEnd, DidRefused, IsBusy,
 use Rattle.frame_write.proofs.CommandLemmas.{is_answer}
 use Rattle.frame_write.proofs.TriesLemmas.{try_steady, met_where_moved, moved_place, tries_more, last_met}
 use Rattle.append_update.specs.declared.wish.Wish.{Wish}
-use Rattle.append_update.specs.Asking.{answer_to, IsAnswered, Declines, Wants}
+use Rattle.append_update.specs.Asking.{IsAnswered, Declines, Wants}
 use Rattle.append_update.specs.Attempts.{DidGone, DidAttempt}
 use Rattle.append_update.proofs.AskedLemmas.{good_answer}
 use Rattle.append_update.proofs.AttemptLemmas.{tries_gone, gone_met}

@@ -1,24 +1,21 @@
 -- The plans of what is asked.
-use Rattle.std.proofs.Common.{◌≡◌, ℕ, ◌+◌, ◌*◌, ◌<◌, ◌≤◌, ℤ, Bool, true, false, [], ◌∷◌, ◌++◌, length, refl, sym, ap, ◌∙◌, subst, inl, inr, arith, Option, Some, None, Ok, Err, cond, length-append}
-use Rattle.std.specs.Prelude.{is_some, nat_lt, IfSome}
+use Rattle.std.proofs.Common.{◌≡◌, ℕ, ◌+◌, ◌*◌, ◌<◌, ◌≤◌, ℤ, Bool, true, false, [], ◌∷◌, ◌++◌, length, refl, sym, ap, ◌∙◌, subst, inl, arith, Option, Some, None, Ok, Err, cond, length-append}
+use Rattle.std.specs.Prelude.{is_some, nat_lt}
 use Rattle.std.specs.List.{list_any}
 use Rattle.std.proofs.lemmas.List.{append-nil, append_assoc}
 use Rattle.frame_core.specs.declared.refusal.Extent.{Extent}
 use Rattle.frame_core.specs.declared.refusal.Extent.TheVariants as extents
-use Rattle.frame_core.specs.declared.refusal.Refusal.{Refusal}
-use Rattle.frame_core.specs.declared.refusal.Refused.{Refused}
 use Rattle.frame_core.specs.Ranges.{Range, IsRange}
-use Rattle.frame_core.specs.Frames.{Row, Frame, replace_range}
-use Rattle.frame_core.specs.Limits.{IsStorable, too_large, frame_too_large, refuse_large}
+use Rattle.frame_core.specs.Frames.{Frame, replace_range}
+use Rattle.frame_core.specs.Limits.{IsStorable, too_large, frame_too_large}
 use Rattle.key_kind.specs.Names.{Name}
 use Rattle.bucket_core.specs.declared.event.Change.{Change}
 use Rattle.bucket_core.specs.declared.event.Change.TheVariants as changes
 use Rattle.bucket_core.specs.History.{History, AllByOthers, history_at}
-use Rattle.store_model.specs.Library.{State, Version, state_of, base_of, version_of, new_version, on_base, is_buried}
+use Rattle.store_model.specs.Library.{Version, state_of, base_of, version_of, new_version, on_base, is_buried}
 use Rattle.version_chain.specs.declared.state.SymbolState.{SymbolState}
 use Rattle.version_chain.specs.States.{IsStateAt, IsStateOf}
 use Rattle.version_chain.specs.Marking.{own_refers}
-use Rattle.reply_model.specs.Answering.{Answer, committed}
 use Rattle.reply_model.specs.CommitAnswers.{append_answer, update_answer, update_range, outside}
 use Rattle.frame_read.specs.Fetches.{IsTargetIndex}
 use Rattle.frame_read.proofs.ChoosingLemmas.{has_reference_told}
@@ -32,12 +29,11 @@ use Rattle.append_update.specs.declared.base.Base.{Base}
 use Rattle.append_update.specs.declared.wish.Wish.{Wish}
 use Rattle.append_update.specs.declared.wish.Wish.TheVariants as wishes
 use Rattle.append_update.specs.Asking.{answer_to, IsWish, IsPlanOf, IsAlone, why_missing}
-use Rattle.append_update.specs.Bases.{IsIndexOf}
-use Rattle.append_update.specs.Newest.{IsNewest, IsBase, IsBaseAt}
+use Rattle.append_update.specs.Newest.{IsNewest, IsBaseAt}
 use Rattle.append_update.specs.Replacing.{appended}
 use Rattle.append_update.specs.Sizes.{FitsBehind, text_total}
 use Rattle.append_update.proofs.FrameLemmas.{longest, longest-append, within_from, within_to, frame_within, bytes-append}
-use Rattle.append_update.proofs.AppendLemmas.{MayAppend, append_plan_fits, append_answers, append_alone, append_large}
+use Rattle.append_update.proofs.AppendLemmas.{MayAppend, append_plan_fits, append_answers, append_alone}
 use Rattle.append_update.proofs.UpdateAnswers.{upsert_alone, update_unreferred, update_unlinked}
 use Rattle.append_update.proofs.BaseLemmas.{walked_here}
 

@@ -1,24 +1,22 @@
 -- The replies to appends, updates and deletes of a range are legal.
-use Rattle.std.proofs.Common.{◌≡◌, ℕ, ℤ, Bool, false, [], ◌++◌, sym, ap, ◌∙◌, subst, Option, Some, None, Result, Ok}
+use Rattle.std.proofs.Common.{◌≡◌, ℕ, ℤ, Bool, sym, ap, ◌∙◌, subst, Option, Some, Result, Ok}
 use Rattle.std.specs.Prelude.{option_map}
 use Rattle.frame_core.specs.declared.refusal.Refusal.{Refusal}
 use Rattle.frame_core.specs.declared.refusal.Refused.{Refused}
-use Rattle.frame_core.specs.Ranges.{Range}
-use Rattle.frame_core.specs.Frames.{Row, Frame}
+use Rattle.frame_core.specs.Frames.{Frame}
 use Rattle.key_kind.specs.Names.{Name}
 use Rattle.bucket_core.specs.History.{History}
-use Rattle.store_model.specs.Library.{State}
 use Rattle.store_model.specs.Snapshots.{Library}
 use Rattle.expr_clause.specs.declared.command.Command.{Command}
 use Rattle.expr_clause.specs.declared.command.Command.TheVariants as commands
 use Rattle.reply_model.specs.Answering.{Session, Answer, answered, ◌then◌, frame_of, stamp_of}
-use Rattle.reply_model.specs.CommitAnswers.{append_answer, update_answer}
+use Rattle.reply_model.specs.CommitAnswers.{append_answer}
 use Rattle.reply_model.specs.Answers.{answer}
 use Rattle.frame_write.specs.declared.options.Committed.{Committed}
 use Rattle.frame_write.specs.declared.options.Options.{Options}
 use Rattle.frame_write.specs.Tries.{DidTries}
-use Rattle.frame_write.specs.Writes.{Brings, IsLegalCall}
-use Rattle.frame_write.proofs.CommandLemmas.{MakesVersion, of_append, of_update, of_delete_range}
+use Rattle.frame_write.specs.Writes.{IsLegalCall}
+use Rattle.frame_write.proofs.CommandLemmas.{MakesVersion, of_append}
 use Rattle.frame_write.proofs.LegalWrites.{tries_are_legal}
 use Rattle.append_update.specs.declared.wish.Wish.{Wish}
 use Rattle.append_update.specs.declared.wish.Wish.TheVariants as wishes

@@ -8,8 +8,6 @@ use Rattle.std.proofs.lemmas.List.{length-map, take_all, length-drop}
 use Rattle.std.proofs.lemmas.List.Sums.{sum_by-cons, sum_by-append, length-filter}
 use Rattle.frame_core.specs.declared.cell.Cell.{Cell}
 use Rattle.frame_core.specs.declared.cell.Cell.TheVariants as cells
-use Rattle.frame_core.specs.declared.cell.ColType.{ColType}
-use Rattle.frame_core.specs.declared.cell.ColType.TheVariants as types
 use Rattle.frame_core.specs.Ranges.{Range, InOrder, IsRange, is_below, is_above}
 use Rattle.frame_core.specs.Schemas.{Head}
 use Rattle.frame_core.specs.Frames.{Row, Frame, IsFrame, FitsColumns, NeverFall, stamps_of, rows_below, rows_above, type_of}
@@ -19,7 +17,7 @@ use Rattle.frame_core.proofs.FrameLimits.{bytes-rows_from}
 use Rattle.frame_core.proofs.Rows.{HaveLength, length-cells_of, rows_from-columns}
 use Rattle.segment_cut.proofs.Wholes.{widths}
 use Rattle.append_update.specs.Sizes.{text_total, kept_rows, is_text}
-use Rattle.append_update.proofs.ListLemmas.{FallsOff, passing, none_passing, falls_later, none_behind, filter_none}
+use Rattle.append_update.proofs.ListLemmas.{FallsOff, passing, falls_later, none_behind, filter_none}
 use Rattle.append_update.proofs.RangeLemmas.{below_before, above_behind}
 use Rattle.append_update.proofs.FrameLemmas.{frame_within}
 

@@ -1,4 +1,4 @@
-use Rattle.std.proofs.Common.{◌≡◌, ◌≤◌, [], ◌++◌, length, sym, ap, subst, false}
+use Rattle.std.proofs.Common.{◌≡◌, ◌≤◌, length, sym, subst, false}
 use Rattle.std.specs.List.{list_any}
 use Rattle.bucket_core.specs.History.{AllByOthers, history_at, puts_by}
 use Rattle.store_model.specs.Library.{state_of}

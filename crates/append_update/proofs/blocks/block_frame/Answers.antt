@@ -1,5 +1,4 @@
 use Rattle.std.proofs.Common.{◌≡◌, ℕ, ◌-◌, ◌<◌, List, length, take, drop, sym, ap, ◌∙◌, subst, inl, inr, arith, None, ◌+◌, ◌≤◌}
-use Rattle.std.specs.Prelude.{slice_range}
 use Rattle.std.specs.List.{AllByRecursion, AllZip}
 use Rattle.frame_core.specs.Frames.{Frame, IsFrame}
 use Rattle.index_tree.specs.declared.index.Slot.{Slot}
