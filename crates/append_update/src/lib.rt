@@ -7,6 +7,7 @@ mod attempt;
 mod base;
 mod blocks;
 mod cuts;
+mod edges;
 mod judging;
 mod pieces;
 mod planning;
