@@ -29,8 +29,8 @@ each_ends rows columns s [] lead = (lead-reaches rows columns s [] lead, tt)
 each_ends rows columns s (t ∷ more) lead = (lead-reaches rows columns s (t ∷ more) lead, each_ends rows columns t more lead.1)
 
 cover_ends : (rows columns : ℕ) (slots : List Slot) → Cover rows columns slots → AllByRecursion (λ (s : Slot). s.part.first_row + s.part.rows ≤ rows) slots
-cover_ends rows columns [] cover = tt
-cover_ends rows columns (s ∷ more) cover = each_ends rows columns s more cover.2
+cover_ends rows columns [] covered = tt
+cover_ends rows columns (s ∷ more) covered = each_ends rows columns s more covered.2
 
 slice_count : (rows : List Row) (from to : ℕ) → to ≤ length rows → length (slice_range rows from to) ≡ to - from
 slice_count rows from to le = omega (arith, le, length-take (to - from) (drop from rows), length-drop from rows)
@@ -64,27 +64,27 @@ module _ (base : Frame) (range : Range) (index : Index) (cuts : Cuts) (edges : E
 
   first_count : length (rows_of_slots base (take cuts.below index.slots)) ≡ size_of (take cuts.below index.slots)
   first_count =
-      ap length (sym (rows_run base index r.index_of range (take cuts.below index.slots) (take_all_of (IsSlot columns) cuts.below index.slots r.index_of.rules.each) (first_run base index r.index_of range cuts r.divides edges r.edges base)))
+      ap length (sym (rows_run base index r.index_of range (take cuts.below index.slots) (take_all_of (IsSlot columns) cuts.below index.slots r.index_of.rules.each) (first_run base index r.index_of range cuts r.divides edges r.are base)))
       ∙ slice_count base.rows (begin_of (take cuts.below index.slots)) (end_of (take cuts.below index.slots)) first_ends
 
   last_count : length (rows_of_slots base (drop cuts.reached index.slots)) ≡ size_of (drop cuts.reached index.slots)
   last_count =
-      ap length (sym (rows_run base index r.index_of range (drop cuts.reached index.slots) (drop_all_of (IsSlot columns) cuts.reached index.slots r.index_of.rules.each) (last_run base index r.index_of range cuts r.divides edges r.edges base)))
+      ap length (sym (rows_run base index r.index_of range (drop cuts.reached index.slots) (drop_all_of (IsSlot columns) cuts.reached index.slots r.index_of.rules.each) (last_run base index r.index_of range cuts r.divides edges r.are base)))
       ∙ slice_count base.rows (begin_of (drop cuts.reached index.slots)) (end_of (drop cuts.reached index.slots)) last_ends
 
   below_count : length (rows_below range base.rows) ≡ size_of (take cuts.below index.slots) + left_rows edges.below
   below_count =
       let first : List Row = rows_of_slots base (take cuts.below index.slots) in
       let low : List Row = rows_below range (rows_of_slots base (slice_range index.slots cuts.below cuts.begun)) in
-      let whole : length (rows_below range base.rows) ≡ length (first ++ low) = ap length (below_rows base index r.index_of range cuts r.divides edges r.edges base) in
-      omega (arith, whole, length-append first low, first_count, left_count base low edges.below r.edges.below)
+      let whole : length (rows_below range base.rows) ≡ length (first ++ low) = ap length (below_rows base index r.index_of range cuts r.divides edges r.are base) in
+      omega (arith, whole, length-append first low, first_count, left_count base low edges.below r.are.below)
 
   above_count : length (rows_above range base.rows) ≡ left_rows edges.above + size_of (drop cuts.reached index.slots)
   above_count =
       let last : List Row = rows_of_slots base (drop cuts.reached index.slots) in
       let high : List Row = rows_above range (rows_of_slots base (slice_range index.slots cuts.ended cuts.reached)) in
-      let whole : length (rows_above range base.rows) ≡ length (high ++ last) = ap length (above_rows base index r.index_of range cuts r.divides edges r.edges base) in
-      omega (arith, whole, length-append high last, last_count, left_count base high edges.above r.edges.above)
+      let whole : length (rows_above range base.rows) ≡ length (high ++ last) = ap length (above_rows base index r.index_of range cuts r.divides edges r.are base) in
+      omega (arith, whole, length-append high last, last_count, left_count base high edges.above r.are.above)
 
   -- and so do the edges
   pub below_left : left_rows edges.below ≤ 2000000

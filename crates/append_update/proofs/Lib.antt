@@ -32,3 +32,4 @@ pub mod EdgeLemmas
 pub mod CountLemmas
 pub mod ReplacedSizes
 pub mod ReplacePlans
+pub mod OutsideLemmas

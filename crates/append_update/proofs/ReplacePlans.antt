@@ -1,11 +1,13 @@
 -- The plan of an update or a delete of a range over the newest live version.
-use Rattle.std.proofs.Common.{◌≡◌, ℤ, Bool, true, false, [], refl, sym, ap, ◌∙◌, subst, inl, inr, Option, Some, None, Ok, Err}
-use Rattle.std.specs.Prelude.{filter, not}
+use Rattle.std.proofs.Common.{◌≡◌, ℕ, Bool, true, false, cond, [], refl, sym, ap, ◌∙◌, subst, inl, inr, Option, Some, None, Result, Ok, Err}
+use Rattle.std.specs.Prelude.{IfOk, IfErr, option_map}
 use Rattle.std.proofs.lemmas.Bool.{true≢false}
+use Rattle.frame_core.specs.declared.refusal.Extent.{Extent}
+use Rattle.frame_core.specs.declared.refusal.Refusal.{Refusal}
 use Rattle.frame_core.specs.declared.refusal.Refused.{Refused}
 use Rattle.frame_core.specs.Ranges.{Range, IsRange}
 use Rattle.frame_core.specs.Frames.{Frame}
-use Rattle.frame_core.specs.Limits.{IsStorable}
+use Rattle.frame_core.specs.Limits.{IsStorable, refuse_large}
 use Rattle.key_kind.specs.Names.{Name, same_name}
 use Rattle.bucket_core.specs.declared.event.Change.TheVariants as changes
 use Rattle.bucket_core.specs.declared.event.Event.TheVariants as events
@@ -42,11 +44,11 @@ replace_over_is h symbol options v base range cuts edges frame plan n divides ar
 no_versions : (h : History) (symbol : Name) → (state_of h symbol).has_reference ≡ false → (state_of h symbol).versions ≡ []
 no_versions [] symbol e = refl
 no_versions (events.Put c key body ∷ h) symbol e = no_versions h symbol e
-no_versions (events.Refer c s was entry list ∷ h) symbol e = by (same_name s symbol) e
+no_versions (events.Refer c s was entry list ∷ h) symbol e = by (no_versions h symbol) (same_name s symbol) e
   where
-    by : (b : Bool) → (if b then after_changes (state_of h symbol) list else state_of h symbol).has_reference ≡ false → (if b then after_changes (state_of h symbol) list else state_of h symbol).versions ≡ []
-    by true e = absurd (true≢false e)
-    by false e = no_versions h symbol e
+    by : ((state_of h symbol).has_reference ≡ false → (state_of h symbol).versions ≡ []) → (b : Bool) → (cond b (after_changes (state_of h symbol) list) (state_of h symbol)).has_reference ≡ false → (cond b (after_changes (state_of h symbol) list) (state_of h symbol)).versions ≡ []
+    by earlier true e = absurd (true≢false e)
+    by earlier false e = earlier e
 no_versions (events.Name c snap body ∷ h) symbol e = no_versions h symbol e
 no_versions (events.Unname c snap ∷ h) symbol e = no_versions h symbol e
 no_versions (events.Drop c key ∷ h) symbol e = no_versions h symbol e
@@ -67,13 +69,36 @@ module _ (h : History) (symbol : Name) (options : Options) (v : Version) (is : b
   clear_answer : answer_to (wishes.Clear range) options.prune options.at (state_of h symbol) ≡ update_answer (state_of h symbol) false options.prune options.at (Some range) (record v.frame { rows = [] })
   clear_answer = rw (base_has_reference h symbol v is, is) refl
 
-  pub clear_plan : (plan : LinkPlan) → IsPlanOf h symbol options (λ st. update_answer st false options.prune options.at (Some range) (record v.frame { rows = [] })) plan
-      → IsPlanOf h symbol options (answer_to (wishes.Clear range) options.prune options.at) plan
-  clear_plan plan p = record { fits = p.fits; answered = clear_answer ∙ p.answered }
+  -- so are its plans
+  pub clear_plans : (r : Result LinkPlan Refused) → IfOk r (IsPlanOf h symbol options (λ st. update_answer st false options.prune options.at (Some range) (record v.frame { rows = [] })))
+      → IfOk r (IsPlanOf h symbol options (answer_to (wishes.Clear range) options.prune options.at))
+  clear_plans (Ok plan) p = record { fits = p.fits; answered = clear_answer ∙ p.answered }
+  clear_plans (Err refused) p = tt
 
-  pub clear_refused : (client before now : _) (old new : History) (refused : Refused) → RefusesPlan client symbol (λ st. update_answer st false options.prune options.at (Some range) (record v.frame { rows = [] })) h before now old new refused
-      → RefusesPlan client symbol (answer_to (wishes.Clear range) options.prune options.at) h before now old new refused
-  clear_refused client before now old new refused r = elim r [
+  -- and its refusals
+  pub clear_refusals : (client before now : ℕ) (old new : History) (r : Result LinkPlan Refused) → IfErr r (RefusesPlan client symbol (λ st. update_answer st false options.prune options.at (Some range) (record v.frame { rows = [] })) h before now old new)
+      → IfErr r (RefusesPlan client symbol (answer_to (wishes.Clear range) options.prune options.at) h before now old new)
+  clear_refusals client before now old new (Ok plan) p = tt
+  clear_refusals client before now old new (Err refused) p = elim p [
     | inl look ↦ inl look
     | inr d ↦ inr (record { place = d.place; answered = clear_answer ∙ d.answered })
   ]
+
+-- ---- the refusals of a size
+
+pub large_some : (o : Option (Extent × ℕ)) (why : Refusal) → option_map refuse_large o ≡ Some why → (x : Extent × ℕ) × (o ≡ Some x) × (refuse_large x ≡ why)
+large_some None why e = absurd (none_is e)
+  where
+    none_is : None ≡ Some why → ⊥
+    none_is e = cc
+large_some (Some x) why e = (x, refl, some_same e)
+  where
+    some_same : {a b : Refusal} → Some a ≡ Some b → a ≡ b
+    some_same e = cc
+
+pub large_none : (o : Option (Extent × ℕ)) → option_map refuse_large o ≡ None → o ≡ None
+large_none None e = refl
+large_none (Some x) e = absurd (some_is e)
+  where
+    some_is : {a : Refusal} → Some a ≡ None → ⊥
+    some_is e = cc

@@ -47,4 +47,4 @@ left_rows (Some frame) = length frame.rows
 pub record Replaces (base : Frame) (range : Range) (index : Index) (cuts : Cuts) (edges : Edges) : Type 0 where
   pub index_of : IsIndexOf base index
   pub divides : Divides range index.slots cuts
-  pub edges : AreEdges base range index.slots cuts edges
+  pub are : AreEdges base range index.slots cuts edges

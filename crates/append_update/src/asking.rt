@@ -229,7 +229,10 @@ fn replace_over<R: Wait, B: Bucket<StoreLaw>>(
     }
     let many = exceeds_texts(rt, alloc, bucket, symbol, base, frame, Some(range))?;
     let cuts = Cuts::of(base.index.slots.items(), range);
-    let edges = edges_of(rt, alloc, bucket, symbol, base, range, cuts)?;
+    let edges = match edges_of(rt, alloc, bucket, symbol, base, range, cuts) {
+        Ok(edges) => edges,
+        Err(refused) => return Err(refused),
+    };
     if let Some(why) = replaced_too_large(&base.index, cuts, &edges, frame, many) {
         return Err(Refused { place, why });
     }

@@ -1,11 +1,16 @@
 //! Rows in place of those of the newest live version in a range.
 
-ghost use Rattle.std.specs.Prelude.{◌≤◌};
+ghost use Rattle.std.specs.Prelude.{◌≡◌, ◌≤◌, None, IfOk};
+ghost use Rattle.frame_core.specs.Ranges.{IsRange, is_within};
 ghost use Rattle.frame_core.specs.Limits.{IsStorable};
 ghost use Rattle.bucket_core.specs.Calls.{IsSteady};
 ghost use Rattle.version_chain.specs.Traces.{GoesOn};
+ghost use Rattle.reply_model.specs.CommitAnswers.{update_range, outside};
 ghost use Rattle.append_update.specs.Replies.{IsLegalUpdate, IsLegalDelete};
 
+use crate::attempt::try_all;
+use crate::cuts::{above, below};
+use crate::wish::Wish;
 use bucket_core::Bucket;
 use frame_core::{Frame, Range, Refusal, Refused};
 use frame_write::{Committed, Options};
@@ -38,10 +43,24 @@ pub fn update<R: Wait, B: Bucket<StoreLaw>>(
     ensures grown { GoesOn (B.number bucket.old) (B.sole bucket.old) (B.seen bucket.old) (B.seen bucket.new) }
     ensures legal { IsLegalUpdate (B.limit bucket.old) (B.number bucket.old) symbol.now frame.now range upsert options.now (B.faults bucket.old) (B.faults bucket.new) (B.seen bucket.old) (B.seen bucket.new) result }
 {
-    Err(Refused {
-        place: bucket.place(),
-        why: Refusal::NoMemory,
-    })
+    match range_of(frame, range) {
+        Ok(range) => try_all(
+            rt,
+            alloc,
+            bucket,
+            symbol,
+            &Wish::Replace {
+                frame,
+                range,
+                upsert,
+            },
+            options,
+        ),
+        Err(why) => Err(Refused {
+            place: bucket.place(),
+            why,
+        }),
+    }
 }
 
 /// Takes the rows of the symbol's newest live version in a range away, as a new version: an update by no rows, of the base's columns.
@@ -60,8 +79,56 @@ pub fn delete_range<R: Wait, B: Bucket<StoreLaw>>(
     ensures grown { GoesOn (B.number bucket.old) (B.sole bucket.old) (B.seen bucket.old) (B.seen bucket.new) }
     ensures legal { IsLegalDelete (B.limit bucket.old) (B.number bucket.old) symbol.now range options.now (B.faults bucket.old) (B.faults bucket.new) (B.seen bucket.old) (B.seen bucket.new) result }
 {
-    Err(Refused {
-        place: bucket.place(),
-        why: Refusal::NoMemory,
-    })
+    let range = ordered(range);
+    try_all(rt, alloc, bucket, symbol, &Wish::Clear(range), options)
+}
+
+/// The range of an update: the given one, in which all rows must lie, or that from the frame's first to its last stamp.
+fn range_of(frame: &Frame, range: Option<Range>) -> Result<Range, Refusal>
+    requires storable { IsStorable frame.now }
+    ensures range { result ≡ update_range range frame.now }
+    ensures order { IfOk result IsRange }
+    ensures inside { IfOk result (λ made. outside 1 made frame.now.rows ≡ None) }
+{
+    match range {
+        Some(range) => match first_outside(frame, range) {
+            Some(row) => Err(Refusal::OutsideRange { row }),
+            None => Ok(ordered(range)),
+        },
+        None => match frame.first_stamp() {
+            Some(first) => match Range::make(Some(first), frame.last_stamp()) {
+                Some(range) => Ok(ordered(range)),
+                None => Err(Refusal::EmptyUpdate),
+            },
+            None => Err(Refusal::EmptyUpdate),
+        },
+    }
+}
+
+/// The range, of which a contract learns here that its ends stand in order.
+fn ordered(range: Range) -> Range
+    ensures same { result ≡ range }
+    ensures order { IsRange result }
+{
+    let _from = range.from();
+    range
+}
+
+/// The first row, counted from 1, whose stamp lies outside a range.
+fn first_outside(frame: &Frame, range: Range) -> Option<u64>
+    ensures { result ≡ outside 1 range frame.now.rows }
+{
+    for row in 0..frame.rows() {
+        if !is_within(range, frame.stamp(row)) {
+            return Some(row + 1);
+        }
+    }
+    None
+}
+
+/// Whether a stamp lies in a range.
+fn is_within(range: Range, stamp: i64) -> bool
+    ensures { result ≡ is_within range stamp }
+{
+    !below(range, stamp) && !above(range, stamp)
 }
