@@ -1,6 +1,6 @@
 //! Rows in place of those of the newest live version in a range.
 
-ghost use Rattle.std.specs.Prelude.{◌≡◌, ◌≤◌, None, IfOk};
+ghost use Rattle.std.specs.Prelude.{◌≡◌, ◌≤◌, Some, None, IfOk};
 ghost use Rattle.frame_core.specs.Ranges.{IsRange, is_within};
 ghost use Rattle.frame_core.specs.Limits.{IsStorable};
 ghost use Rattle.bucket_core.specs.Calls.{IsSteady};
@@ -91,18 +91,37 @@ fn range_of(frame: &Frame, range: Option<Range>) -> Result<Range, Refusal>
     ensures inside { IfOk result (λ made. outside 1 made frame.now.rows ≡ None) }
 {
     match range {
-        Some(range) => match first_outside(frame, range) {
-            Some(row) => Err(Refusal::OutsideRange { row }),
-            None => Ok(ordered(range)),
-        },
-        None => match frame.first_stamp() {
-            Some(first) => match Range::make(Some(first), frame.last_stamp()) {
-                Some(range) => Ok(ordered(range)),
-                None => Err(Refusal::EmptyUpdate),
-            },
-            None => Err(Refusal::EmptyUpdate),
-        },
+        Some(range) => given_range(frame, range),
+        None => whole_range(frame),
     }
+}
+
+/// The given range, in which all rows must lie.
+fn given_range(frame: &Frame, range: Range) -> Result<Range, Refusal>
+    ensures range { result ≡ update_range (Some range) frame.now }
+    ensures order { IfOk result IsRange }
+    ensures inside { IfOk result (λ made. outside 1 made frame.now.rows ≡ None) }
+{
+    match first_outside(frame, range) {
+        Some(row) => Err(Refusal::OutsideRange { row }),
+        None => Ok(ordered(range)),
+    }
+}
+
+/// The range from the first to the last stamp.
+fn whole_range(frame: &Frame) -> Result<Range, Refusal>
+    requires storable { IsStorable frame.now }
+    ensures range { result ≡ update_range None frame.now }
+    ensures order { IfOk result IsRange }
+    ensures inside { IfOk result (λ made. outside 1 made frame.now.rows ≡ None) }
+{
+    let Some(first) = frame.first_stamp() else {
+        return Err(Refusal::EmptyUpdate);
+    };
+    let Some(range) = Range::make(Some(first), frame.last_stamp()) else {
+        return Err(Refusal::EmptyUpdate);
+    };
+    Ok(ordered(range))
 }
 
 /// The range, of which a contract learns here that its ends stand in order.
