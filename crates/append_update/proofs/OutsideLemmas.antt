@@ -25,7 +25,9 @@ outside_here range (r ∷ rows) (suc k) n t e out = outside_here range rows k n 
 pub outside_next : (range : Range) (rows : List Row) (k n : ℕ) (t : ℤ) → option_map (λ (r : Row). r.stamp) (slice_get rows k) ≡ Some t → is_within range t ≡ true → outside n range (drop k rows) ≡ outside (n + 1) range (drop (k + 1) rows)
 outside_next range [] k n t e inn = absurd (none_some e)
 outside_next range (r ∷ rows) zero n t e inn = let here : is_within range r.stamp ≡ true = ap (is_within range) (some_same e) ∙ inn in rw here refl
-outside_next range (r ∷ rows) (suc k) n t e inn = outside_next range rows k n t e inn
+outside_next range (r ∷ rows) (suc k) n t e inn =
+    let same : suc (k + 1) ≡ suc k + 1 = omega arith in
+    outside_next range rows k n t e inn ∙ ap (λ m. outside (n + 1) range (drop m (r ∷ rows))) same
 
 pub outside_end : (range : Range) (rows : List Row) (k n : ℕ) → length rows ≤ k → outside n range (drop k rows) ≡ None
 outside_end range rows k n le = ap (outside n range) (drop_all k rows le)

@@ -1,5 +1,5 @@
 -- The plan of an update or a delete of a range over the newest live version.
-use Rattle.std.proofs.Common.{◌≡◌, ℕ, Bool, true, false, cond, [], refl, sym, ap, ◌∙◌, subst, inl, inr, Option, Some, None, Result, Ok, Err}
+use Rattle.std.proofs.Common.{◌≡◌, ℕ, Bool, true, false, cond, [], ◌∷◌, refl, sym, ap, ◌∙◌, subst, inl, inr, Option, Some, None, Result, Ok, Err}
 use Rattle.std.specs.Prelude.{IfOk, IfErr, option_map}
 use Rattle.std.proofs.lemmas.Bool.{true≢false}
 use Rattle.frame_core.specs.declared.refusal.Extent.{Extent}
