@@ -4,3 +4,4 @@ pub mod RowLemmas
 pub mod Unreferred
 pub mod Adding
 pub mod Gone
+pub mod Authors

@@ -3,6 +3,7 @@
 
 mod dropping;
 mod event_name;
+mod kept;
 mod looking;
 mod naming;
 mod pass;
@@ -16,6 +17,7 @@ mod store;
 mod turn;
 mod unnaming;
 
+pub use kept::{Kept, PassName};
 pub use pass::Pass;
 pub use shared::Shared;
 pub use splitting::SplitFault;

@@ -1,13 +1,17 @@
 // A pass: a client's way to a shared store.
-ghost use Rattle.std.specs.Prelude.{◌≡◌, ◌≤◌, ◌^◌, length, true, false, IfOk};
+ghost use Rattle.std.specs.Prelude.{◌≡◌, ◌≤◌, ◌^◌, length, true, false, IfOk, IfErr, option_copied};
 ghost use Rattle.std.specs.Arc.{arc_value};
 ghost use Rattle.turn_cell.specs.Seats.{view, seen, Rests};
 ghost use Rattle.turn_cell.specs.Views.{first_view};
 ghost use Rattle.bucket_core.specs.History.{puts_by};
-ghost use Rattle.bucket_core.specs.Laws.{IsLawful};
-ghost use Rattle.bucket_core.specs.Calls.{refers_after};
+ghost use Rattle.bucket_core.specs.Laws.{IsLawful, Looks};
+ghost use Rattle.key_kind.specs.KeyText.{key_text};
+ghost use Rattle.bucket_core.specs.Calls.{MayTryRefer, MayTryDrop, IsSteady, IsFound, IsListed, refers_after};
+ghost use Rattle.bucket_core.specs.Calls.{RefusesLook, RefusesPut, RefusesRefer, RefusesName, DidChange, DidUnname, DidDrop};
+ghost use Rattle.bucket_core.specs.Calls.{put_event, refer_event, name_event, unname_event};
 ghost use Rattle.store_model.specs.Law.{IsClaimed};
-ghost use Rattle.bucket_shared.specs.Sole.{is_sole};
+ghost use Rattle.bucket_shared.specs.Authors.{AreEnded, AreHad};
+ghost use Rattle.bucket_shared.specs.Passes.{store_of, badge_of, seen_of, number_of, limit_of, sole_of, no_faults};
 ghost use Rattle.bucket_shared.specs.Stories.{history};
 
 use crate::dropping::drop_key;
@@ -46,6 +50,8 @@ pub struct Pass {
     ghost counted: { count ≡ length (seen seat) },
     ghost served: { next ≡ puts_by (view seat).badge.number (history seat) },
     ghost lawful: { ∥ IsLawful IsClaimed (history seat) ∥₁ },
+    ghost ended: { ∥ AreEnded (view seat).badge (seen seat) ∥₁ },
+    ghost had: { ∥ AreHad (view seat).badge (seen seat) ∥₁ },
 }
 
 impl Pass {
@@ -78,17 +84,17 @@ impl Pass {
 }
 
 impl Bucket<StoreLaw> for Pass {
-    ghost seen = { λ p. history p.seat };
+    ghost seen = { seen_of };
 
-    ghost number = { λ p. p.seat.me.0.badge.number };
+    ghost number = { number_of };
 
-    ghost limit = { λ p. p.most };
+    ghost limit = { limit_of };
 
-    ghost faults = { λ p. 0 };
+    ghost faults = { no_faults };
 
-    ghost sole = { λ p. is_sole p.seat.me.0.badge };
+    ghost sole = { sole_of };
 
-    ghost may_tell = { λ p symbol place answer. answer ≡ true → refers_after (history p.seat) symbol place ≡ false };
+    ghost may_tell = { λ p symbol place answer. answer ≡ true → refers_after (seen_of p) symbol place ≡ false };
 
     ghost lawful = { λ p. p.lawful };
 
@@ -104,7 +110,15 @@ impl Bucket<StoreLaw> for Pass {
         self.next
     }
 
-    fn get<R: Wait>(&mut self, rt: &R, key: &Key) -> Result<Found, StoreErr> {
+    // Beside the trait's clauses each call says that the pass stays one of its store, with its numbers.
+    fn get<R: Wait>(&mut self, rt: &R, key: &Key) -> Result<Found, StoreErr>
+        ensures looks { Looks IsClaimed (number_of self.old) (sole_of self.old) (seen_of self.old) (seen_of self.new) }
+        ensures steady { IsSteady number_of limit_of no_faults sole_of self.old self.new }
+        ensures found { IfOk result (IsFound (seen_of self.new) key.now) }
+        ensures refused { IfErr result (RefusesLook 0 0) }
+        ensures store { store_of self.new ≡ store_of self.old }
+        ensures badge { badge_of self.new ≡ badge_of self.old }
+    {
         let (found, count) = find(rt, &self.cell, &mut self.seat, key);
         self.count = count;
         match found {
@@ -118,7 +132,14 @@ impl Bucket<StoreLaw> for Pass {
         rt: &R,
         kind: Option<KeyKind>,
         name: Option<&Name>,
-    ) -> Result<Listed, StoreErr> {
+    ) -> Result<Listed, StoreErr>
+        ensures looks { Looks IsClaimed (number_of self.old) (sole_of self.old) (seen_of self.old) (seen_of self.new) }
+        ensures steady { IsSteady number_of limit_of no_faults sole_of self.old self.new }
+        ensures listed { IfOk result (IsListed (seen_of self.new) kind (option_copied name.entry)) }
+        ensures refused { IfErr result (RefusesLook 0 0) }
+        ensures store { store_of self.new ≡ store_of self.old }
+        ensures badge { badge_of self.new ≡ badge_of self.old }
+    {
         let (keys, count) = list(rt, self.alloc, &self.cell, &mut self.seat, kind, name);
         self.count = count;
         match keys {
@@ -127,7 +148,13 @@ impl Bucket<StoreLaw> for Pass {
         }
     }
 
-    fn put<R: Wait>(&mut self, rt: &R, key: Key, body: Arc<Body>) -> Result<u64, StoreErr> {
+    fn put<R: Wait>(&mut self, rt: &R, key: Key, body: Arc<Body>) -> Result<u64, StoreErr>
+        requires claim { IsClaimed (seen_of self.old) (put_event (number_of self.old) key (arc_value body)) }
+        ensures steady { IsSteady number_of limit_of no_faults sole_of self.old self.new }
+        ensures did { DidChange IsClaimed (number_of self.old) (sole_of self.old) (limit_of self.old) 0 0 (seen_of self.old) (seen_of self.new) (put_event (number_of self.old) key (arc_value body)) (RefusesPut (limit_of self.old)) result }
+        ensures store { store_of self.new ≡ store_of self.old }
+        ensures badge { badge_of self.new ≡ badge_of self.old }
+    {
         let (answer, count) = put::<Brand, R>(rt, &self.cell, &mut self.seat, self.most, key, body);
         self.count = count;
         if answer.is_ok() {
@@ -144,7 +171,14 @@ impl Bucket<StoreLaw> for Pass {
         entry: &Key,
         mark: Arc<Body>,
         changes: Arc<Changes>,
-    ) -> Result<u64, StoreErr> {
+    ) -> Result<u64, StoreErr>
+        requires may { MayTryRefer IsClaimed (seen_of self.old) (number_of self.old) symbol.now (option_copied was) entry.now (arc_value changes) }
+        requires mark { arc_value mark ≡ key_text entry.now }
+        ensures steady { IsSteady number_of limit_of no_faults sole_of self.old self.new }
+        ensures did { DidChange IsClaimed (number_of self.old) (sole_of self.old) (limit_of self.old) 0 0 (seen_of self.old) (seen_of self.new) (refer_event (number_of self.old) symbol.now (option_copied was.entry) entry.now (arc_value changes)) (RefusesRefer (limit_of self.old) symbol.now (option_copied was.entry)) result }
+        ensures store { store_of self.new ≡ store_of self.old }
+        ensures badge { badge_of self.new ≡ badge_of self.old }
+    {
         let made = match make_ready(self.alloc, symbol, entry, mark) {
             Ok(made) => made,
             Err(NoMemory) => return Err(StoreErr::NoMemory),
@@ -165,7 +199,13 @@ impl Bucket<StoreLaw> for Pass {
         answer
     }
 
-    fn name<R: Wait>(&mut self, rt: &R, snap: &SnapName, body: Arc<Body>) -> Result<u64, StoreErr> {
+    fn name<R: Wait>(&mut self, rt: &R, snap: &SnapName, body: Arc<Body>) -> Result<u64, StoreErr>
+        requires claim { IsClaimed (seen_of self.old) (name_event (number_of self.old) snap.now (arc_value body)) }
+        ensures steady { IsSteady number_of limit_of no_faults sole_of self.old self.new }
+        ensures did { DidChange IsClaimed (number_of self.old) (sole_of self.old) (limit_of self.old) 0 0 (seen_of self.old) (seen_of self.new) (name_event (number_of self.old) snap.now (arc_value body)) (RefusesName (limit_of self.old) snap.now) result }
+        ensures store { store_of self.new ≡ store_of self.old }
+        ensures badge { badge_of self.new ≡ badge_of self.old }
+    {
         let key = match Key::snapshot(self.alloc, snap) {
             Ok(key) => key,
             Err(NoMemory) => return Err(StoreErr::NoMemory),
@@ -183,7 +223,13 @@ impl Bucket<StoreLaw> for Pass {
         answer
     }
 
-    fn unname<R: Wait>(&mut self, rt: &R, snap: &SnapName, since: u64) -> Result<u64, StoreErr> {
+    fn unname<R: Wait>(&mut self, rt: &R, snap: &SnapName, since: u64) -> Result<u64, StoreErr>
+        requires claim { IsClaimed (seen_of self.old) (unname_event (number_of self.old) snap.now) }
+        ensures steady { IsSteady number_of limit_of no_faults sole_of self.old self.new }
+        ensures did { DidUnname IsClaimed (number_of self.old) (sole_of self.old) (limit_of self.old) 0 0 (seen_of self.old) (seen_of self.new) snap.now since result }
+        ensures store { store_of self.new ≡ store_of self.old }
+        ensures badge { badge_of self.new ≡ badge_of self.old }
+    {
         let key = match Key::snapshot(self.alloc, snap) {
             Ok(key) => key,
             Err(NoMemory) => return Err(StoreErr::NoMemory),
@@ -201,14 +247,28 @@ impl Bucket<StoreLaw> for Pass {
         answer
     }
 
-    fn drop_key<R: Wait>(&mut self, rt: &R, key: &Key) -> Result<Dropped, StoreErr> {
+    fn drop_key<R: Wait>(&mut self, rt: &R, key: &Key) -> Result<Dropped, StoreErr>
+        requires may { MayTryDrop IsClaimed (seen_of self.old) (number_of self.old) key.now }
+        ensures steady { IsSteady number_of limit_of no_faults sole_of self.old self.new }
+        ensures did { DidDrop IsClaimed (number_of self.old) (sole_of self.old) (limit_of self.old) 0 0 (seen_of self.old) (seen_of self.new) key.now result }
+        ensures store { store_of self.new ≡ store_of self.old }
+        ensures badge { badge_of self.new ≡ badge_of self.old }
+    {
         let (answer, count) = drop_key::<Brand, R>(rt, &self.cell, &mut self.seat, self.most, key);
         self.count = count;
         answer
     }
 
     /// One look at the word of the symbol's row.
-    fn unchanged(&mut self, symbol: &Symbol, place: u64) -> bool {
+    fn unchanged(&mut self, symbol: &Symbol, place: u64) -> bool
+        requires seen { place ≤ length (seen_of self.old) }
+        ensures same { seen_of self.new ≡ seen_of self.old }
+        ensures steady { IsSteady number_of limit_of no_faults sole_of self.old self.new }
+        ensures told { result ≡ true → refers_after (seen_of self.old) symbol.now place ≡ false }
+        ensures unchanged { result ≡ true → refers_after (seen_of self.old) symbol.now place ≡ false }
+        ensures store { store_of self.new ≡ store_of self.old }
+        ensures badge { badge_of self.new ≡ badge_of self.old }
+    {
         let row = row_of(symbol.name());
         self.cell.unchanged(&mut self.seat, row, place)
     }

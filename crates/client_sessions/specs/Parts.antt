@@ -1,8 +1,7 @@
 -- What the parts of a script leave: the first commands, a block for each client, and the last commands.
 --     Parts                   the commands of the parts
---     AreTalksOf              a talk for each block
 --     IsRun                   the replies of all parts are legal in the one history
-use Rattle.std.specs.Prelude.{◌≡◌, ℕ, List, [], ◌∷◌, ◌++◌, length, ⊤}
+use Rattle.std.specs.Prelude.{◌≡◌, ℕ, List, [], ◌++◌, length}
 use Rattle.bucket_core.specs.History.{History}
 use Rattle.store_model.specs.Law.{IsLawful}
 use Rattle.expr_clause.specs.declared.command.Command.{Command}
@@ -13,19 +12,13 @@ use Rattle.reply_model.specs.Blocks.{Cutting}
 use Rattle.reply_model.specs.Standing.{RunsAlone}
 use Rattle.client_sessions.specs.declared.parts.PartReplies.{PartReplies}
 use Rattle.client_sessions.specs.Sessions.{talk_of, AreServed, AreUncut}
+use Rattle.client_sessions.specs.Blocks.{AreTalksOf}
 
 -- the commands of the parts
 pub record Parts : Type 0 where
   pub first : List Command
   pub blocks : List (List Command)
   pub last : List Command
-
--- a talk for each block, in order, with the block's commands and its replies; its client is as those of the run, but for its number
-abbrev pub AreTalksOf : (ℕ → Client) → List (List Command) → List (List Reply) → List Talk → Type 0
-AreTalksOf client [] [] [] = ⊤
-AreTalksOf client (commands ∷ blocks) (replies ∷ told) (t ∷ talks) =
-    (t ≡ talk_of (client t.client.session.client) commands replies t.windows) × AreTalksOf client blocks told talks
-AreTalksOf client _ _ _ = ⊥
 
 -- the history goes on lawfully from an older one; the replies of all parts are legal in it, the first and the last ones as those of the
 -- client `own`; and these two parts, where all their commands are served and none of their replies is cut, are runs of this client alone

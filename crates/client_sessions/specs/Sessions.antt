@@ -5,6 +5,7 @@
 --     IsSession               the replies are legal in the history that goes on from an older one
 use Rattle.std.specs.Prelude.{◌≡◌, ℕ, ◌<◌, ◌≤◌, Bool, true, false, List, ◌++◌, length}
 use Rattle.std.specs.List.{AllByRecursion}
+use Rattle.base_types.specs.Faults.{Rose}
 use Rattle.bucket_core.specs.History.{History, author}
 use Rattle.store_model.specs.Law.{IsLawful}
 use Rattle.expr_clause.specs.declared.command.Command.{Command}
@@ -36,9 +37,10 @@ abbrev pub AreUncut : List Reply → Type 0
 AreUncut = AllByRecursion (λ (r : Reply). is_cut r.outcome ≡ false)
 
 -- the history goes on lawfully from an older one, by events of this client alone where its bucket is sole; there is a reply and a window
--- for each command, in order, and each reply is legal for its window; each added event lies in a window; no call of the store failed; and
--- where the bucket is sole, all commands are served and no reply is cut, the replies are those of this client alone
-pub record IsSession (cutting : Cutting) (client : Client) (sole : Bool) (commands : List Command) (replies : List Reply) (old new : History) : Type 0 where
+-- for each command, in order, and each reply is legal for its window; each added place lies in a window; no call of the store failed, unless
+-- its count of faults rose; and where the bucket is sole, all commands are served and no reply is cut, the replies are those of this client
+-- alone
+pub record IsSession (cutting : Cutting) (client : Client) (sole : Bool) (before now : ℕ) (commands : List Command) (replies : List Reply) (old new : History) : Type 0 where
   pub more : History
   pub goes_on : new ≡ more ++ old
   pub lawful : IsLawful old → IsLawful new
@@ -46,5 +48,5 @@ pub record IsSession (cutting : Cutting) (client : Client) (sole : Bool) (comman
   pub windows : List Window
   pub legal : IsLegalTalk new (length old) (talk_of client commands replies windows)
   pub covered : (n : ℕ) → length old < n → n ≤ length new → is_covered windows n ≡ true
-  pub no_fault : HasNoFault (talk_of client commands replies windows)
+  pub no_fault : (Rose before now → ⊥) → HasNoFault (talk_of client commands replies windows)
   pub alone : sole ≡ true → IsLawful old → AreServed commands → AreUncut replies → RunsAlone cutting client.session commands replies old new

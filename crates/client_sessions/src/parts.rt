@@ -1,7 +1,8 @@
 ghost use Rattle.std.specs.Prelude.{◌≡◌, true, length, IfOk, OnErr};
 ghost use Rattle.std.specs.List.{AllByRecursion};
 ghost use Rattle.library_api.specs.Libraries.{AreSettings};
-ghost use Rattle.library_api.specs.Steps.{client_of, run_cutting};
+ghost use Rattle.library_api.specs.Steps.{run_cutting};
+ghost use Rattle.client_sessions.specs.Blocks.{clients_of};
 ghost use Rattle.client_sessions.specs.Sessions.{AreNamed};
 ghost use Rattle.client_sessions.specs.Parts.{IsRun};
 
@@ -51,7 +52,7 @@ pub fn run_parts<R: Threads + Wait + Sync, G: Gate>(
     requires first { AreNamed (length frames.now) first.now }
     requires blocks { AllByRecursion (AreNamed (length frames.now)) blocks.now }
     requires last { AreNamed (length frames.now) last.now }
-    ensures ran { IfOk result.1 (λ replies. IsRun (run_cutting settings.cutting) (λ n. client_of frames.entry.now settings n (⟦<Pass as Bucket<StoreLaw>>⟧.limit pass)) (⟦<Pass as Bucket<StoreLaw>>⟧.number pass) (record { first = first.now; blocks = blocks.now; last = last.now }) replies (⟦<Pass as Bucket<StoreLaw>>⟧.seen pass) (⟦<Pass as Bucket<StoreLaw>>⟧.seen result.0)) }
+    ensures ran { IfOk result.1 (λ replies. IsRun (run_cutting settings.cutting) (clients_of frames.now settings (⟦<Pass as Bucket<StoreLaw>>⟧.limit pass)) (⟦<Pass as Bucket<StoreLaw>>⟧.number pass) (record { first = first.now; blocks = blocks.now; last = last.now }) replies (⟦<Pass as Bucket<StoreLaw>>⟧.seen pass) (⟦<Pass as Bucket<StoreLaw>>⟧.seen result.0)) }
     ensures memory { OnErr result.1 (result.0 ≡ pass) }
     ensures client { ⟦<Pass as Bucket<StoreLaw>>⟧.number result.0 ≡ ⟦<Pass as Bucket<StoreLaw>>⟧.number pass }
     ensures limit { ⟦<Pass as Bucket<StoreLaw>>⟧.limit result.0 ≡ ⟦<Pass as Bucket<StoreLaw>>⟧.limit pass }

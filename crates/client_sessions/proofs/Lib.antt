@@ -1,0 +1,5 @@
+pub mod Windows
+pub mod Events
+pub mod Talks
+pub mod Sessions
+pub mod Blocks
