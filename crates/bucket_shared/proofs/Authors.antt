@@ -21,7 +21,7 @@ use Rattle.bucket_shared.specs.Authors.{HasEnded, AreEnded, AreHad}
 use Rattle.bucket_shared.specs.Sole.{has_number, is_sole}
 use Rattle.bucket_shared.specs.Stories.{event_row}
 use Rattle.bucket_shared.proofs.Growth.{others_append, others_behind}
-use Rattle.bucket_shared.proofs.SoleSeats.{either, IsSole-found}
+use Rattle.bucket_shared.proofs.SoleSeats.{either, and_true, IsSole-found}
 
 -- ---- ended clients
 
@@ -87,26 +87,32 @@ AreEnded-join v w log p q left right used apart kv kw = record {
 
 -- what a seat finds with the turn
 pub AreHad-finds : (v w : View Event) → Finds author event_row v w → AreHad w.badge w.seen
-AreHad-finds v w finds sole =
-    let same : w.badge ≡ v.badge = ap (λ (x : View Event). x.badge) finds.same in
-    subst (λ (b : Badge). All (λ e. Has b (author e)) w.seen) (sym same) (finds.sole_authors (IsSole-found v.badge (sym (ap is_sole same) ∙ sole)))
+AreHad-finds v w finds = record {
+  each = λ sole.
+      let same : w.badge ≡ v.badge = ap (λ (x : View Event). x.badge) finds.same in
+      subst (λ (b : Badge). All (λ e. Has b (author e)) w.seen) (sym same) (finds.sole_authors (IsSole-found v.badge (sym (ap is_sole same) ∙ sole)));
+}
 
 -- an event of the own client is added
 pub AreHad-add : (b : Badge) (xs : List Event) (e : Event) → b.in_use ≡ true → author e ≡ b.number → AreHad b xs → AreHad b (xs ++ e ∷ [])
-AreHad-add b xs e used own had sole = All-append (λ x. Has b (author x)) xs (e ∷ []) (had sole) (All-cons (λ x. Has b (author x)) e [] (inl (used, own)) (λ k d lt. absurd (omega (arith, lt))))
+AreHad-add b xs e used own had = record {
+  each = λ sole. All-append (λ x. Has b (author x)) xs (e ∷ []) (had.each sole) (All-cons (λ x. Has b (author x)) e [] (inl (used, own)) (λ k d lt. absurd (omega (arith, lt))));
+}
 
 -- a number is given out
 pub AreHad-split : (b : Badge) (n : ℕ) (log : List Event) → AreHad b log → AreHad (badge_after_split b n) log
-AreHad-split b n log had sole =
-    let used = and_parts b.in_use (has_number b b.first && (has_number b n && list_all (has_number b) b.gave)) sole in
-    let rest = and_parts (has_number b b.first) (has_number b n && list_all (has_number b) b.gave) used.1 in
-    let gave = and_parts (has_number b n) (list_all (has_number b) b.gave) rest.1 in
-    let before : is_sole b ≡ true = rw used.0 (rw rest.0 gave.1) in
-    had before
+AreHad-split b n log had = record { each = λ sole. had.each (before sole) }
+  where
+    before : is_sole (badge_after_split b n) ≡ true → is_sole b ≡ true
+    before sole =
+        let used = and_parts b.in_use (has_number b b.first && (has_number b n && list_all (has_number b) b.gave)) sole in
+        let rest = and_parts (has_number b b.first) (has_number b n && list_all (has_number b) b.gave) used.1 in
+        let gave = and_parts (has_number b n) (list_all (has_number b) b.gave) rest.1 in
+        and_true b.in_use (has_number b b.first && list_all (has_number b) b.gave) used.0 (and_true (has_number b b.first) (list_all (has_number b) b.gave) rest.0 gave.1)
 
 -- the seat that got it is not the first one
 pub AreHad-new : (b : Badge) (n : ℕ) (log : List Event) → b.first < n → AreHad (new_badge b n) log
-AreHad-new b n log less sole = absurd (not_first (either (n == b.first) false (and_parts ((n == b.first) || false) true sole).0))
+AreHad-new b n log less = record { each = λ sole. absurd (not_first (either (n == b.first) false (and_parts ((n == b.first) || false) true sole).0)) }
   where
     not_first : ((n == b.first) ≡ true) ⊎ (false ≡ true) → ⊥
     not_first (inl is) = let same : n ≡ b.first = eqb-true n b.first is in omega (arith, less, same)

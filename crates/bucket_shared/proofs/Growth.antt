@@ -32,7 +32,7 @@ pub others_append : (n : ℕ) (xs ys : History) → AllByOthers n xs → AllByOt
 others_append n [] ys a b = b
 others_append n (x ∷ xs) ys a b = (a.0, others_append n xs ys a.1 b)
 
-others_reverse : (n : ℕ) (xs : History) → AllByOthers n xs → AllByOthers n (reverse xs)
+pub others_reverse : (n : ℕ) (xs : History) → AllByOthers n xs → AllByOthers n (reverse xs)
 others_reverse n [] a = tt
 others_reverse n (x ∷ xs) a = subst (AllByOthers n) (sym (reverse-append (x ∷ []) xs)) (others_append n (reverse xs) (x ∷ []) (others_reverse n xs a.1) (a.0, tt))
 

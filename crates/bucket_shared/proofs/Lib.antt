@@ -5,3 +5,4 @@ pub mod Unreferred
 pub mod Adding
 pub mod Gone
 pub mod Authors
+pub mod Passes

@@ -49,6 +49,10 @@ IsSole-found b e =
 
 -- ---- and a sole seat is found sole
 
+pub and_true : (a b : Bool) → a ≡ true → b ≡ true → (a && b) ≡ true
+and_true true b e f = f
+and_true false b e f = absurd (true≢false (sym e))
+
 joined_among : (js : List Joined) (n l : ℕ) → Among (joined_at n l) js → list_any (λ j. j.number == n) js ≡ true
 joined_among [] n l a = absurd a
 joined_among (j ∷ js) n l (inl is) = let same : j.number ≡ n = sym (ap (λ (x : Joined). x.number) is) in rw (eq-eqb j.number n same) refl
@@ -60,7 +64,7 @@ has_number-true b n (inr t) = or_true (b.in_use && (b.number == n)) (list_any (�
 
 all_had : (b : Badge) (ns : List ℕ) → ((n : ℕ) → Among n ns → Has b n) → list_all (has_number b) ns ≡ true
 all_had b [] had = refl
-all_had b (m ∷ ms) had = rw (has_number-true b m (had m (inl refl))) (all_had b ms (λ n a. had n (inr a)))
+all_had b (m ∷ ms) had = and_true (has_number b m) (list_all (has_number b) ms) (has_number-true b m (had m (inl refl))) (all_had b ms (λ n a. had n (inr a)))
 
 pub is_sole-true : (b : Badge) → IsSole b → is_sole b ≡ true
-is_sole-true b sole = rw sole.0 (rw (has_number-true b b.first sole.1.0) (all_had b b.gave sole.1.1))
+is_sole-true b sole = and_true b.in_use (has_number b b.first && list_all (has_number b) b.gave) sole.0 (and_true (has_number b b.first) (list_all (has_number b) b.gave) (has_number-true b b.first sole.1) (all_had b b.gave sole.2))

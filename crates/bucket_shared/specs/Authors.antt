@@ -20,5 +20,5 @@ pub record AreEnded (badge : Badge) (log : List Event) : Type 0 where
   pub apart : (n l : ℕ) → Among (joined_at n l) badge.joined → n ≢ badge.number
 
 -- where no other seat is in use, the seat has the client of each event
-abbrev pub AreHad : Badge → List Event → Type 0
-AreHad badge log = is_sole badge ≡ true → All (λ e. Has badge (author e)) log
+pub record AreHad (badge : Badge) (log : List Event) : Type 0 where
+  pub each : is_sole badge ≡ true → All (λ e. Has badge (author e)) log

@@ -1,6 +1,7 @@
 //! One store for many clients: passes over one shared history.
 #![tactic(auto)]
 
+mod calls;
 mod dropping;
 mod event_name;
 mod kept;

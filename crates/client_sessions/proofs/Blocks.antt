@@ -30,6 +30,9 @@ use Rattle.client_sessions.proofs.Talks.{calm, all_map, talk_later, talks_later,
 pub longer : (more old new : History) → new ≡ more ++ old → length old ≤ length new
 longer more old new is = let size : length new ≡ length (more ++ old) = ap (λ (h : History). length h) is in omega (arith, size, length-append more old)
 
+some_block : (block : List Command) (blocks : List (List Command)) → block ∷ blocks ≡ [] → ⊥
+some_block block blocks none = absurd (omega (arith, ap length none))
+
 -- no blocks
 pub run_none : (client : ℕ → Client) (p : Pass) → AreRun client [] [] p p
 run_none client p = record {
@@ -41,6 +44,7 @@ run_none client p = record {
   more = [];
   goes_on = refl;
   lawful = λ l. l;
+  without_blocks = λ none. refl;
   talks = [];
   talks_are = tt;
   legal = tt;
@@ -89,6 +93,7 @@ module _ (cutting : Cutting) (client : ℕ → Client) (named : (n : ℕ) → (c
             ∙ (ap (λ (h : History). r.more ++ h) (s.session.goes_on ∙ (ap (λ (h : History). s.session.more ++ h) looks.is ∙ sym (append_assoc s.session.more looks.others (seen_of p0))))
             ∙ sym (append_assoc r.more (s.session.more ++ looks.others) (seen_of p0)));
         lawful = λ l. r.lawful (s.session.lawful (looks.lawful l));
+        without_blocks = λ none. absurd (some_block block blocks none);
         talks = here ∷ r.talks;
         talks_are = (ap (λ (n : ℕ). talk_of (client n) block replies s.session.windows) (sym (named (number_of p))), r.talks_are);
         legal = (
@@ -197,6 +202,7 @@ module _ (cutting : Cutting) (client : ℕ → Client) (named : (n : ℕ) → (c
             ∙ (ap (λ (h : History). looks3.others ++ h) (r.goes_on ∙ (ap (λ (h : History). r.more ++ h) looks.is ∙ sym (append_assoc r.more looks.others (seen_of p0))))
             ∙ sym (append_assoc looks3.others (r.more ++ looks.others) (seen_of p0)));
         lawful = λ l. looks3.lawful (r.lawful (looks.lawful l));
+        without_blocks = λ none. absurd (some_block block blocks none);
         talks = beside ∷ r.talks;
         talks_are = (ap (λ (n : ℕ). talk_of (client n) block replies s.session.windows) (sym (named (number_of o))), r.talks_are);
         legal = (

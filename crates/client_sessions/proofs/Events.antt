@@ -1,6 +1,7 @@
 -- Events of places, and who made them.
 use Rattle.std.proofs.Common.{◌≡◌, ◌≢◌, ℕ, zero, suc, ◌<◌, ◌≤◌, Bool, true, false, cond, List, [], ◌∷◌, ◌++◌, length, Option, Some, None, refl, sym, ap, ◌∙◌, subst, inl, inr, arith, length-append}
 use Rattle.std.specs.Prelude.{Any, nat_le}
+use Rattle.std.specs.List.{AllByRecursion}
 use Rattle.std.proofs.lemmas.Bool.{cases_lt, leb-true, le-leb}
 use Rattle.bucket_core.specs.declared.event.Event.{Event}
 use Rattle.bucket_core.specs.History.{History, author, event_at, history_at, newest, AllByOthers}
@@ -44,8 +45,8 @@ pub others_at : (client : ℕ) (h : History) (n : ℕ) (e : Event) → AllByOthe
 others_at client [] n e a at own = none n at
   where
     none : (n : ℕ) → event_at [] n ≡ Some e → ⊥
-    none zero found = absurd (no_event e found)
-    none (suc n) found = absurd (no_event e found)
+    none zero found = no_event e found
+    none (suc n) found = no_event e found
 others_at client (x ∷ h) n e a at own = elim (cases_lt (length h) n) [
   | inl beyond ↦
       let le : n ≤ length (x ∷ h) = event_within (x ∷ h) n e at in
@@ -53,6 +54,21 @@ others_at client (x ∷ h) n e a at own = elim (cases_lt (length h) n) [
       let is : x ≡ e = some_is x e (sym (event_at_end x h) ∙ (ap (event_at (x ∷ h)) (sym last) ∙ at)) in
       a.0 (ap author is ∙ own)
   | inr within ↦ others_at client h n e a.1 (sym (event_at_later x h n within) ∙ at) own
+]
+
+-- what holds of each event holds of that of a place
+pub all_at : (P : Event → Type 0) (h : History) (n : ℕ) (e : Event) → AllByRecursion P h → event_at h n ≡ Some e → P e
+all_at P [] n e all at = absurd (none n at)
+  where
+    none : (n : ℕ) → event_at [] n ≡ Some e → ⊥
+    none zero found = no_event e found
+    none (suc n) found = no_event e found
+all_at P (x ∷ h) n e all at = elim (cases_lt (length h) n) [
+  | inl beyond ↦
+      let le : n ≤ length (x ∷ h) = event_within (x ∷ h) n e at in
+      let last : n ≡ suc (length h) = omega (arith, beyond, le) in
+      subst P (some_is x e (sym (event_at_end x h) ∙ (ap (event_at (x ∷ h)) (sym last) ∙ at))) all.0
+  | inr within ↦ all_at P h n e all.1 (sym (event_at_later x h n within) ∙ at)
 ]
 
 -- ---- one of a list

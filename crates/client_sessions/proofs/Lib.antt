@@ -3,3 +3,5 @@ pub mod Events
 pub mod Talks
 pub mod Sessions
 pub mod Blocks
+pub mod Passes
+pub mod Runs

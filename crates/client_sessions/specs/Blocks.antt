@@ -57,6 +57,7 @@ pub record AreRun (client : ℕ → Client) (blocks : List (List Command)) (repl
   pub more : History
   pub goes_on : seen_of new ≡ more ++ seen_of old
   pub lawful : IsLawful (seen_of old) → IsLawful (seen_of new)
+  pub without_blocks : blocks ≡ [] → seen_of new ≡ seen_of old
   pub talks : List Talk
   pub talks_are : AreTalksOf client blocks replies talks
   pub legal : AllByRecursion (IsLegalTalk (seen_of new) (length (seen_of old))) talks

@@ -3,7 +3,7 @@ use Rattle.std.proofs.lemmas.Bool.{OnTrue_at}
 use Rattle.key_kind.specs.Names.{Name}
 use Rattle.bucket_shared.specs.Rows.{row}
 use Rattle.bucket_shared.proofs.Unreferred.{refers_after-row}
-use Rattle.bucket_shared.proofs.pass.PassBucketStoreLaw.unchanged.Goals as goal
+use Rattle.bucket_shared.proofs.calls.PassBucketStoreLaw.unchanged.Goals as goal
 
 pub returns-clause-told : goal.returns-clause-told
 returns-clause-told c = λ yes.

@@ -3,7 +3,7 @@ use Rattle.std.specs.Prelude.{is_ok}
 use Rattle.bucket_core.specs.History.{puts_by}
 use Rattle.bucket_shared.specs.Stories.{history}
 use Rattle.bucket_shared.proofs.Adding.{was_ok}
-use Rattle.bucket_shared.proofs.pass.PassBucketStoreLaw.put.Goals as goal
+use Rattle.bucket_shared.proofs.calls.PassBucketStoreLaw.put.Goals as goal
 
 pub overflow_add-self : goal.overflow_add-self
 overflow_add-self g c =
