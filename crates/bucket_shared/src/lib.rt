@@ -15,6 +15,8 @@ mod row;
 mod shared;
 mod splitting;
 mod store;
+#[cfg(test)]
+mod tests;
 mod turn;
 mod unnaming;
 

@@ -6,6 +6,8 @@ ghost use Rattle.client_sessions.specs.Blocks.{clients_of};
 ghost use Rattle.client_sessions.specs.Sessions.{AreNamed};
 ghost use Rattle.client_sessions.specs.Parts.{IsRun};
 
+use crate::blocks::{run_blocks, session};
+use crate::room::PartRooms;
 use base_types::{Items, NoMemory};
 use bucket_core::{Bucket, Gate};
 use bucket_shared::Pass;
@@ -58,5 +60,23 @@ pub fn run_parts<R: Threads + Wait + Sync, G: Gate>(
     ensures limit { ⟦<Pass as Bucket<StoreLaw>>⟧.limit result.0 ≡ ⟦<Pass as Bucket<StoreLaw>>⟧.limit pass }
     ensures sole { ⟦<Pass as Bucket<StoreLaw>>⟧.sole result.0 ≡ true }
 {
-    (pass, Err(NoMemory))
+    let PartRooms {
+        first: first_room,
+        blocks: rooms,
+        told,
+        last: last_room,
+    } = match PartRooms::make(alloc, first, blocks, last) {
+        Ok(rooms) => rooms,
+        Err(NoMemory) => return (pass, Err(NoMemory)),
+    };
+    let (pass, begun) = session(rt, alloc, pass, gate, settings, frames, first, first_room);
+    let (pass, mut told) = run_blocks(rt, alloc, pass, gate, settings, frames, blocks, rooms, told);
+    let (pass, ended) = session(rt, alloc, pass, gate, settings, frames, last, last_room);
+    told.reverse();
+    let replies = PartReplies {
+        first: begun,
+        blocks: Items::from_vec(told),
+        last: ended,
+    };
+    (pass, Ok(replies))
 }

@@ -40,3 +40,35 @@ pub(crate) fn make_rooms(alloc: Global, blocks: &[Items<Command>]) -> Result<Vec
     rooms.reverse();
     Ok(rooms)
 }
+
+/// Memory for the replies of all parts of a script.
+#[derive(Drop)]
+pub(crate) struct PartRooms {
+    pub(crate) first: Room,
+    pub(crate) blocks: Vec<Room>,
+    pub(crate) told: Vec<Items<Reply>>,
+    pub(crate) last: Room,
+}
+
+impl PartRooms {
+    /// The memory.
+    pub(crate) fn make(
+        alloc: Global,
+        first: &[Command],
+        blocks: &[Items<Command>],
+        last: &[Command],
+    ) -> Result<PartRooms, NoMemory>
+        ensures first { IfOk result (λ rooms. rooms.first.count ≡ length first.now) }
+        ensures blocks { IfOk result (λ rooms. map (λ (r : Memory). r.count) rooms.blocks.items ≡ reverse (map length blocks.now)) }
+        ensures none { IfOk result (λ rooms. rooms.told.items ≡ []) }
+        ensures space { IfOk result (λ rooms. length blocks.now ≤ vec_capacity rooms.told) }
+        ensures last { IfOk result (λ rooms. rooms.last.count ≡ length last.now) }
+    {
+        Ok(PartRooms {
+            first: Room::make(alloc, first.len())?,
+            blocks: make_rooms(alloc, blocks)?,
+            told: Vec::with_capacity(alloc, blocks.len())?,
+            last: Room::make(alloc, last.len())?,
+        })
+    }
+}
