@@ -1,5 +1,5 @@
 -- Events of places, and who made them.
-use Rattle.std.proofs.Common.{◌≡◌, ◌≢◌, ℕ, zero, suc, ◌<◌, ◌≤◌, Bool, true, false, cond, List, [], ◌∷◌, ◌++◌, length, Option, Some, None, refl, sym, ap, ◌∙◌, subst, inl, inr, arith, length-append}
+use Rattle.std.proofs.Common.{◌≡◌, ◌≢◌, ℕ, suc, ◌<◌, ◌≤◌, Bool, true, false, cond, List, [], ◌∷◌, ◌++◌, length, Option, Some, None, refl, sym, ap, ◌∙◌, subst, inl, inr, arith, length-append}
 use Rattle.std.specs.Prelude.{Any, nat_le}
 use Rattle.std.specs.List.{AllByRecursion}
 use Rattle.std.proofs.lemmas.Bool.{cases_lt, leb-true, le-leb}
@@ -20,6 +20,13 @@ event_within h n e at = of (nat_le n (length h)) refl at
     of : (b : Bool) → nat_le n (length h) ≡ b → cond b (newest (history_at h n)) None ≡ Some e → n ≤ length h
     of true is found = leb-true n (length h) is
     of false is found = absurd (no_event e found)
+
+-- no history has none
+no_place : (n : ℕ) (e : Event) → event_at [] n ≡ Some e → ⊥
+no_place n e at =
+    let le : n ≤ 0 = event_within [] n e at in
+    let is : n ≡ 0 = omega (arith, le) in
+    no_event e (subst (λ (k : ℕ). event_at [] k ≡ Some e) is at)
 
 -- the event of a place stays what it is
 pub event_at_more : (more h : History) (n : ℕ) → n ≤ length h → event_at (more ++ h) n ≡ event_at h n
@@ -42,11 +49,7 @@ others_above client (x ∷ more) h n e a lt at own = elim (cases_lt (length (mor
 
 -- nor is any event of a client that has none
 pub others_at : (client : ℕ) (h : History) (n : ℕ) (e : Event) → AllByOthers client h → event_at h n ≡ Some e → author e ≢ client
-others_at client [] n e a at own = none n at
-  where
-    none : (n : ℕ) → event_at [] n ≡ Some e → ⊥
-    none zero found = no_event e found
-    none (suc n) found = no_event e found
+others_at client [] n e a at own = no_place n e at
 others_at client (x ∷ h) n e a at own = elim (cases_lt (length h) n) [
   | inl beyond ↦
       let le : n ≤ length (x ∷ h) = event_within (x ∷ h) n e at in
@@ -58,11 +61,7 @@ others_at client (x ∷ h) n e a at own = elim (cases_lt (length h) n) [
 
 -- what holds of each event holds of that of a place
 pub all_at : (P : Event → Type 0) (h : History) (n : ℕ) (e : Event) → AllByRecursion P h → event_at h n ≡ Some e → P e
-all_at P [] n e all at = absurd (none n at)
-  where
-    none : (n : ℕ) → event_at [] n ≡ Some e → ⊥
-    none zero found = no_event e found
-    none (suc n) found = no_event e found
+all_at P [] n e all at = absurd (no_place n e at)
 all_at P (x ∷ h) n e all at = elim (cases_lt (length h) n) [
   | inl beyond ↦
       let le : n ≤ length (x ∷ h) = event_within (x ∷ h) n e at in

@@ -2,6 +2,6 @@ pub mod Windows
 pub mod Events
 pub mod Talks
 pub mod Sessions
-pub mod Blocks
+pub mod BlockRuns
 pub mod Passes
 pub mod Runs

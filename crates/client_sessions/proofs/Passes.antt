@@ -3,7 +3,7 @@ use Rattle.std.proofs.Common.{◌≡◌, ℕ, suc, ◌<◌, ◌≤◌, true, Lis
 use Rattle.std.specs.Prelude.{All}
 use Rattle.std.specs.List.{AllByRecursion}
 use Rattle.std.proofs.lemmas.Bool.{cases_lt}
-use Rattle.std.proofs.lemmas.List.{take-append-drop, reverse-append, length-reverse, length-take}
+use Rattle.std.proofs.lemmas.List.{take-append-drop, reverse-append, length-reverse, length-take-le}
 use mathlib.Core.Logic.{∥∥₁_elim}
 use denote.Struct.Props.{props}
 use Rattle.segment_cut.proofs.Lists.{all-append}
@@ -49,7 +49,7 @@ module _ (p : Pass) where
   none_behind m l n e h at own beyond =
       let log = p.seat.me.0.seen in
       let is : seen_of p ≡ reverse (drop l log) ++ reverse (take l log) = ap reverse (sym (take-append-drop l log)) ∙ reverse-append (take l log) (drop l log) in
-      let size : length (reverse (take l log)) ≡ l = length-reverse (take l log) ∙ length-take l log h.within in
+      let size : length (reverse (take l log)) ≡ l = length-reverse (take l log) ∙ length-take-le l log h.within in
       others_above m (reverse (drop l log)) (reverse (take l log)) n e (others_reverse m (drop l log) h.none_after) (omega (arith, size, beyond)) (ap (λ (h : History). event_at h n) (sym is) ∙ at) own
 
   pub ended_at : (m l n : ℕ) (e : Event) → Among (joined_at m l) (badge_of p).joined → event_at (seen_of p) n ≡ Some e → author e ≡ m → n ≤ l

@@ -22,7 +22,7 @@ use Rattle.client_sessions.specs.declared.parts.PartReplies.{PartReplies}
 use Rattle.client_sessions.specs.Sessions.{talk_of, IsSession}
 use Rattle.client_sessions.specs.Blocks.{IsSessionOf, AreTalksOf, AreRun}
 use Rattle.client_sessions.specs.Parts.{Parts, IsRun}
-use Rattle.client_sessions.proofs.Blocks.{longer}
+use Rattle.client_sessions.proofs.BlockRuns.{longer}
 use Rattle.client_sessions.proofs.Events.{event_within, event_at_more, any_here, any_there}
 use Rattle.client_sessions.proofs.Passes.{had_at, ended_at, within_at}
 use Rattle.client_sessions.proofs.Talks.{calm, talk_later, talks_later, apart_before, apart_behind, latest_within}
@@ -61,10 +61,10 @@ module _ (cutting : Cutting) (client : ℕ → Client) (named : (n : ℕ) → (c
   end : IsSession cutting (client (number_of p0)) (sole_of p2) 0 0 last replies.last (seen_of p2) (seen_of p3)
   end = subst (λ (n : ℕ). IsSession cutting (client n) (sole_of p2) 0 0 last replies.last (seen_of p2) (seen_of p3)) number_last b.session
 
-  begin_talk : Talk
+  abbrev begin_talk : Talk
   begin_talk = talk_of (client (number_of p0)) first replies.first a.session.windows
 
-  end_talk : Talk
+  abbrev end_talk : Talk
   end_talk = talk_of (client (number_of p0)) last replies.last end.windows
 
   le1 : length (seen_of p0) ≤ length (seen_of p1)
@@ -139,10 +139,9 @@ module _ (cutting : Cutting) (client : ℕ → Client) (named : (n : ℕ) → (c
     apart = (
       apart_before (seen_of p3) (length (seen_of p1)) begin_talk (end_talk ∷ r.talks) (stops_within (seen_of p1) (client (number_of p0)) (length (seen_of p0)) first replies.first a.session.windows a.session.legal)
           (legal_last (length (seen_of p1)) le2, from_first),
-      apart_behind (seen_of p2) (length (seen_of p1)) end_talk r.talks (starts_from (seen_of p3) (client (number_of p0)) (length (seen_of p2)) (length (seen_of p2)) last replies.last end.windows (omega arith) end.legal) r.legal,
-      r.apart,
+      (apart_behind (seen_of p2) (length (seen_of p1)) end_talk r.talks (starts_from (seen_of p3) (client (number_of p0)) (length (seen_of p2)) (length (seen_of p2)) last replies.last end.windows (omega arith) end.legal) r.legal, r.apart),
     );
-    no_fault = (a.session.no_fault calm, end.no_fault calm, r.no_fault);
+    no_fault = (a.session.no_fault calm, (end.no_fault calm, r.no_fault));
     one_moment = (refl, subst (λ (m : ℤ). AllByRecursion (λ (t : Talk). t.client.session.moment ≡ m) r.talks) (sym (one (number_of p0))) (moments_are client moment one blocks replies.blocks r.talks r.talks_are));
   }
 

@@ -1,5 +1,5 @@
 -- Commands that are carried out one after another.
-use Rattle.std.proofs.Common.{◌≡◌, ℕ, suc, ◌+◌, ◌-◌, ◌^◌, ◌<◌, ◌≤◌, min, Bool, true, false, List, [], ◌∷◌, ◌++◌, length, get_or, take, refl, sym, ap, ◌∙◌, subst, append_assoc, length-append, arith}
+use Rattle.std.proofs.Common.{◌≡◌, ℕ, ◌+◌, ◌-◌, ◌^◌, ◌<◌, ◌≤◌, min, Bool, true, false, List, [], ◌∷◌, ◌++◌, length, get_or, take, refl, sym, ap, ◌∙◌, subst, append_assoc, length-append, arith}
 use Rattle.std.specs.Prelude.{nat_le}
 use Rattle.std.specs.List.{AllByRecursion}
 use Rattle.std.proofs.lemmas.Bool.{le-leb, leb-true, true≢false}
@@ -18,18 +18,12 @@ use Rattle.reply_model.specs.Standing.{is_served, IsStep, RunsGrow}
 use Rattle.reply_model.specs.Legal.{IsLegalReply, LegalFrom}
 use Rattle.reply_model.specs.Runs.{is_covered}
 use Rattle.version_chain.specs.Traces.{GoesOn}
-use Rattle.library_api.specs.Steps.{is_carried_out, IsNamed, client_of, IsLegalIn}
+use Rattle.library_api.specs.Steps.{client_of, IsLegalIn}
 use Rattle.library_api.specs.declared.settings.Settings.{Settings}
-use Rattle.client_sessions.specs.Sessions.{IsReady, AreNamed, IsSession}
+use Rattle.client_sessions.specs.Sessions.{IsSession}
 use Rattle.client_sessions.proofs.Windows.{legal_later, ends_within, legal_push, covered_before, covered_behind}
 
--- ---- the commands
-
--- one of them is carried out by a library
-pub ready_at : (count : ℕ) (list : List Command) (i : ℕ) (d : Command) → i < length list → AreNamed count list → IsReady count (get_or list i d)
-ready_at count [] i d lt all = absurd (omega (arith, lt))
-ready_at count (c ∷ list) 0 d lt all = all.0
-ready_at count (c ∷ list) (suc i) d lt all = ready_at count list i d (omega (arith, lt)) all.1
+-- ---- lists
 
 -- what holds of all holds of those before the last, and of the last
 all-front : {A : Type 0} (P : A → Type 0) (xs : List A) (x : A) → AllByRecursion P (xs ++ x ∷ []) → AllByRecursion P xs

@@ -6,7 +6,7 @@ ghost use Rattle.std.specs.Vec.{vec_len, vec_capacity};
 ghost use Rattle.bucket_shared.specs.Passes.{store_of, badge_of, limit_of};
 ghost use Rattle.library_api.specs.Libraries.{AreSettings};
 ghost use Rattle.library_api.specs.Steps.{run_cutting};
-ghost use Rattle.client_sessions.specs.declared.room.Room.{Room as Memory};
+ghost use Rattle.client_sessions.specs.Rooms.{counts};
 ghost use Rattle.client_sessions.specs.Sessions.{AreNamed};
 ghost use Rattle.client_sessions.specs.Blocks.{clients_of, IsSessionOf, AreRun};
 
@@ -96,7 +96,7 @@ pub(crate) fn run_blocks<R: Threads + Wait + Sync, G: Gate>(
 ) -> (Pass, Vec<Items<Reply>>)
     requires settings { AreSettings settings }
     requires named { AllByRecursion (AreNamed (length frames.now)) blocks.now }
-    requires rooms { map (λ (r : Memory). r.count) rooms.items ≡ reverse (map length blocks.now) }
+    requires rooms { counts rooms.items ≡ reverse (map length blocks.now) }
     requires none { told.items ≡ [] }
     requires space { length blocks.now ≤ vec_capacity told }
     ensures run { AreRun (clients_of frames.now settings (limit_of pass)) blocks.now (reverse result.1.items) pass result.0 }
@@ -118,7 +118,7 @@ pub(crate) fn run_blocks<R: Threads + Wait + Sync, G: Gate>(
     let ((mut pass, told), (other, replies)) = join(
         rt,
         || -> (Pass, Vec<Items<Reply>>)
-            requires { IsSync R.row × AreSettings settings × AllByRecursion (AreNamed (length frames.now)) rest.now × (map (λ (r : Memory). r.count) rooms.items ≡ reverse (map length rest.now)) × (told.items ≡ []) × (length rest.now ≤ vec_capacity told) }
+            requires { IsSync R.row × AreSettings settings × AllByRecursion (AreNamed (length frames.now)) rest.now × (counts rooms.items ≡ reverse (map length rest.now)) × (told.items ≡ []) × (length rest.now ≤ vec_capacity told) }
             ensures { AreRun (clients_of frames.entry.now settings (limit_of pass)) rest.entry.now (reverse result.1.items) pass result.0 × (vec_len result.1 ≡ length rest.entry.now) × (vec_capacity told ≤ vec_capacity result.1) }
         { run_blocks(rt, alloc, pass, gate, settings, frames, rest, rooms, told) },
         || -> (Pass, Items<Reply>)

@@ -2,9 +2,12 @@
 #![tactic(auto)]
 
 mod blocks;
+mod part_rooms;
 mod parts;
 mod room;
 mod session;
+#[cfg(test)]
+mod tests;
 
 pub use parts::{PartReplies, run_parts};
 pub use session::carry_out;

@@ -1,4 +1,4 @@
-ghost use Rattle.std.specs.Prelude.{◌≡◌, true, length, IfOk, OnErr};
+ghost use Rattle.std.specs.Prelude.{◌≡◌, true, length, reverse, IfOk, OnErr};
 ghost use Rattle.std.specs.List.{AllByRecursion};
 ghost use Rattle.library_api.specs.Libraries.{AreSettings};
 ghost use Rattle.library_api.specs.Steps.{run_cutting};
@@ -7,7 +7,7 @@ ghost use Rattle.client_sessions.specs.Sessions.{AreNamed};
 ghost use Rattle.client_sessions.specs.Parts.{IsRun};
 
 use crate::blocks::{run_blocks, session};
-use crate::room::PartRooms;
+use crate::part_rooms::PartRooms;
 use base_types::{Items, NoMemory};
 use bucket_core::{Bucket, Gate};
 use bucket_shared::Pass;
@@ -29,6 +29,14 @@ pub struct PartReplies {
     pub blocks: Items<Items<Reply>>,
     /// Those of the last commands.
     pub last: Items<Reply>,
+}
+
+/// The lists in the other order.
+fn in_order(mut told: Vec<Items<Reply>>) -> Items<Items<Reply>>
+    ensures { result ≡ reverse told.items }
+{
+    told.reverse();
+    Items::from_vec(told)
 }
 
 /// Carries out the parts of a script over one store, and gives the pass back with the replies.
@@ -60,22 +68,31 @@ pub fn run_parts<R: Threads + Wait + Sync, G: Gate>(
     ensures limit { ⟦<Pass as Bucket<StoreLaw>>⟧.limit result.0 ≡ ⟦<Pass as Bucket<StoreLaw>>⟧.limit pass }
     ensures sole { ⟦<Pass as Bucket<StoreLaw>>⟧.sole result.0 ≡ true }
 {
+    let Ok(rooms) = PartRooms::make(alloc, first, blocks, last) else {
+        return (pass, Err(NoMemory));
+    };
     let PartRooms {
         first: first_room,
-        blocks: rooms,
+        blocks: block_rooms,
         told,
         last: last_room,
-    } = match PartRooms::make(alloc, first, blocks, last) {
-        Ok(rooms) => rooms,
-        Err(NoMemory) => return (pass, Err(NoMemory)),
-    };
+    } = rooms;
     let (pass, begun) = session(rt, alloc, pass, gate, settings, frames, first, first_room);
-    let (pass, mut told) = run_blocks(rt, alloc, pass, gate, settings, frames, blocks, rooms, told);
+    let (pass, told) = run_blocks(
+        rt,
+        alloc,
+        pass,
+        gate,
+        settings,
+        frames,
+        blocks,
+        block_rooms,
+        told,
+    );
     let (pass, ended) = session(rt, alloc, pass, gate, settings, frames, last, last_room);
-    told.reverse();
     let replies = PartReplies {
         first: begun,
-        blocks: Items::from_vec(told),
+        blocks: in_order(told),
         last: ended,
     };
     (pass, Ok(replies))

@@ -25,7 +25,8 @@ fn two_rows(alloc: Global) -> Result<RawFrame, Fail> {
         columns: Items::new(alloc),
     };
     raw.names.push(ColName::make(alloc, "price")?)?;
-    raw.columns.push(Column::Ints(Items::from_slice(alloc, &[100, 101])?))?;
+    raw.columns
+        .push(Column::Ints(Items::from_slice(alloc, &[100, 101])?))?;
     Ok(raw)
 }
 
@@ -136,7 +137,9 @@ fn only(replies: &Items<Reply>) -> Option<&Reply> {
 }
 
 #[test]
-fn what_a_client_wrote_on_its_thread_is_found_behind_the_joins(rt: HostRuntime) -> Result<(), Fail> {
+fn what_a_client_wrote_on_its_thread_is_found_behind_the_joins(
+    rt: HostRuntime,
+) -> Result<(), Fail> {
     let (pass, replies) = three_writes(&rt, rt.alloc())?;
     assert!(rt; pass.place() == 12);
     assert!(rt; only(&replies.first).and_then(written) == Some(4));

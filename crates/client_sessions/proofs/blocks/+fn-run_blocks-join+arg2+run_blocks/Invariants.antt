@@ -1,5 +1,5 @@
 use Rattle.std.proofs.Common.{length, ◌+◌, ◌*◌}
-use Rattle.client_sessions.proofs.blocks.+run_blocks+fn-run_blocks-join+arg2.Given as goal
+use Rattle.client_sessions.proofs.blocks.+fn-run_blocks-join+arg2+run_blocks.Given as goal
 
 -- the blocks that are left, twice, since each call runs the next in a closure
 abbrev pub decreases-run_blocks : goal.decreases-run_blocks

@@ -59,7 +59,7 @@ run_none client p = record {
 module _ (cutting : Cutting) (client : ℕ → Client) (named : (n : ℕ) → (client n).session.client ≡ n) (block : List Command) (replies : List Reply) (blocks : List (List Command)) (told : List (List Reply)) (p0 p p1 p2 : Pass)
     (store : store_of p ≡ store_of p0) (badge : badge_of p ≡ badge_of p0) (limit : limit_of p ≡ limit_of p0) (looks : Looks IsClaimed (number_of p0) (sole_of p0) (seen_of p0) (seen_of p))
     (s : IsSessionOf cutting client block replies p p1) (r : AreRun client blocks told p1 p2) where
-  here : Talk
+  abbrev here : Talk
   here = talk_of (client (number_of p)) block replies s.session.windows
 
   badge_here : badge_of p1 ≡ badge_of p0
@@ -119,7 +119,7 @@ module _ (cutting : Cutting) (client : ℕ → Client) (named : (n : ℕ) → (c
     (store3 : store_of p3 ≡ store_of p2) (number3 : number_of p3 ≡ number_of p2) (limit3 : limit_of p3 ≡ limit_of p2) (badge3 : badge_of p3 ≡ joined_badge (badge_of p2) (badge_of o2) (length (seen_of o2)))
     (looks3 : Looks IsClaimed (number_of p2) false (seen_of p2) (seen_of p3)) (other : Looks IsClaimed (number_of o2) false (seen_of o2) (seen_of p3))
     (awaits3 : (ns : List ℕ) → Awaits (badge_of p2) (number_of o2 ∷ ns) → Awaits (badge_of o2) [] → Awaits (badge_of p3) ns) where
-  beside : Talk
+  abbrev beside : Talk
   beside = talk_of (client (number_of o)) block replies s.session.windows
 
   -- the other pass gave no number, and none was joined into it
