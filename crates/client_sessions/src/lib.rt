@@ -1,8 +1,8 @@
 //! Sessions: the commands of clients, each on a thread of its own, over one shared store.
 #![tactic(auto)]
 
+mod block_rooms;
 mod blocks;
-mod part_rooms;
 mod parts;
 mod room;
 mod session;

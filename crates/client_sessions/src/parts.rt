@@ -6,8 +6,9 @@ ghost use Rattle.client_sessions.specs.Blocks.{clients_of};
 ghost use Rattle.client_sessions.specs.Sessions.{AreNamed};
 ghost use Rattle.client_sessions.specs.Parts.{IsRun};
 
+use crate::block_rooms::make_rooms;
 use crate::blocks::{run_blocks, session};
-use crate::part_rooms::PartRooms;
+use crate::room::Room;
 use base_types::{Items, NoMemory};
 use bucket_core::{Bucket, Gate};
 use bucket_shared::Pass;
@@ -29,6 +30,13 @@ pub struct PartReplies {
     pub blocks: Items<Items<Reply>>,
     /// Those of the last commands.
     pub last: Items<Reply>,
+}
+
+/// The settings, copied.
+fn again(settings: &Settings) -> Settings
+    ensures { result ≡ settings.now }
+{
+    *settings
 }
 
 /// The lists in the other order.
@@ -68,28 +76,39 @@ pub fn run_parts<R: Threads + Wait + Sync, G: Gate>(
     ensures limit { ⟦<Pass as Bucket<StoreLaw>>⟧.limit result.0 ≡ ⟦<Pass as Bucket<StoreLaw>>⟧.limit pass }
     ensures sole { ⟦<Pass as Bucket<StoreLaw>>⟧.sole result.0 ≡ true }
 {
-    let Ok(rooms) = PartRooms::make(alloc, first, blocks, last) else {
+    let Ok(first_room) = Room::make(alloc, first.len()) else {
         return (pass, Err(NoMemory));
     };
-    let PartRooms {
-        first: first_room,
-        blocks: block_rooms,
-        told,
-        last: last_room,
-    } = rooms;
-    let (pass, begun) = session(rt, alloc, pass, gate, settings, frames, first, first_room);
-    let (pass, told) = run_blocks(
+    let Ok(last_room) = Room::make(alloc, last.len()) else {
+        return (pass, Err(NoMemory));
+    };
+    let Ok(rooms) = make_rooms(alloc, blocks) else {
+        return (pass, Err(NoMemory));
+    };
+    let Ok(told) = Vec::with_capacity(alloc, blocks.len()) else {
+        return (pass, Err(NoMemory));
+    };
+    let (pass, begun) = session(
         rt,
         alloc,
         pass,
         gate,
-        settings,
+        again(&settings),
         frames,
-        blocks,
-        block_rooms,
-        told,
+        first,
+        first_room,
     );
-    let (pass, ended) = session(rt, alloc, pass, gate, settings, frames, last, last_room);
+    let (pass, told) = run_blocks(rt, alloc, pass, gate, settings, frames, blocks, rooms, told);
+    let (pass, ended) = session(
+        rt,
+        alloc,
+        pass,
+        gate,
+        again(&settings),
+        frames,
+        last,
+        last_room,
+    );
     let replies = PartReplies {
         first: begun,
         blocks: in_order(told),
