@@ -83,7 +83,7 @@ fn noted(mut told: Vec<Items<Reply>>, replies: Items<Reply>) -> Vec<Items<Reply>
 ///
 /// Where there is no further pass, the block is carried out with this one, before the blocks that follow. `rooms` is memory for the
 /// replies of each block, that of the first block last, and `told` for so many lists.
-pub(crate) fn run_blocks<R: Threads + Wait + Sync, G: Gate>(
+pub(crate) fn run_blocks<R: Threads + Wait + Sync, G: Gate + Sync>(
     rt: &R,
     alloc: Global,
     mut pass: Pass,
@@ -118,7 +118,7 @@ pub(crate) fn run_blocks<R: Threads + Wait + Sync, G: Gate>(
     let ((mut pass, told), (other, replies)) = join(
         rt,
         || -> (Pass, Vec<Items<Reply>>)
-            requires { IsSync R.row × AreSettings settings × AllByRecursion (AreNamed (length frames.now)) rest.now × (counts rooms.items ≡ reverse (map length rest.now)) × (told.items ≡ []) × (length rest.now ≤ vec_capacity told) }
+            requires { IsSync R.row × IsSync G.row × AreSettings settings × AllByRecursion (AreNamed (length frames.now)) rest.now × (counts rooms.items ≡ reverse (map length rest.now)) × (told.items ≡ []) × (length rest.now ≤ vec_capacity told) }
             ensures { AreRun (clients_of frames.entry.now settings (limit_of pass)) rest.entry.now (reverse result.1.items) pass result.0 × (vec_len result.1 ≡ length rest.entry.now) × (vec_capacity told ≤ vec_capacity result.1) }
         { run_blocks(rt, alloc, pass, gate, settings, frames, rest, rooms, told) },
         || -> (Pass, Items<Reply>)

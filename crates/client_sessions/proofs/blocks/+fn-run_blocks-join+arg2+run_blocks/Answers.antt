@@ -37,10 +37,6 @@ returns-in_default-split-clause-run g t c =
     (run_here cutting client (λ n. refl) c.items-commands.result.now replies c.in-Some.rest.now (reverse told) c.args.pass c.split.new.self c.session-pass.result.0 c.run_blocks-pass.result.0
     c.split.ensures.store c.in_default-split.ensures.badge c.split.ensures.limit c.split.ensures.looks s r)
 
--- the others are fewer
-pub join-pass-requires-after_bounds : goal.join-pass-requires-after_bounds
-join-pass-requires-after_bounds g t c = ?
-
 -- the block with a pass of its own, beside the others
 pub returns-clause-run : goal.returns-clause-run
 returns-clause-run g t c =
