@@ -1,11 +1,11 @@
 -- Blocks that are carried out: none, one on the caller's thread before the others, and one on a thread of its own beside the others.
-use Rattle.std.proofs.Common.{◌≡◌, ℕ, ◌<◌, ◌≤◌, ◌⊎◌, Bool, false, List, [], ◌∷◌, ◌++◌, length, Some, refl, sym, ap, ◌∙◌, subst, inl, inr, ⊎_elim, append_assoc, length-append, arith}
+use Rattle.std.proofs.Common.{◌≡◌, ℕ, ◌<◌, ◌≤◌, ◌⊎◌, false, List, [], ◌∷◌, ◌++◌, length, Some, refl, sym, ap, ◌∙◌, subst, inl, inr, ⊎_elim, append_assoc, length-append, arith}
 use Rattle.std.specs.Prelude.{Any}
 use Rattle.std.specs.List.{AllByRecursion}
 use Rattle.std.proofs.lemmas.Bool.{cases_lt}
 use Rattle.turn_cell.specs.declared.badge.Badge.{Badge}
 use Rattle.turn_cell.specs.declared.badge.Joined.{Joined}
-use Rattle.turn_cell.specs.Badges.{Among, Has, Awaits, joined_at, joined_badge, new_badge, badge_after_split}
+use Rattle.turn_cell.specs.Badges.{Among, Has, Awaits, joined_at, joined_badge, new_badge}
 use Rattle.turn_cell.proofs.Membership.{among_either}
 use Rattle.turn_cell.proofs.Sole.{awaits_split, has_left}
 use Rattle.bucket_core.specs.declared.event.Event.{Event}
@@ -17,7 +17,7 @@ use Rattle.bucket_shared.specs.Passes.{store_of, badge_of, seen_of, number_of, l
 use Rattle.bucket_shared.specs.Splits.{IsSplit}
 use Rattle.expr_clause.specs.declared.command.Command.{Command}
 use Rattle.reply_model.specs.declared.reply.Reply.{Reply}
-use Rattle.reply_model.specs.Windows.{Window, Client}
+use Rattle.reply_model.specs.Windows.{Client}
 use Rattle.reply_model.specs.Blocks.{Cutting}
 use Rattle.reply_model.specs.Runs.{Talk, IsLegalTalk, Covers, AreApart}
 use Rattle.client_sessions.specs.Sessions.{talk_of}

@@ -1,5 +1,5 @@
 -- The makers of the events that a pass has seen.
-use Rattle.std.proofs.Common.{◌≡◌, ℕ, suc, ◌<◌, ◌≤◌, true, List, [], ◌∷◌, ◌++◌, length, take, drop, reverse, Some, refl, sym, ap, ◌∙◌, subst, inl, inr, arith}
+use Rattle.std.proofs.Common.{◌≡◌, ℕ, suc, ◌<◌, ◌≤◌, true, List, [], ◌∷◌, ◌++◌, length, take, drop, reverse, Some, sym, ap, ◌∙◌, subst, inl, inr, arith}
 use Rattle.std.specs.Prelude.{All}
 use Rattle.std.specs.List.{AllByRecursion}
 use Rattle.std.proofs.lemmas.Bool.{cases_lt}
@@ -9,7 +9,7 @@ use denote.Struct.Props.{props}
 use Rattle.segment_cut.proofs.Lists.{all-append}
 use Rattle.turn_cell.specs.Badges.{Among, Has, joined_at}
 use Rattle.bucket_core.specs.declared.event.Event.{Event}
-use Rattle.bucket_core.specs.History.{History, author, event_at, AllByOthers}
+use Rattle.bucket_core.specs.History.{History, author, event_at}
 use Rattle.bucket_shared.specs.declared.pass.Pass.{Pass}
 use Rattle.bucket_shared.specs.Authors.{AreEnded, AreHad, HasEnded}
 use Rattle.bucket_shared.specs.Passes.{badge_of, seen_of, sole_of}
@@ -17,7 +17,7 @@ use Rattle.bucket_shared.specs.Sole.{has_number}
 use Rattle.bucket_shared.proofs.Growth.{others_reverse}
 use Rattle.bucket_shared.proofs.Passes.{ended_of, had_of}
 use Rattle.bucket_shared.proofs.SoleSeats.{Has-number, has_number-true}
-use Rattle.client_sessions.proofs.Events.{event_within, others_above, all_at}
+use Rattle.client_sessions.proofs.Events.{others_above, all_at}
 
 -- what holds of each event holds of each in the other order
 by_recursion : (P : Event → Type 0) (log : List Event) → All P log → AllByRecursion P log

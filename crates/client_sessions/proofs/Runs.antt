@@ -4,7 +4,7 @@ use Rattle.std.specs.Prelude.{Any}
 use Rattle.std.specs.List.{AllByRecursion}
 use Rattle.std.proofs.lemmas.Bool.{cases_lt}
 use Rattle.turn_cell.specs.declared.badge.Badge.{Badge}
-use Rattle.turn_cell.specs.Badges.{Among, Has, Awaits, IsSole, joined_at}
+use Rattle.turn_cell.specs.Badges.{Among, Has, IsSole, joined_at}
 use Rattle.turn_cell.proofs.Sole.{awaits_none, sole_again}
 use Rattle.bucket_core.specs.declared.event.Event.{Event}
 use Rattle.bucket_core.specs.History.{History, author, event_at}
@@ -15,13 +15,13 @@ use Rattle.bucket_shared.proofs.Passes.{used_of}
 use Rattle.bucket_shared.proofs.SoleSeats.{IsSole-found, is_sole-true}
 use Rattle.expr_clause.specs.declared.command.Command.{Command}
 use Rattle.reply_model.specs.declared.reply.Reply.{Reply}
-use Rattle.reply_model.specs.Windows.{Window, Client}
+use Rattle.reply_model.specs.Windows.{Client}
 use Rattle.reply_model.specs.Blocks.{Cutting}
 use Rattle.reply_model.specs.Runs.{Talk, IsLegalTalk, IsLegalRun, Covers, AllCovered, end_of, latest_end}
 use Rattle.client_sessions.specs.declared.parts.PartReplies.{PartReplies}
 use Rattle.client_sessions.specs.Sessions.{talk_of, IsSession}
 use Rattle.client_sessions.specs.Blocks.{IsSessionOf, AreTalksOf, AreRun}
-use Rattle.client_sessions.specs.Parts.{Parts, IsRun}
+use Rattle.client_sessions.specs.Parts.{IsRun}
 use Rattle.client_sessions.proofs.BlockRuns.{longer}
 use Rattle.client_sessions.proofs.Events.{event_within, event_at_more, any_here, any_there}
 use Rattle.client_sessions.proofs.Passes.{had_at, ended_at, within_at}

@@ -5,7 +5,6 @@ use Rattle.std.specs.Prelude.{◌≡◌, ℕ, List, [], ◌++◌, length}
 use Rattle.bucket_core.specs.History.{History}
 use Rattle.store_model.specs.Law.{IsLawful}
 use Rattle.expr_clause.specs.declared.command.Command.{Command}
-use Rattle.reply_model.specs.declared.reply.Reply.{Reply}
 use Rattle.reply_model.specs.Windows.{Window, Client}
 use Rattle.reply_model.specs.Runs.{Talk, IsLegalRun}
 use Rattle.reply_model.specs.Blocks.{Cutting}

@@ -1,4 +1,4 @@
-use Rattle.std.proofs.Common.{◌≡◌, ◌∙◌, ℕ, List, refl, sym, subst}
+use Rattle.std.proofs.Common.{◌∙◌, ℕ, List, refl, sym, subst}
 use Rattle.bucket_shared.specs.Passes.{limit_of}
 use Rattle.reply_model.specs.declared.reply.Reply.{Reply}
 use Rattle.library_api.specs.declared.settings.Settings.{Settings}

@@ -1,4 +1,4 @@
-use Rattle.std.proofs.Common.{rules, ◌≡◌, ◌∙◌, ◌+◌, ℕ, List, [], take, refl, sym, subst, arith}
+use Rattle.std.proofs.Common.{rules, ◌∙◌, ◌+◌, ℕ, List, [], take, refl, sym, subst, arith}
 use Rattle.version_chain.specs.Traces.{GoesOn}
 use Rattle.reply_model.specs.declared.reply.Reply.{Reply}
 use Rattle.reply_model.specs.Windows.{Client}
