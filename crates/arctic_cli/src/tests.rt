@@ -195,3 +195,79 @@ fn a_sink_whose_second_put_fails_has_the_first_line(rt: HostRuntime) -> Result<(
     assert_eq!(rt; out.bytes(), b"first.1 @4 ok v0\n".as_slice());
     Ok(())
 }
+
+/// The status of a run over these files, and what it printed.
+fn ran_files<R: Wait>(
+    rt: &R,
+    alloc: Global,
+    words: &[&str],
+    files: &[(&str, &str)],
+) -> Result<(u8, MemorySink), Fail> {
+    let mut held = Vec::new(alloc);
+    for file in files {
+        held.push((
+            String::from_str(alloc, file.0)?,
+            Vec::from_slice(alloc, file.1.as_bytes())?,
+        ))?;
+    }
+    let shelf = MemoryShelf::make(held, Vec::new(alloc));
+    ran(rt, alloc, words, shelf, Vec::new(alloc))
+}
+
+#[test]
+fn an_append_is_refused_where_it_does_not_go_on(rt: HostRuntime) -> Result<(), Fail> {
+    let alloc = rt.alloc();
+    let script =
+        "load t t.csv int,int\nload a9 a9.csv int,int\nload a8 a8.csv int,int\nload w w.csv int,int\nfirst\nwrite S t\nappend S w\nappend S a9\nappend S a8\n";
+    let files = [
+        ("day.arc", script),
+        ("t.csv", TABLE),
+        ("a9.csv", "time,price,size\n9,106,1\n"),
+        ("a8.csv", "time,price,size\n8,1,1\n"),
+        ("w.csv", "time,price,qty\n9,1,1\n"),
+    ];
+    let (status, out) = ran_files(&rt, alloc, &["run", "day.arc"], &files)?;
+    assert_eq!(rt; status, 1);
+    let wanted =
+        "first.1 @4 ok v0\nfirst.2 @4 err 8 SchemaDiffers column=2\nfirst.3 @8 ok v1\nfirst.4 @8 err 9 AppendBefore last=9 first=8\nend @8\n";
+    assert_eq!(rt; out.bytes(), wanted.as_bytes());
+    Ok(())
+}
+
+#[test]
+fn a_reclaim_keeps_the_tiles_that_an_append_shares(rt: HostRuntime) -> Result<(), Fail> {
+    let alloc = rt.alloc();
+    let script =
+        "load six six.csv int\nload end end.csv int\nfirst\nwrite S six\nappend S end\nkeys S\nprune S\nreclaim S\nkeys S\nread S range=50..\n";
+    let files = [
+        ("day.arc", script),
+        (
+            "six.csv",
+            "time,price\n10,1\n20,2\n30,3\n40,4\n50,5\n60,6\n",
+        ),
+        ("end.csv", "time,price\n60,7\n"),
+    ];
+    let (status, out) = ran_files(&rt, alloc, &["run", "day.arc", "--rows", "2"], &files)?;
+    assert_eq!(rt; status, 0);
+    let wanted =
+        "first.1 @6 ok v0\nfirst.2 @10 ok v1\nfirst.3 @10 ok data=4 index=2 version=2 ref=1 staged=0\nfirst.4 @12 ok pruned versions=1\nfirst.5 @12 ok freed data=0 index=1 staged=0\nfirst.6 @13 ok data=4 index=1 version=3 ref=1 staged=0\nfirst.7 @13 ok v1 rows=3\ntime,price\n50,5\n60,6\n60,7\nend @13\n";
+    assert_eq!(rt; out.bytes(), wanted.as_bytes());
+    Ok(())
+}
+
+#[test]
+fn a_reclaim_drops_what_no_live_version_has(rt: HostRuntime) -> Result<(), Fail> {
+    let alloc = rt.alloc();
+    let script = "load t t.csv int,int\nfirst\nwrite S t\nwrite S t prune\nreclaim S\nkeys S\n";
+    let (status, out) = ran_files(
+        &rt,
+        alloc,
+        &["run", "day.arc"],
+        &[("day.arc", script), ("t.csv", TABLE)],
+    )?;
+    assert_eq!(rt; status, 0);
+    let wanted =
+        "first.1 @4 ok v0\nfirst.2 @8 ok v1\nfirst.3 @8 ok freed data=1 index=1 staged=0\nfirst.4 @10 ok data=1 index=1 version=2 ref=1 staged=0\nend @10\n";
+    assert_eq!(rt; out.bytes(), wanted.as_bytes());
+    Ok(())
+}

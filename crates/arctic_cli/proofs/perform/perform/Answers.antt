@@ -31,7 +31,7 @@ loop-command-preserved g c =
           c.loop-command-test.true c.command-item.is (c.loop-command.invariant.steady.stays_sole c.requires.sole) c.loop-command.invariant.steady.faults_rise c.step-reply.ensures.steady.faults_rise c.loop-command.invariant.carried_out
           (subst (λ (n : ℕ). GoesOn n (g.B.Bucket.sole c.loop-command.library.bucket) (g.B.Bucket.seen c.loop-command.library.bucket) (g.B.Bucket.seen c.step-reply.new.self.bucket)) c.loop-command.invariant.steady.same_number c.step-reply.ensures.grown)
           (subst (λ (x : Client). IsLegalIn x (g.B.Bucket.faults c.loop-command.library.bucket) (g.B.Bucket.faults c.step-reply.new.self.bucket) (g.B.Bucket.seen c.loop-command.library.bucket) (g.B.Bucket.seen c.step-reply.new.self.bucket) c.command-item.result c.step-reply.result) same c.step-reply.ensures.legal)
-          (subst (λ (x : Settings). IsStepAlone x (client_of c.args.frames.now c.args.library.now.settings (g.B.Bucket.number c.args.library.now.bucket) (g.B.Bucket.limit c.args.library.now.bucket)) (g.B.Bucket.sole c.loop-command.library.bucket) (g.B.Bucket.seen c.loop-command.library.bucket) (g.B.Bucket.seen c.step-reply.new.self.bucket) c.command-item.result c.step-reply.result) c.loop-command.invariant.settings (subst (λ (x : Client). IsStepAlone c.loop-command.library.settings x (g.B.Bucket.sole c.loop-command.library.bucket) (g.B.Bucket.seen c.loop-command.library.bucket) (g.B.Bucket.seen c.step-reply.new.self.bucket) c.command-item.result c.step-reply.result) same c.step-reply.ensures.alone)));
+          (subst (λ (x : Settings). IsStepAlone x (client_of c.args.frames.now c.args.library.now.settings (g.B.Bucket.number c.args.library.now.bucket) (g.B.Bucket.limit c.args.library.now.bucket)) (g.B.Bucket.seen c.loop-command.library.bucket) (g.B.Bucket.seen c.step-reply.new.self.bucket) c.command-item.result c.step-reply.result) c.loop-command.invariant.settings (subst (λ (x : Client). IsStepAlone c.loop-command.library.settings x (g.B.Bucket.seen c.loop-command.library.bucket) (g.B.Bucket.seen c.step-reply.new.self.bucket) c.command-item.result c.step-reply.result) same c.step-reply.ensures.alone)));
       steady = record {
         same_number = c.step-reply.ensures.steady.same_number ∙ c.loop-command.invariant.steady.same_number;
         same_limit = c.step-reply.ensures.steady.same_limit ∙ c.loop-command.invariant.steady.same_limit;
