@@ -158,6 +158,6 @@ module _ (cutting : Cutting) (client : ℕ → Client) (named : (n : ℕ) → (c
     behind_first = seen_of p1;
     before_last = seen_of p2;
     without_blocks = r.without_blocks;
-    first_alone = λ l served uncut. a.session.alone sole l served uncut;
-    last_alone = λ l served uncut. end.alone sole_last (r.lawful (a.session.lawful l)) served uncut;
+    first_alone = λ l served uncut. a.session.alone (record { more = a.session.more; is = a.session.goes_on; own = a.session.own sole }) l served uncut;
+    last_alone = λ l served uncut. end.alone (record { more = end.more; is = end.goes_on; own = end.own sole_last }) (r.lawful (a.session.lawful l)) served uncut;
   }

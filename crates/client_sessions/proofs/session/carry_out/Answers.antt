@@ -34,8 +34,8 @@ loop-command-preserved g c =
           c.loop-command-test.true c.command-item.is c.loop-command.invariant.steady.faults_rise c.step-reply.ensures.steady.faults_rise c.loop-command.invariant.steady.stays_sole c.loop-command.invariant.session
           (subst (λ (n : ℕ). GoesOn n (g.B.Bucket.sole mid.bucket) (g.B.Bucket.seen mid.bucket) (g.B.Bucket.seen new.bucket)) c.loop-command.invariant.steady.same_number c.step-reply.ensures.grown)
           (subst (λ (x : Client). IsLegalIn x (g.B.Bucket.faults mid.bucket) (g.B.Bucket.faults new.bucket) (g.B.Bucket.seen mid.bucket) (g.B.Bucket.seen new.bucket) c.command-item.result c.step-reply.result) same c.step-reply.ensures.legal)
-          (subst (λ (x : Settings). IsStepAlone x now (g.B.Bucket.sole mid.bucket) (g.B.Bucket.seen mid.bucket) (g.B.Bucket.seen new.bucket) c.command-item.result c.step-reply.result) c.loop-command.invariant.settings
-          (subst (λ (x : Client). IsStepAlone mid.settings x (g.B.Bucket.sole mid.bucket) (g.B.Bucket.seen mid.bucket) (g.B.Bucket.seen new.bucket) c.command-item.result c.step-reply.result) same c.step-reply.ensures.alone)));
+          (subst (λ (x : Settings). IsStepAlone x now (g.B.Bucket.seen mid.bucket) (g.B.Bucket.seen new.bucket) c.command-item.result c.step-reply.result) c.loop-command.invariant.settings
+          (subst (λ (x : Client). IsStepAlone mid.settings x (g.B.Bucket.seen mid.bucket) (g.B.Bucket.seen new.bucket) c.command-item.result c.step-reply.result) same c.step-reply.ensures.alone)));
       steady = record {
         same_number = c.step-reply.ensures.steady.same_number ∙ c.loop-command.invariant.steady.same_number;
         same_limit = c.step-reply.ensures.steady.same_limit ∙ c.loop-command.invariant.steady.same_limit;
