@@ -61,10 +61,14 @@ after_first d _ = None
 abbrev pub with_client : Draft → Text → Option Draft
 with_client d word = where_true (before_last d.stage) word >>= new_client_of d.clients >>= λ name. Some (record d { clients = d.clients ++ record { name = name; commands = [] } ∷ []; stage = stages.Clients })
 
+-- the word that stands alone
+abbrev pub only_word : List Text → Option Text
+only_word (word ∷ []) = Some word
+only_word _ = None
+
 -- `client NAME`
 abbrev pub after_client : LineForm
-after_client d (word ∷ []) = with_client d word
-after_client d _ = None
+after_client d words = only_word words >>= with_client d
 
 -- `last`, once
 abbrev pub after_last : LineForm

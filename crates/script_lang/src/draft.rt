@@ -1,6 +1,6 @@
 ghost use Rattle.std.specs.Prelude.{◌≡◌, map};
-ghost use Rattle.script_lang.specs.Scripts.{before_parts, before_last, no_lines, after_load, after_first, with_client, after_client, after_last, with_command, after_verb, after_words, after_line, after_lines};
-ghost use Rattle.script_lang.specs.Answers.{GivesScript};
+ghost use Rattle.script_lang.specs.Scripts.{before_parts, before_last, no_lines, after_load, after_first, with_client, only_word, after_client, after_last, with_command, after_verb, after_words, after_line, after_lines};
+ghost use Rattle.script_lang.specs.Answers.{Reads, GivesScript};
 
 use crate::client::{ClientPart, in_last_client, new_client_of};
 use crate::command::{Commands, command_of};
@@ -90,13 +90,23 @@ fn with_client(alloc: Global, draft: Draft, word: &[u8]) -> Result<Draft, Script
     Ok(draft)
 }
 
+/// The word that stands alone.
+fn only_word<'a>(words: &[&'a [u8]]) -> Option<&'a [u8]>
+    ensures { Reads (λ word. word.now) result (only_word (map (λ word. word.now) words.now)) }
+{
+    match words {
+        [word] => Some(word),
+        _ => None,
+    }
+}
+
 fn after_client(alloc: Global, draft: Draft, words: &[&[u8]]) -> Result<Draft, ScriptFault>
     ensures { GivesScript (λ next. next) result (after_client draft (map (λ word. word.now) words.now)) }
 {
-    match words {
-        [word] => with_client(alloc, draft, word),
-        _ => Err(ScriptFault::BadScript),
-    }
+    let Some(word) = only_word(words) else {
+        return Err(ScriptFault::BadScript);
+    };
+    with_client(alloc, draft, word)
 }
 
 fn after_last(draft: Draft, words: &[&[u8]]) -> Result<Draft, ScriptFault>
