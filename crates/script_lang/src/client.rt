@@ -62,7 +62,9 @@ fn client_text(word: &[u8]) -> Option<&str>
 fn is_taken(clients: &[ClientPart], name: &[u8]) -> bool
     ensures { result ≡ is_taken clients.now name.now }
 {
-    clients.iter().any(|client| name == client.name.text().as_bytes())
+    clients
+        .iter()
+        .any(|client| name == client.name.text().as_bytes())
 }
 
 /// The name of one more client, which none of these has.

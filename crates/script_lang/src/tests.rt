@@ -197,7 +197,12 @@ fn each_part_has_its_commands(rt: HostRuntime) -> Result<(), Fail> {
     assert!(rt; script.first.len() == 1 && script.clients.len() == 2 && script.last.len() == 1);
     let client = script.clients.at(0);
     assert_eq!(rt; client.name.text(), "a");
-    assert!(rt; matches!(client.commands.items(), [Command::Read { .. }, Command::Keys { .. }]));
+    assert!(rt;
+        matches!(
+            client.commands.items(),
+            [Command::Read { .. }, Command::Keys { .. }]
+        )
+    );
     let client = script.clients.at(1);
     assert_eq!(rt; client.name.text(), "b-2");
     assert!(rt; client.commands.is_empty());
