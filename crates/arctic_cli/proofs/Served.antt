@@ -1,5 +1,6 @@
 -- The commands of a script that the program runs are those of which it is shown what one client alone gets.
 use Rattle.std.proofs.Common.{◌≡◌, Bool, true, false, List, [], ◌∷◌, Option, Some, None, refl, sym, ap, subst}
+use Rattle.std.specs.Prelude.{◌&&◌}
 use Rattle.std.specs.List.{list_all}
 use Rattle.std.proofs.lemmas.Bool.{and_parts, true≢false}
 use Rattle.frame_core.specs.Texts.{Text}
@@ -10,13 +11,13 @@ use Rattle.library_api.specs.Steps.{is_carried_out}
 use Rattle.script_lang.specs.declared.script.Script.{Script}
 use Rattle.script_lang.specs.Fronts.{◌>>=◌, where_true}
 use Rattle.script_lang.specs.Scripts.{plain_script_of}
-use Rattle.arctic_cli.specs.Jobs.{script_in}
-use Rattle.arctic_cli.specs.Performing.{AreServed}
+use Rattle.client_sessions.specs.Sessions.{AreServed}
+use Rattle.arctic_cli.specs.Jobs.{is_carried_client, is_carried_script, script_in}
 
 -- each command that the library carries out is such a one
 carried-served : (c : Command) → is_carried_out c ≡ true → is_served c ≡ true
 carried-served (commands.Write symbol frame at prune) e = refl
-carried-served (commands.Append symbol frame at prune) e = absurd (true≢false (sym e))
+carried-served (commands.Append symbol frame at prune) e = refl
 carried-served (commands.Update symbol frame range upsert at prune) e = absurd (true≢false (sym e))
 carried-served (commands.DeleteRange symbol range at prune) e = absurd (true≢false (sym e))
 carried-served (commands.Stage symbol frame) e = absurd (true≢false (sym e))
@@ -29,8 +30,8 @@ carried-served (commands.Versions symbol) e = refl
 carried-served (commands.Keys symbol) e = refl
 carried-served (commands.Snapshot snap picks) e = absurd (true≢false (sym e))
 carried-served (commands.DeleteSnapshot snap) e = absurd (true≢false (sym e))
-carried-served commands.Symbols e = absurd (true≢false (sym e))
-carried-served commands.Snapshots e = absurd (true≢false (sym e))
+carried-served commands.Symbols e = refl
+carried-served commands.Snapshots e = refl
 carried-served (commands.Read symbol as_of range columns) e = refl
 
 all-served : (list : List Command) → list_all is_carried_out list ≡ true → AreServed list
@@ -53,16 +54,24 @@ tested : (b : Bool) (s script : Script) → where_true b s ≡ Some script → b
 tested true s script e = refl
 tested false s script e = absurd (true≢false (sym (ap is_some_script e)))
 
--- the commands of a script of the program
-pub found-served : (text : Text) (script : Script) → script_in text ≡ Some script → AreServed script.first
+-- the first and the last commands of a script of the program
+pub record IsServed (script : Script) : Type 0 where
+  pub first : AreServed script.first
+  pub last : AreServed script.last
+
+script-served : (s : Script) → is_carried_script s ≡ true → IsServed s
+script-served s carried =
+    let front = and_parts (list_all is_carried_out s.first && list_all is_carried_client s.clients) (list_all is_carried_out s.last) carried in
+    let both = and_parts (list_all is_carried_out s.first) (list_all is_carried_client s.clients) front.0 in
+    record { first = all-served s.first both.0; last = all-served s.last front.1 }
+
+-- the first and the last commands of each script of the program are so
+pub found-served : (text : Text) (script : Script) → script_in text ≡ Some script → IsServed script
 found-served text script e = of (plain_script_of text) e
   where
-    carried : Script → Bool
-    carried s = list_all is_carried_out s.first
-
-    of : (o : Option Script) → (o >>= λ s. where_true (carried s) s) ≡ Some script → AreServed script.first
+    of : (o : Option Script) → (o >>= λ s. where_true (is_carried_script s) s) ≡ Some script → IsServed script
     of None e = absurd (true≢false (sym (ap is_some_script e)))
     of (Some s) e =
-        let holds : carried s ≡ true = tested (carried s) s script e in
+        let holds : is_carried_script s ≡ true = tested (is_carried_script s) s script e in
         let same : s ≡ script = ap (some_in s) (subst (λ b. where_true b s ≡ Some script) holds e) in
-        subst (λ (x : Script). AreServed x.first) same (all-served s.first holds)
+        subst IsServed same (script-served s holds)

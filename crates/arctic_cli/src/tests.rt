@@ -1,9 +1,11 @@
 use crate::run::run;
-use bucket_core::PlainBucket;
+use bucket_core::OpenGate;
+use bucket_shared::Shared;
 use program_edge::{FixedClock, MemoryShelf, MemorySink};
 use std::alloc::Global;
 use std::sync::Wait;
 use std::test::Fail;
+use std::thread::Threads;
 
 const TABLE: &str = "time,price,size\n1,100,5\n2,101,7\n2,102,1\n4,99,3\n9,105,2\n";
 
@@ -36,7 +38,7 @@ fn shelf_of(
 }
 
 /// The status of a run at the moment 7, and what it printed.
-fn ran<R: Wait>(
+fn ran<R: Threads + Wait + Sync>(
     rt: &R,
     alloc: Global,
     words: &[&str],
@@ -47,13 +49,22 @@ fn ran<R: Wait>(
     let mut shelf = shelf;
     let mut out = MemorySink::make(fails);
     let mut clock = FixedClock::make(7);
-    let bucket = PlainBucket::make(alloc, 1, 1 << 40)?;
-    let ran = run(rt, alloc, &words, &mut shelf, &mut out, &mut clock, bucket);
+    let pass = Shared::make(alloc, 1 << 40, 1)?;
+    let ran = run(
+        rt,
+        alloc,
+        &words,
+        &mut shelf,
+        &mut out,
+        &mut clock,
+        &OpenGate,
+        pass,
+    );
     Ok((ran.status, out))
 }
 
 /// The status of `run day.arc` with options, and what it printed.
-fn ran_script<R: Wait>(
+fn ran_script<R: Threads + Wait + Sync>(
     rt: &R,
     alloc: Global,
     words: &[&str],
