@@ -64,9 +64,15 @@ left-some (symbol ∷ more) some = refl
 -- ---- the transcript
 
 -- the text of the clients' replies is that of the first client's and of the others'
-pub clients-text : (name : Text) (names : List Text) (replies : List Reply) (blocks : List (List Reply)) →
+clients-text : (name : Text) (names : List Text) (replies : List Reply) (blocks : List (List Reply)) →
     concat (clients_lines (name ∷ names) (replies ∷ blocks)) ≡ concat (part_lines name 1 replies) ++ concat (clients_lines names blocks)
 clients-text name names replies blocks = concat-append (part_lines name 1 replies) (clients_lines names blocks)
+
+-- the same of lists that have a first client
+pub clients-cons : (names more : List Text) (blocks others : List (List Reply)) (name : Text) (replies : List Reply) → names ≡ name ∷ more → blocks ≡ replies ∷ others →
+    concat (clients_lines names blocks) ≡ concat (part_lines name 1 replies) ++ concat (clients_lines more others)
+clients-cons names more blocks others name replies names_are blocks_are =
+    ap (λ (n : List Text). concat (clients_lines n blocks)) names_are ∙ ap (λ (b : List (List Reply)). concat (clients_lines (name ∷ more) b)) blocks_are ∙ clients-text name more replies others
 
 -- the text of the last replies and of the end
 abbrev pub end_text : List Reply → ℕ → Text

@@ -1,4 +1,4 @@
-ghost use Rattle.std.specs.Prelude.{◌≡◌, ◌≤◌, ◌⊎◌, ℤ, true, List, Option, IsOk, IsErrOf, length, map, string_bytes};
+ghost use Rattle.std.specs.Prelude.{◌≡◌, ◌≤◌, ◌⊎◌, ℤ, true, List, Option, IsOk, IsErrOf, IfOk, OnErr, length, map, string_bytes};
 ghost use Rattle.std.specs.List.{list_any};
 ghost use Rattle.base_types.specs.Faults.{Rose};
 ghost use Rattle.frame_core.specs.Texts.{Text as Bytes};
@@ -6,6 +6,10 @@ ghost use Rattle.bucket_shared.specs.Passes.{seen_of, number_of, limit_of, sole_
 ghost use Rattle.program_edge.specs.Shelves.{Held};
 ghost use Rattle.program_edge.specs.Clocks.{IsReading};
 ghost use Rattle.reply_model.specs.Windows.{is_refused};
+ghost use Rattle.library_api.specs.Libraries.{AreSettings};
+ghost use Rattle.library_api.specs.Steps.{run_cutting};
+ghost use Rattle.client_sessions.specs.Blocks.{clients_of};
+ghost use Rattle.client_sessions.specs.Parts.{IsRun as IsPartsRun};
 ghost use Rattle.arctic_cli.specs.CommandLine.{IsTries};
 ghost use Rattle.arctic_cli.specs.Program.{Shelf as Files, run_alone, wants_memory, some_outcome, replies_status, run_of, stop_status, stopped};
 ghost use Rattle.arctic_cli.specs.Endings.{RunEnds, JobEnds, Ends, start_of, IsTranscript, StopsByUsage, StopsByScript, StopsByFetch, StopsByPut, WantsMemory, StopsByFile, IsUnhindered, IsRun};
@@ -160,6 +164,54 @@ fn run_stop<S: Sink>(alloc: Global, out: &mut S, stop: &Stop) -> u8
     status_after(printed, status_of_stop(stop))
 }
 
+/// Carries out the parts of a plan over the store of a pass.
+fn carry_out_parts<R: Threads + Wait + Sync, G: Gate>(
+    rt: &R,
+    alloc: Global,
+    gate: &G,
+    pass: Pass,
+    settings: Settings,
+    plan: &Plan,
+) -> (Pass, Result<PartReplies, NoMemory>)
+    requires sole { sole_of pass ≡ true }
+    requires settings { AreSettings settings }
+    requires ready { AreReady (length plan.now.frames) (parts_in plan.now) }
+    ensures ran { IfOk result.1 (λ replies. IsPartsRun (run_cutting settings.cutting) (clients_of plan.now.frames settings (limit_of pass)) (number_of pass) (parts_in plan.now) replies (seen_of pass) (seen_of result.0)) }
+    ensures memory { OnErr result.1 (result.0 ≡ pass) }
+    ensures client { number_of result.0 ≡ number_of pass }
+    ensures limit { limit_of result.0 ≡ limit_of pass }
+    ensures sole { sole_of result.0 ≡ true }
+{
+    run_parts(
+        rt,
+        alloc,
+        pass,
+        gate,
+        settings,
+        plan.frames.items(),
+        plan.first.items(),
+        plan.blocks.items(),
+        plan.last.items(),
+    )
+}
+
+/// Prints the transcript of the replies, where there was memory for them. The status is 6 where there was none.
+fn end_run<S: Sink>(
+    alloc: Global,
+    out: &mut S,
+    names: &[Text],
+    replies: Result<PartReplies, NoMemory>,
+    end: u64,
+) -> u8
+    ensures told { IfOk replies (λ told. RunEnds (run_of names.now told end) (S.faults out.old) (S.faults out.new) (S.written out.old) (S.written out.new) result) }
+    ensures memory { OnErr replies ((result ≡ 6) × (S.written out.new ≡ S.written out.old)) }
+{
+    match replies {
+        Ok(replies) => run_replies(alloc, out, names, &replies, end),
+        Err(NoMemory) => 6,
+    }
+}
+
 /// Carries out the parts of a plan at a moment, and prints the replies.
 fn run_plan<R: Threads + Wait + Sync, S: Sink, G: Gate>(
     rt: &R,
@@ -185,21 +237,8 @@ fn run_plan<R: Threads + Wait + Sync, S: Sink, G: Gate>(
         workers: WORKERS,
         moment,
     };
-    let (pass, replies) = run_parts(
-        rt,
-        alloc,
-        pass,
-        gate,
-        settings,
-        plan.frames.items(),
-        plan.first.items(),
-        plan.blocks.items(),
-        plan.last.items(),
-    );
-    let status = match replies {
-        Ok(replies) => run_replies(alloc, out, plan.names.items(), &replies, pass.place()),
-        Err(NoMemory) => 6,
-    };
+    let (pass, replies) = carry_out_parts(rt, alloc, gate, pass, settings, plan);
+    let status = end_run(alloc, out, plan.names.items(), replies, pass.place());
     Ran { status, pass }
 }
 

@@ -26,12 +26,12 @@ returns-in_err-print_part g c =
 pub returns-in_err-print_clients : goal.returns-in_err-print_clients
 returns-in_err-print_clients g c =
     let e = c.in_err-print_clients.field-0.0 in
-    let same : c.from_residual.result ≡ Err e = handed-on c.from_residual.result e c.from_residual.ensures.1 in
+    let same : c.from_residual-in_err-print_clients.result ≡ Err e = handed-on c.from_residual-in_err-print_clients.result e c.from_residual-in_err-print_clients.ensures.1 in
     let first = concat (part_lines (codes "first") 1 c.args.replies.now.first) in
     let clients = concat (clients_lines c.args.names.now c.args.replies.now.blocks) in
     let printed : Prints g.S.Sink.written g.S.Sink.faults c.print_part.new.out c.print_clients.new.out clients (Err e) =
         subst (λ (blocks : List (List Reply)). Prints g.S.Sink.written g.S.Sink.faults c.print_part.new.out c.print_clients.new.out (concat (clients_lines c.args.names.now blocks)) (Err e)) c.items.ensures c.in_err-print_clients.ensures in
-    subst (λ (t : Text). Prints g.S.Sink.written g.S.Sink.faults c.args.out.now c.print_clients.new.out t c.from_residual.result) (sym (transcript-text c.args.names.now c.args.replies.now c.args.end))
+    subst (λ (t : Text). Prints g.S.Sink.written g.S.Sink.faults c.args.out.now c.print_clients.new.out t c.from_residual-in_err-print_clients.result) (sym (transcript-text c.args.names.now c.args.replies.now c.args.end))
     (subst (λ (x : Result (Unit {0}) SinkErr). Prints g.S.Sink.written g.S.Sink.faults c.args.out.now c.print_clients.new.out ((first ++ clients) ++ end_text c.args.replies.now.last c.args.end) x) (sym same)
     (printed-stop (g.S.Sink.written c.args.out.now) (g.S.Sink.written c.print_clients.new.out) (g.S.Sink.faults c.args.out.now) (g.S.Sink.faults c.print_clients.new.out) (first ++ clients) (end_text c.args.replies.now.last c.args.end) e
     (printed-then (g.S.Sink.written c.args.out.now) (g.S.Sink.written c.print_part.new.out) (g.S.Sink.written c.print_clients.new.out) (g.S.Sink.faults c.args.out.now) (g.S.Sink.faults c.print_part.new.out) (g.S.Sink.faults c.print_clients.new.out)
