@@ -128,8 +128,8 @@ prepared_plan holds before now words script options frames (Err halt) found load
 prepared_plan holds before now words script options frames (Ok plan) found loaded o n p f memory =
     let tables : map table_of plan.frames ≡ map table_of frames = ap (map table_of) f in
     let same : job_with plan.options plan.names (parts_in plan) (map table_of plan.frames) ≡ job_with options (client_names script.clients) (parts_of script) (map table_of frames) =
-        ap (λ (x : Options). job_with x plan.names (parts_in plan) (map table_of plan.frames)) o
-        ∙ ap (λ (x : List Text). job_with options x (parts_in plan) (map table_of plan.frames)) n
-        ∙ ap (λ (x : Parts). job_with options (client_names script.clients) x (map table_of plan.frames)) p
-        ∙ ap (λ (x : List Table). job_with options (client_names script.clients) (parts_of script) x) tables in
+    ap (λ (x : Options). job_with x plan.names (parts_in plan) (map table_of plan.frames)) o
+    ∙ ap (λ (x : List Text). job_with options x (parts_in plan) (map table_of plan.frames)) n
+    ∙ ap (λ (x : Parts). job_with options (client_names script.clients) x (map table_of plan.frames)) p
+    ∙ ap (λ (x : List Table). job_with options (client_names script.clients) (parts_of script) x) tables in
     subst (λ (j : Job). IsPrepared holds words j) (sym same) (prepared_job holds words script options (map table_of frames) found loaded)

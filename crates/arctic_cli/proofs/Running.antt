@@ -1,5 +1,5 @@
 -- How a run ends whose lines were printed.
-use Rattle.std.proofs.Common.{◌≡◌, ℤ, w64, SFits, ℕ, List, Option, Result, Ok, Err, refl, sym, ◌∙◌, subst, inl, inr}
+use Rattle.std.proofs.Common.{◌≡◌, ℤ, w64, SFits, ℕ, List, [], length, Option, Result, Ok, Err, refl, sym, ap, ◌∙◌, subst, inl, inr}
 use Rattle.std.specs.Prelude.{IsOk, IsErrOf, IfOk, OnErr}
 use Rattle.std.specs.List.{concat}
 use Rattle.std.proofs.lemmas.List.{append-nil}

@@ -114,7 +114,9 @@ fn are_carried_out(commands: &[Command]) -> bool
 fn all_clients_carried_out(clients: &[ClientPart]) -> bool
     ensures { result ≡ list_all is_carried_client clients.now }
 {
-    clients.iter().all(|client| all_carried_out(&client.commands))
+    clients
+        .iter()
+        .all(|client| all_carried_out(&client.commands))
 }
 
 /// The names and the commands of clients, in order.
@@ -169,12 +171,7 @@ fn load_frames<F: Shelf>(alloc: Global, shelf: &mut F, loads: &[Load]) -> Result
 }
 
 /// The plan of a script, of its options and of the raw frames of its loads.
-fn plan_of(
-    alloc: Global,
-    options: Options,
-    script: Script,
-    frames: RawFrames,
-) -> Result<Plan, Halt>
+fn plan_of(alloc: Global, options: Options, script: Script, frames: RawFrames) -> Result<Plan, Halt>
     ensures options { IfOk result (λ plan. plan.options ≡ options) }
     ensures names { IfOk result (λ plan. plan.names ≡ client_names script.clients) }
     ensures parts { IfOk result (λ plan. parts_in plan ≡ parts_of script) }

@@ -184,14 +184,14 @@ fn print_clients<S: Sink>(
 ) -> Result<(), SinkErr>
     ensures { Prints S.written S.faults out.old out.new (concat (clients_lines names.now blocks.now)) result }
 {
-    let Some((name, names)) = names.split_first() else {
+    let Some((name, other_names)) = names.split_first() else {
         return Ok(());
     };
-    let Some((replies, blocks)) = blocks.split_first() else {
+    let Some((replies, other_blocks)) = blocks.split_first() else {
         return Ok(());
     };
     print_part(alloc, out, name.text(), replies)?;
-    print_clients(alloc, out, names, blocks)
+    print_clients(alloc, out, other_names, other_blocks)
 }
 
 /// Puts the transcript of the replies of all parts, of clients of these names, where the history ends at this place.

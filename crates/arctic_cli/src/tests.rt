@@ -1,11 +1,11 @@
 use crate::run::run;
-use bucket_core::OpenGate;
+use bucket_core::{Gate, GatePoint, OpenGate, Step};
 use bucket_shared::Shared;
 use program_edge::{FixedClock, MemoryShelf, MemorySink};
 use std::alloc::Global;
-use std::sync::Wait;
+use std::sync::{Mutex, Wait};
 use std::test::Fail;
-use std::thread::Threads;
+use std::thread::{Threads, yield_now};
 
 const TABLE: &str = "time,price,size\n1,100,5\n2,101,7\n2,102,1\n4,99,3\n9,105,2\n";
 
@@ -37,6 +37,26 @@ fn shelf_of(
     Ok(MemoryShelf::make(files, fails))
 }
 
+/// The status of a run at the moment 7, whose clients pass this gate, and what it printed.
+fn ran_by<R: Threads + Wait + Sync, G: Gate>(
+    rt: &R,
+    alloc: Global,
+    words: &[&str],
+    shelf: MemoryShelf,
+    fails: Vec<u64>,
+    gate: &G,
+) -> Result<(u8, MemorySink), Fail> {
+    let words = words_of(alloc, words)?;
+    let mut shelf = shelf;
+    let mut out = MemorySink::make(fails);
+    let mut clock = FixedClock::make(7);
+    let pass = Shared::make(alloc, 1 << 40, 1)?;
+    let ran = run(
+        rt, alloc, &words, &mut shelf, &mut out, &mut clock, gate, pass,
+    );
+    Ok((ran.status, out))
+}
+
 /// The status of a run at the moment 7, and what it printed.
 fn ran<R: Threads + Wait + Sync>(
     rt: &R,
@@ -45,22 +65,7 @@ fn ran<R: Threads + Wait + Sync>(
     shelf: MemoryShelf,
     fails: Vec<u64>,
 ) -> Result<(u8, MemorySink), Fail> {
-    let words = words_of(alloc, words)?;
-    let mut shelf = shelf;
-    let mut out = MemorySink::make(fails);
-    let mut clock = FixedClock::make(7);
-    let pass = Shared::make(alloc, 1 << 40, 1)?;
-    let ran = run(
-        rt,
-        alloc,
-        &words,
-        &mut shelf,
-        &mut out,
-        &mut clock,
-        &OpenGate,
-        pass,
-    );
-    Ok((ran.status, out))
+    ran_by(rt, alloc, words, shelf, fails, &OpenGate)
 }
 
 /// The status of `run day.arc` with options, and what it printed.
@@ -204,5 +209,102 @@ fn a_sink_whose_second_put_fails_has_the_first_line(rt: HostRuntime) -> Result<(
     let (status, out) = ran(&rt, alloc, &["run", "day.arc"], shelf, vec![in alloc; 2]?)?;
     assert_eq!(rt; status, 5);
     assert_eq!(rt; out.bytes(), b"first.1 @4 ok v0\n".as_slice());
+    Ok(())
+}
+
+#[test]
+fn the_parts_are_printed_in_the_scripts_order(rt: HostRuntime) -> Result<(), Fail> {
+    let alloc = rt.alloc();
+    let script = "client b\nread X\nclient a\nread X\nread Y\nlast\nread X\n";
+    let (status, out) = ran_script(&rt, alloc, &["run", "day.arc"], script, TABLE, ("e", ""))?;
+    assert_eq!(rt; status, 1);
+    let wanted =
+        "b.1 @0 err 3 NoSuchSymbol\na.1 @0 err 3 NoSuchSymbol\na.2 @0 err 3 NoSuchSymbol\nlast.1 @0 err 3 NoSuchSymbol\nend @0\n";
+    assert_eq!(rt; out.bytes(), wanted.as_bytes());
+    Ok(())
+}
+
+/// Which points clients have come to.
+#[derive(Drop)]
+struct Come {
+    first: bool,
+    second: bool,
+}
+
+/// A gate that holds a client at a point until another one has come to a point of its own, and then the other one at that point
+/// until the client has come to a second point. It gives up after a million turns.
+#[derive(Drop)]
+struct Crossing {
+    held: GatePoint,
+    other: GatePoint,
+    done: GatePoint,
+    come: Mutex<Come>,
+}
+
+impl Crossing {
+    fn note<R: Wait>(&self, rt: &R, at: GatePoint) {
+        let mut come = self.come.lock(rt);
+        if at == self.other {
+            come.first = true;
+        }
+        if at == self.done {
+            come.second = true;
+        }
+    }
+
+    fn may_go_on<R: Wait>(&self, rt: &R, at: GatePoint) -> bool {
+        let come = self.come.lock(rt);
+        (at != self.held || come.first) && (at != self.other || come.second)
+    }
+}
+
+impl Gate for Crossing {
+    fn pass_by<R: Wait>(&self, rt: &R, at: GatePoint) {
+        self.note(rt, at);
+        for _ in 0..1_000_000u32 {
+            if self.may_go_on(rt, at) {
+                return;
+            }
+            yield_now();
+        }
+    }
+}
+
+/// The status and the output of two clients that write to one symbol in so many tries: a looks first when b stands before its
+/// commit, and b commits when a has done so.
+fn met<R: Threads + Wait + Sync>(
+    rt: &R,
+    alloc: Global,
+    tries: &str,
+) -> Result<(u8, MemorySink), Fail> {
+    let script =
+        "load t t.csv int,int\nfirst\nwrite S t\nclient a\nwrite S t\nclient b\nwrite S t\n";
+    let shelf = shelf_of(alloc, script, TABLE, ("e", ""), Vec::new(alloc))?;
+    let gate = Crossing {
+        held: GatePoint::before(2, Step::Get),
+        other: GatePoint::before(3, Step::Refer),
+        done: GatePoint::behind(2, Step::Refer),
+        come: Mutex::new(Come {
+            first: false,
+            second: false,
+        }),
+    };
+    let words = ["run", "day.arc", "--tries", tries];
+    ran_by(rt, alloc, &words, shelf, Vec::new(alloc), &gate)
+}
+
+#[test]
+fn clients_that_meet_at_one_symbol_run_beside_each_other(rt: HostRuntime) -> Result<(), Fail> {
+    let alloc = rt.alloc();
+    for (tries, status, line) in [
+        ("1", 1u8, "b.1 @11 err 6 Moved now=11\nend @14\n"),
+        ("2", 0, "b.1 @18 ok v2\nend @18\n"),
+    ] {
+        let (ended, out) = met(&rt, alloc, tries)?;
+        assert_eq!(rt; ended, status);
+        let front = b"first.1 @4 ok v0\na.1 @11 ok v1\n".as_slice();
+        assert!(rt; out.bytes().starts_with(front));
+        assert!(rt; out.bytes().ends_with(line.as_bytes()));
+    }
     Ok(())
 }

@@ -30,7 +30,7 @@ returns-in_err-print_clients g c =
     let first = concat (part_lines (codes "first") 1 c.args.replies.now.first) in
     let clients = concat (clients_lines c.args.names.now c.args.replies.now.blocks) in
     let printed : Prints g.S.Sink.written g.S.Sink.faults c.print_part.new.out c.print_clients.new.out clients (Err e) =
-        subst (λ (blocks : List (List Reply)). Prints g.S.Sink.written g.S.Sink.faults c.print_part.new.out c.print_clients.new.out (concat (clients_lines c.args.names.now blocks)) (Err e)) c.items.ensures c.in_err-print_clients.ensures in
+    subst (λ (blocks : List (List Reply)). Prints g.S.Sink.written g.S.Sink.faults c.print_part.new.out c.print_clients.new.out (concat (clients_lines c.args.names.now blocks)) (Err e)) c.items.ensures c.in_err-print_clients.ensures in
     subst (λ (t : Text). Prints g.S.Sink.written g.S.Sink.faults c.args.out.now c.print_clients.new.out t c.from_residual-in_err-print_clients.result) (sym (transcript-text c.args.names.now c.args.replies.now c.args.end))
     (subst (λ (x : Result (Unit {0}) SinkErr). Prints g.S.Sink.written g.S.Sink.faults c.args.out.now c.print_clients.new.out ((first ++ clients) ++ end_text c.args.replies.now.last c.args.end) x) (sym same)
     (printed-stop (g.S.Sink.written c.args.out.now) (g.S.Sink.written c.print_clients.new.out) (g.S.Sink.faults c.args.out.now) (g.S.Sink.faults c.print_clients.new.out) (first ++ clients) (end_text c.args.replies.now.last c.args.end) e
@@ -42,7 +42,7 @@ returns g c =
     let first = concat (part_lines (codes "first") 1 c.args.replies.now.first) in
     let clients = concat (clients_lines c.args.names.now c.args.replies.now.blocks) in
     let printed : Prints g.S.Sink.written g.S.Sink.faults c.print_part.new.out c.print_clients.new.out clients (Ok tt) =
-        subst (λ (blocks : List (List Reply)). Prints g.S.Sink.written g.S.Sink.faults c.print_part.new.out c.print_clients.new.out (concat (clients_lines c.args.names.now blocks)) (Ok tt)) c.items.ensures c.in_ok-print_clients.ensures in
+    subst (λ (blocks : List (List Reply)). Prints g.S.Sink.written g.S.Sink.faults c.print_part.new.out c.print_clients.new.out (concat (clients_lines c.args.names.now blocks)) (Ok tt)) c.items.ensures c.in_ok-print_clients.ensures in
     subst (λ (t : Text). Prints g.S.Sink.written g.S.Sink.faults c.args.out.now c.print_end.new.out t c.print_end.result) (sym (transcript-text c.args.names.now c.args.replies.now c.args.end))
     (printed-then (g.S.Sink.written c.args.out.now) (g.S.Sink.written c.print_clients.new.out) (g.S.Sink.written c.print_end.new.out) (g.S.Sink.faults c.args.out.now) (g.S.Sink.faults c.print_clients.new.out) (g.S.Sink.faults c.print_end.new.out)
     (first ++ clients) (end_text c.args.replies.now.last c.args.end) c.print_end.result
