@@ -11,7 +11,7 @@ use Rattle.arctic_cli.proofs.run.run_plan.Goals as goal
 
 pub returns-clause-ends : goal.returns-clause-ends
 returns-clause-ends g c = λ words holds reading told.
-    parts-end (start_of words holds reading c.args.pass) (job_in c.args.plan.now) (to_z w64 (of_z w64 c.args.moment)) _ _ _ _ c.end_run-status.result c.place.result (seen_of c.carry_out_parts-pass.result.0) c.carry_out_parts-pass.result.1
+    parts-end (start_of words holds reading c.args.pass) (job_in c.args.plan.now) (to_z w64 (of_z w64 c.args.moment)) (g.S.Sink.faults c.args.out.now) (g.S.Sink.faults c.end_run-status.new.out) (g.S.Sink.written c.args.out.now) (g.S.Sink.written c.end_run-status.new.out) c.end_run-status.result c.place.result (seen_of c.carry_out_parts-pass.result.0) c.carry_out_parts-pass.result.1
     (let fits : SFits w64 c.args.moment = search rules in told-again reading c.args.moment fits told) c.place.ensures
     c.carry_out_parts-pass.ensures.ran (unchanged c.carry_out_parts-pass.result.1 c.args.pass c.carry_out_parts-pass.result.0 c.carry_out_parts-pass.ensures.memory)
-    (subst (λ (names : List Text). IfOk c.carry_out_parts-pass.result.1 (λ replies. RunEnds (run_of names replies c.place.result) _ _ _ _ c.end_run-status.result)) c.items.ensures c.end_run-status.ensures.told) c.end_run-status.ensures.memory
+    (subst (λ (names : List Text). IfOk c.carry_out_parts-pass.result.1 (λ replies. RunEnds (run_of names replies c.place.result) (g.S.Sink.faults c.args.out.now) (g.S.Sink.faults c.end_run-status.new.out) (g.S.Sink.written c.args.out.now) (g.S.Sink.written c.end_run-status.new.out) c.end_run-status.result)) c.items.ensures c.end_run-status.ensures.told) c.end_run-status.ensures.memory
