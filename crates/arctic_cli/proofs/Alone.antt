@@ -23,11 +23,9 @@ use Rattle.client_sessions.specs.Sessions.{AreUncut, AreServed}
 use Rattle.client_sessions.specs.Blocks.{AreTalksOf}
 use Rattle.arctic_cli.specs.Program.{Shelf, Job, Run, run_of, wants_memory, some_outcome, some_reply, replies_status, one_block, replies_alone, run_from, run_alone, prepared}
 use Rattle.arctic_cli.specs.Causes.{Prepares}
-use Rattle.arctic_cli.specs.Endings.{Start, client_of, Performs, IsDue, Due, AllWritten, RunEnds, Ends, IsUnhindered, IsRun}
+use Rattle.arctic_cli.specs.Endings.{Start, client_of, Performs, IsDue, Due, AllWritten, RunEnds, Ends, HasServed, IsUnhindered, IsRun}
 use Rattle.arctic_cli.proofs.Told.{prepares-told}
-use Rattle.arctic_cli.proofs.Served.{found-served}
 use Rattle.arctic_cli.proofs.SoleRuns.{sole-parts}
-use Rattle.program_edge.specs.Shelves.{Held}
 use Rattle.script_lang.specs.Fronts.{◌>>=◌}
 
 -- ---- replies that are not cut
@@ -168,21 +166,14 @@ job-exact are_sole start job run moment told after status new reading empty one 
 
 -- all was written
 plan-exact : (are_sole : RunsAreSole) (start : Start) (plan : Result Job Stop) (run : Run) (moment : ℤ) (told : Text) (after : Option Text) (status : ℕ) (new : History) → start.reading ≡ Some moment → start.history ≡ [] → start.client ≡ 1 → length new < start.limit →
-    ((job : Job) → plan ≡ Ok job → job.parts.blocks ≡ []) → ((job : Job) → plan ≡ Ok job → AreServed job.parts.first × AreServed job.parts.last) →
-    IsDue start plan run new → AllWritten run (Some told) after status → (status ≡ 6) ⊎ IsRun (run_from moment plan) told after status
-plan-exact are_sole start (Ok job) run moment told after status new reading empty one below none served due w =
-    job-exact are_sole start job run moment told after status new reading empty one below (none job refl) (served job refl).0 (served job refl).1 due w
-plan-exact are_sole start (Err s) run moment told after status new reading empty one below none served due w =
+    HasServed plan → IsDue start plan run new → AllWritten run (Some told) after status → (status ≡ 6) ⊎ IsRun (run_from moment plan) told after status
+plan-exact are_sole start (Ok job) run moment told after status new reading empty one below served due w =
+    job-exact are_sole start job run moment told after status new reading empty one below served.0 served.1 served.2 due w
+plan-exact are_sole start (Err s) run moment told after status new reading empty one below served due w =
     inr (w.status_is ∙ ap (λ (r : Run). r.status) due.0, w.output ∙ ap (λ (r : Run). some (told ++ concat r.lines)) due.0)
   where
     some : Text → Option Text
     some t = Some t
-
--- the commands of what was prepared
-prepared-served : (holds : Held) (f0 f1 : ℕ) (words : List Text) (job : Job) → Prepares holds f0 f1 words (Ok job) → AreServed job.parts.first × AreServed job.parts.last
-prepared-served holds f0 f1 words job p =
-    let served = found-served p.found.bytes p.script p.found.script_is in
-    subst (λ (x : Job). AreServed x.parts.first × AreServed x.parts.last) (sym p.job_is) (served.first, served.last)
 
 due-exact : (are_sole : RunsAreSole) (start : Start) (f0 f1 g0 g1 : ℕ) (held : Shelf) (told : Text) (moment : ℤ) (w0 w1 : Option Text) (status : ℕ) (new : History) → IsUnhindered start f0 f1 g0 g1 held told moment w0 new → (due : Due start f0 f1 new) →
     RunEnds due.run g0 g1 w0 w1 status → (status ≡ 6) ⊎ IsRun (run_alone moment held start.words) told w1 status
@@ -191,8 +182,7 @@ due-exact are_sole start f0 f1 g0 g1 held told moment w0 w1 status new u due (in
 due-exact are_sole start f0 f1 g0 g1 held told moment w0 w1 status new u due (inl w) =
     let made : prepared held start.words ≡ due.plan = prepares-told held f0 f1 start.words due.plan u.shelf_works (subst (λ h. Prepares h f0 f1 start.words due.plan) u.tells due.prepares) in
     subst (λ (x : Result Job Stop). (status ≡ 6) ⊎ IsRun (run_from moment x) told w1 status) (sym made)
-    (plan-exact are_sole start due.plan due.run moment told w1 status new u.reading u.empty u.first u.room (λ job is. u.one_client job (made ∙ is))
-    (λ job is. prepared-served start.holds f0 f1 start.words job (subst (λ (x : Result Job Stop). Prepares start.holds f0 f1 start.words x) is due.prepares)) due.is_due (subst (λ (o : Option Text). AllWritten due.run o w1 status) u.written w))
+    (plan-exact are_sole start due.plan due.run moment told w1 status new u.reading u.empty u.first u.room (subst HasServed made u.served) due.is_due (subst (λ (o : Option Text). AllWritten due.run o w1 status) u.written w))
 
 -- where nothing hinders it, the run is that of one client alone, or memory was wanted
 pub exact : (are_sole : RunsAreSole) (start : Start) (f0 f1 g0 g1 : ℕ) (held : Shelf) (told : Text) (moment : ℤ) (w0 w1 : Option Text) (status : ℕ) (new : History) → IsUnhindered start f0 f1 g0 g1 held told moment w0 new →

@@ -9,6 +9,5 @@ pub mod Ready
 pub mod Running
 pub mod Ended
 pub mod Told
-pub mod Served
 pub mod SoleRuns
 pub mod Alone

@@ -6,9 +6,9 @@
 --     AllWritten, RunEnds     how the lines of a run came to be written, or not
 --     JobEnds, Ends           the endings of a job, and all endings
 --     IsTranscript, StopsByUsage, StopsByScript, StopsByFetch, StopsByPut, WantsMemory, StopsByFile      the ending of each status
---     IsUnhindered            nothing hinders a run of one client alone
+--     HasServed, IsUnhindered      nothing hinders a run of one client alone
 --     IsRun                   exactly the status and the output of a run
-use Rattle.std.specs.Prelude.{◌≡◌, ◌⊎◌, ◌<◌, ◌≤◌, ℕ, ℤ, List, [], ◌++◌, length, take, Option, Some, None, Result, Ok, Err}
+use Rattle.std.specs.Prelude.{◌≡◌, ◌⊎◌, ⊤, ◌<◌, ◌≤◌, ℕ, ℤ, List, [], ◌++◌, length, take, Option, Some, None, Result, Ok, Err}
 use Rattle.std.specs.List.{concat}
 use Rattle.base_types.specs.Faults.{Rose}
 use Rattle.frame_core.specs.Texts.{Text}
@@ -17,6 +17,7 @@ use Rattle.bucket_shared.specs.declared.pass.Pass.{Pass}
 use Rattle.bucket_shared.specs.Passes.{seen_of, number_of, limit_of}
 use Rattle.reply_model.specs.Windows.{Client}
 use Rattle.client_sessions.specs.declared.parts.PartReplies.{PartReplies}
+use Rattle.client_sessions.specs.Sessions.{AreServed}
 use Rattle.client_sessions.specs.Parts as sessions
 use Rattle.program_edge.specs.Shelves.{Held}
 use Rattle.program_edge.specs.Clocks.{IsReading}
@@ -161,8 +162,14 @@ WantsMemory start shelf_faults shelf_now before after new =
 
 -- ---- completeness
 
+-- the job, if there is one, has no block, and of each of its commands it is told what one client alone gets
+abbrev pub HasServed : Result Job Stop → Type 0
+HasServed (Ok job) = (job.parts.blocks ≡ []) × AreServed job.parts.first × AreServed job.parts.last
+HasServed (Err stop) = ⊤
+
 -- nothing hinders a run of one client alone: shelf, output and clock tell what they hold; the store is empty and the pass that of client
--- 1; neither shelf nor output failed; the limit was not reached; and the job, if there is one, has no block
+-- 1; neither shelf nor output failed; the limit was not reached; there is no block; and no command is one of which it is not told what one
+-- client alone gets
 pub record IsUnhindered (start : Start) (shelf_faults shelf_now faults now : ℕ) (held : Shelf) (told : Text) (moment : ℤ) (before : Option Text) (new : History) : Type 0 where
   pub tells : start.holds ≡ Some held
   pub written : before ≡ Some told
@@ -172,7 +179,7 @@ pub record IsUnhindered (start : Start) (shelf_faults shelf_now faults now : ℕ
   pub shelf_works : Rose shelf_faults shelf_now → ⊥
   pub output_works : Rose faults now → ⊥
   pub room : length new < start.limit
-  pub one_client : (job : Job) → prepared held start.words ≡ Ok job → job.parts.blocks ≡ []
+  pub served : HasServed (prepared held start.words)
 
 -- the status and the output are those of the run, if there is one
 abbrev pub IsRun : Option Run → Text → Option Text → ℕ → Type 0

@@ -212,6 +212,82 @@ fn a_sink_whose_second_put_fails_has_the_first_line(rt: HostRuntime) -> Result<(
     Ok(())
 }
 
+/// The status of a run over these files, and what it printed.
+fn ran_files<R: Threads + Wait + Sync>(
+    rt: &R,
+    alloc: Global,
+    words: &[&str],
+    files: &[(&str, &str)],
+) -> Result<(u8, MemorySink), Fail> {
+    let mut held = Vec::new(alloc);
+    for file in files {
+        held.push((
+            String::from_str(alloc, file.0)?,
+            Vec::from_slice(alloc, file.1.as_bytes())?,
+        ))?;
+    }
+    let shelf = MemoryShelf::make(held, Vec::new(alloc));
+    ran(rt, alloc, words, shelf, Vec::new(alloc))
+}
+
+#[test]
+fn an_append_is_refused_where_it_does_not_go_on(rt: HostRuntime) -> Result<(), Fail> {
+    let alloc = rt.alloc();
+    let script =
+        "load t t.csv int,int\nload a9 a9.csv int,int\nload a8 a8.csv int,int\nload w w.csv int,int\nfirst\nwrite S t\nappend S w\nappend S a9\nappend S a8\n";
+    let files = [
+        ("day.arc", script),
+        ("t.csv", TABLE),
+        ("a9.csv", "time,price,size\n9,106,1\n"),
+        ("a8.csv", "time,price,size\n8,1,1\n"),
+        ("w.csv", "time,price,qty\n9,1,1\n"),
+    ];
+    let (status, out) = ran_files(&rt, alloc, &["run", "day.arc"], &files)?;
+    assert_eq!(rt; status, 1);
+    let wanted =
+        "first.1 @4 ok v0\nfirst.2 @4 err 8 SchemaDiffers column=2\nfirst.3 @8 ok v1\nfirst.4 @8 err 9 AppendBefore last=9 first=8\nend @8\n";
+    assert_eq!(rt; out.bytes(), wanted.as_bytes());
+    Ok(())
+}
+
+#[test]
+fn a_reclaim_keeps_the_tiles_that_an_append_shares(rt: HostRuntime) -> Result<(), Fail> {
+    let alloc = rt.alloc();
+    let script =
+        "load six six.csv int\nload end end.csv int\nfirst\nwrite S six\nappend S end\nkeys S\nprune S\nreclaim S\nkeys S\nread S range=50..\n";
+    let files = [
+        ("day.arc", script),
+        (
+            "six.csv",
+            "time,price\n10,1\n20,2\n30,3\n40,4\n50,5\n60,6\n",
+        ),
+        ("end.csv", "time,price\n60,7\n"),
+    ];
+    let (status, out) = ran_files(&rt, alloc, &["run", "day.arc", "--rows", "2"], &files)?;
+    assert_eq!(rt; status, 0);
+    let wanted =
+        "first.1 @6 ok v0\nfirst.2 @10 ok v1\nfirst.3 @10 ok data=4 index=2 version=2 ref=1 staged=0\nfirst.4 @12 ok pruned versions=1\nfirst.5 @12 ok freed data=0 index=1 staged=0\nfirst.6 @13 ok data=4 index=1 version=3 ref=1 staged=0\nfirst.7 @13 ok v1 rows=3\ntime,price\n50,5\n60,6\n60,7\nend @13\n";
+    assert_eq!(rt; out.bytes(), wanted.as_bytes());
+    Ok(())
+}
+
+#[test]
+fn a_reclaim_drops_what_no_live_version_has(rt: HostRuntime) -> Result<(), Fail> {
+    let alloc = rt.alloc();
+    let script = "load t t.csv int,int\nfirst\nwrite S t\nwrite S t prune\nreclaim S\nkeys S\n";
+    let (status, out) = ran_files(
+        &rt,
+        alloc,
+        &["run", "day.arc"],
+        &[("day.arc", script), ("t.csv", TABLE)],
+    )?;
+    assert_eq!(rt; status, 0);
+    let wanted =
+        "first.1 @4 ok v0\nfirst.2 @8 ok v1\nfirst.3 @8 ok freed data=1 index=1 staged=0\nfirst.4 @10 ok data=1 index=1 version=2 ref=1 staged=0\nend @10\n";
+    assert_eq!(rt; out.bytes(), wanted.as_bytes());
+    Ok(())
+}
+
 #[test]
 fn the_parts_are_printed_in_the_scripts_order(rt: HostRuntime) -> Result<(), Fail> {
     let alloc = rt.alloc();
@@ -270,7 +346,7 @@ impl Gate for Crossing {
     }
 }
 
-/// The status and the output of two clients that write to one symbol in so many tries: a looks first when b stands before its
+/// The status and the output of two clients that append to one symbol in so many tries: a looks first when b stands before its
 /// commit, and b commits when a has done so.
 fn met<R: Threads + Wait + Sync>(
     rt: &R,
@@ -278,8 +354,9 @@ fn met<R: Threads + Wait + Sync>(
     tries: &str,
 ) -> Result<(u8, MemorySink), Fail> {
     let script =
-        "load t t.csv int,int\nfirst\nwrite S t\nclient a\nwrite S t\nclient b\nwrite S t\n";
-    let shelf = shelf_of(alloc, script, TABLE, ("e", ""), Vec::new(alloc))?;
+        "load t t.csv int,int\nload a9 a9.csv int,int\nfirst\nwrite S t\nclient a\nappend S a9\nclient b\nappend S a9\n";
+    let more = ("a9.csv", "time,price,size\n9,106,1\n");
+    let shelf = shelf_of(alloc, script, TABLE, more, Vec::new(alloc))?;
     let gate = Crossing {
         held: GatePoint::before(2, Step::Get),
         other: GatePoint::before(3, Step::Refer),
@@ -305,6 +382,93 @@ fn clients_that_meet_at_one_symbol_run_beside_each_other(rt: HostRuntime) -> Res
         let front = b"first.1 @4 ok v0\na.1 @11 ok v1\n".as_slice();
         assert!(rt; out.bytes().starts_with(front));
         assert!(rt; out.bytes().ends_with(line.as_bytes()));
+    }
+    Ok(())
+}
+
+/// How often clients have come to two points.
+#[derive(Drop)]
+struct Counts {
+    held: u64,
+    done: u64,
+}
+
+/// A gate that holds a client where it comes to a point for the given time, counted from 1, until another one has come to another
+/// point twice. It gives up after a million turns.
+#[derive(Drop)]
+struct Holding {
+    held: GatePoint,
+    time: u64,
+    done: GatePoint,
+    counts: Mutex<Counts>,
+}
+
+impl Holding {
+    fn note<R: Wait>(&self, rt: &R, at: GatePoint) {
+        let mut counts = self.counts.lock(rt);
+        if at == self.held {
+            counts.held = counts.held.saturating_add(1);
+        }
+        if at == self.done {
+            counts.done = counts.done.saturating_add(1);
+        }
+    }
+
+    fn may_go_on<R: Wait>(&self, rt: &R, at: GatePoint) -> bool {
+        let counts = self.counts.lock(rt);
+        at != self.held || counts.held < self.time || counts.done >= 2
+    }
+}
+
+impl Gate for Holding {
+    fn pass_by<R: Wait>(&self, rt: &R, at: GatePoint) {
+        self.note(rt, at);
+        for _ in 0..1_000_000u32 {
+            if self.may_go_on(rt, at) {
+                return;
+            }
+            yield_now();
+        }
+    }
+}
+
+/// The status and the output of a client that reads what another one buries and drops, and is held behind its get of this number
+/// until both drops are done.
+fn read_meanwhile<R: Threads + Wait + Sync>(
+    rt: &R,
+    alloc: Global,
+    time: u64,
+) -> Result<(u8, MemorySink), Fail> {
+    let script =
+        "load t t.csv int,int\nfirst\nwrite S t\nclient a\nread S\nclient b\nwrite S t prune\nreclaim S\n";
+    let shelf = shelf_of(alloc, script, TABLE, ("e", ""), Vec::new(alloc))?;
+    let gate = Holding {
+        held: GatePoint::behind(2, Step::Get),
+        time,
+        done: GatePoint::behind(3, Step::Drop),
+        counts: Mutex::new(Counts { held: 0, done: 0 }),
+    };
+    ran_by(rt, alloc, &["run", "day.arc"], shelf, Vec::new(alloc), &gate)
+}
+
+#[test]
+fn a_read_gives_a_whole_frame_or_tells_that_it_is_gone(rt: HostRuntime) -> Result<(), Fail> {
+    let alloc = rt.alloc();
+    for (time, status, read) in [
+        (1, 1u8, "a.1 @10 err 5 VersionGone version=0\n"),
+        (
+            4,
+            0,
+            "a.1 @4 ok v0 rows=5\ntime,price,size\n1,100,5\n2,101,7\n2,102,1\n4,99,3\n9,105,2\n",
+        ),
+    ] {
+        let (ended, out) = read_meanwhile(&rt, alloc, time)?;
+        assert_eq!(rt; ended, status);
+        let rest = out.bytes().strip_prefix(b"first.1 @4 ok v0\n");
+        let rest = rest.and_then(|bytes| bytes.strip_prefix(read.as_bytes()));
+        let wanted =
+            b"b.1 @8 ok v1\nb.2 @8 ok freed data=1 index=1 staged=0\nend @10\n".as_slice();
+        assert!(rt; rest == Some(wanted));
     }
     Ok(())
 }

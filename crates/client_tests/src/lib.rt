@@ -3,6 +3,8 @@
 
 mod meanwhile;
 #[cfg(test)]
+mod reclaim_tests;
+#[cfg(test)]
 mod tests;
 
 pub use meanwhile::{Act, Meanwhile};

@@ -17,8 +17,6 @@ mod raw;
 mod refusal;
 mod schema;
 mod selecting;
-#[cfg(test)]
-mod tests;
 mod text_parts;
 mod texts;
 

@@ -35,16 +35,16 @@ use Rattle.frame_read.proofs.PlaceLemmas.{where_in, places_where_below}
 -- ---- the version of a link
 
 -- the link's tiles are the version's frame, and its slots have the stamps of their rows
-abbrev IsWhole : Linked → Version → Type 0
+abbrev pub IsWhole : Linked → Version → Type 0
 IsWhole l v = IsLinkOf l v × IsStamped l v
 
-both : (ls : List Linked) (vs : List Version) → AllZip IsLinkOf ls vs → AllZip IsStamped ls vs → AllZip IsWhole ls vs
+pub both : (ls : List Linked) (vs : List Version) → AllZip IsLinkOf ls vs → AllZip IsStamped ls vs → AllZip IsWhole ls vs
 both [] [] a b = tt
 both [] (v ∷ vs) a b = absurd a
 both (l ∷ ls) [] a b = absurd a
 both (l ∷ ls) (v ∷ vs) a b = ((a.0, b.0), both ls vs a.1 b.1)
 
-version_of : (ls : List Linked) (vs : List Version) → AllZip IsWhole ls vs → (l : Linked) → Contains ls l → (v : Version) × Contains vs v × IsWhole l v
+pub version_of : (ls : List Linked) (vs : List Version) → AllZip IsWhole ls vs → (l : Linked) → Contains ls l → (v : Version) × Contains vs v × IsWhole l v
 version_of [] vs z l there = absurd (contains_none l there)
 version_of (m ∷ ls) [] z l there = absurd z
 version_of (m ∷ ls) (v ∷ vs) z l there = elim (contains_cases l m ls there) [
@@ -63,7 +63,7 @@ put_parts part (Some frame) (Some more) tiles e = (frame, more, refl, refl, some
     some_same : {x y : List Tile} → Some x ≡ Some y → x ≡ y
     some_same e = cc
 
-slot_frame : (h : History) (slots : List Slot) (tiles : List Tile) → tiles_put h slots ≡ Some tiles → (s : Slot) → Contains slots s → (f : Frame) × (frame_put h s.key ≡ Some f) × Contains tiles (s.part, f)
+pub slot_frame : (h : History) (slots : List Slot) (tiles : List Tile) → tiles_put h slots ≡ Some tiles → (s : Slot) → Contains slots s → (f : Frame) × (frame_put h s.key ≡ Some f) × Contains tiles (s.part, f)
 slot_frame h [] tiles e s there = absurd (contains_none s there)
 slot_frame h (m ∷ slots) tiles e s there =
     let r = put_parts m.part (frame_put h m.key) (tiles_put h slots) tiles e in
@@ -87,7 +87,7 @@ tile_slot h (m ∷ slots) tiles e t there =
       | inr later ↦ let rest = tile_slot h slots r.1 r.3 t later in (rest.0, contains_later rest.0 m slots rest.1, rest.2)
     ]
 
-linked_tiles : (h : History) (row : LinkRow) (l : Linked) → linked h row ≡ Some l → tiles_put h l.index.slots ≡ Some l.tiles
+pub linked_tiles : (h : History) (row : LinkRow) (l : Linked) → linked h row ≡ Some l → tiles_put h l.index.slots ≡ Some l.tiles
 linked_tiles h row l e = by (index_put h row.index) e
   where
     of : (i : Index) (tiles : Option (List Tile)) → tiles_put h i.slots ≡ tiles → option_map (λ t. record { row = row; index = i; tiles = t }) tiles ≡ Some l → tiles_put h l.index.slots ≡ Some l.tiles
@@ -110,7 +110,7 @@ read_ok : (r : Result Frame ℕ) (f : Frame) → read_of r ≡ Some f → r ≡ 
 read_ok (Ok g) f e = cc
 read_ok (Err n) f e = absurd cc
 
-held : (h : History) (frame f : Frame) (s : Slot) (tile : FetchedTile) → IsGot h s tile → frame_put h s.key ≡ Some f → f ≡ cut frame s.part → HoldsPart frame tile
+pub held : (h : History) (frame f : Frame) (s : Slot) (tile : FetchedTile) → IsGot h s tile → frame_put h s.key ≡ Some f → f ≡ cut frame s.part → HoldsPart frame tile
 held h frame f s tile got put is =
     read_ok (segment_of (arc_value tile.body)) f (sym (ap (λ o. option_and_then (λ body. read_of (segment_of body)) o) got.body) ∙ put)
     ∙ ap ok_frame (is ∙ ap (λ part. cut frame part) (sym got.part))

@@ -149,8 +149,9 @@ fn has_name(names: &[ColName], name: &ColName) -> bool
     names.iter().any(|other| *name == *other)
 }
 
-/// The tiles of the slots at these places, one look for each.
-fn get_tiles<R: Wait, B: Bucket<StoreLaw>>(
+/// The tiles of the slots at these places of the target's index, counted from 0, one look for each. The bodies are shared with
+/// the store and not copied. It may wait for the store.
+pub fn get_tiles<R: Wait, B: Bucket<StoreLaw>>(
     rt: &R,
     alloc: Global,
     bucket: &mut B,

@@ -16,7 +16,7 @@ mod versions;
 
 pub use base_types::NoMemory;
 pub use choosing::choose;
-pub use fetching::fetch;
+pub use fetching::{fetch, get_tiles};
 pub use laws::fetched_tiles_have_what_is_asked;
 pub use objects::index_of;
 pub use resolving::resolve;

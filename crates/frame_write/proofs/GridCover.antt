@@ -89,7 +89,7 @@ count_parts g block (suc n) =
     let more : suc n * col_blocks g ≡ col_blocks g + n * col_blocks g = omega arith in
     both ∙ omega (arith, here, rest) ∙ sym more
 
-at_most : (r k most : ℕ) → r ≤ most → r * k ≤ most → r * max 1 k ≤ most
+pub at_most : (r k most : ℕ) → r ≤ most → r * k ≤ most → r * max 1 k ≤ most
 at_most r zero most few cells = omega (arith, few)
 at_most r (suc k) most few cells = let same : max 1 (suc k) ≡ suc k = omega arith in rw same cells
 

@@ -57,7 +57,7 @@ use Rattle.frame_write.specs.declared.plan.Plan.{Plan}
 use Rattle.frame_write.proofs.StateLemmas.{live_told, next_told}
 use Rattle.frame_write.proofs.GridSlots.{HasTileKey, index_rules}
 
-ok_is_ok : {A E : Type 0} (r : Result A E) (a : A) → r ≡ Ok a → IsOk r
+pub ok_is_ok : {A E : Type 0} (r : Result A E) (a : A) → r ≡ Ok a → IsOk r
 ok_is_ok r a e = ap is_ok e
 
 -- ---- the stamps of a frame fit their fields
@@ -103,7 +103,7 @@ module _ (client : ℕ) (symbol : Name) (version : ℕ) (frame : Frame) (try_fit
   slot_parts serial (t ∷ tiles) = ap (λ ps. t.part ∷ ps) (slot_parts (suc serial) tiles)
 
   -- they may be put one after another, and what follows behind them
-  tiles_from : (serial : ℕ) (tiles : List Tile) (rest : List (Key × Bytes)) → serial + length tiles < 2 ^ 64 → AllByRecursion (IsTileOf frame) tiles
+  pub tiles_from : (serial : ℕ) (tiles : List Tile) (rest : List (Key × Bytes)) → serial + length tiles < 2 ^ 64 → AllByRecursion (IsTileOf frame) tiles
       → ArePutsFrom client (serial + length tiles) rest → ArePutsFrom client serial (tile_puts (placed client symbol version serial tiles) ++ rest)
   tiles_from serial [] rest small each more = subst (λ n. ArePutsFrom client n rest) (omega arith) more
   tiles_from serial (t ∷ tiles) rest small each more = (
@@ -269,7 +269,7 @@ seen_append : (xs ys : List Prepared) → puts_seen (xs ++ ys) ≡ puts_seen xs 
 seen_append [] ys = refl
 seen_append (x ∷ xs) ys = ap (λ l. put_seen x ∷ l) (seen_append xs ys)
 
-pruned_is : (st : State) (prune : Bool) (live numbers : List ℕ) → live ≡ live_numbers st → numbers ≡ (if prune then live else []) → removed numbers ≡ pruned st prune
+pub pruned_is : (st : State) (prune : Bool) (live numbers : List ℕ) → live ≡ live_numbers st → numbers ≡ (if prune then live else []) → removed numbers ≡ pruned st prune
 pruned_is st true live numbers same is = ap removed (is ∙ same)
 pruned_is st false live numbers same is = ap removed is
 
@@ -277,7 +277,7 @@ pruned_is st false live numbers same is = ap removed is
 abbrev changes_on : History → Name → Frame → ℤ → Bool → List Change
 changes_on before symbol frame at prune = changes.Wrote frame at ∷ pruned (state_of before symbol) prune
 
-buries_pruned : (st : State) (prune : Bool) → BuriesLive st (pruned st prune)
+pub buries_pruned : (st : State) (prune : Bool) → BuriesLive st (pruned st prune)
 buries_pruned st false = buries_none
 buries_pruned st true = by (live_numbers st) refl
   where
@@ -289,7 +289,7 @@ buries_pruned st true = by (live_numbers st) refl
     by (n ∷ ns) is = subst (λ ms. BuriesLive st (changes.Removed ms ∷ [])) is (buries_live (filled_if n ns is))
 
 -- what is buried does not depend on what is staged
-buries_staging : (st : State) (more : List Piece) (rest : List Change) → BuriesLive st rest → BuriesLive (staging more st) rest
+pub buries_staging : (st : State) (more : List Piece) (rest : List Change) → BuriesLive st rest → BuriesLive (staging more st) rest
 buries_staging st more _ buries_none = buries_none
 buries_staging st more _ (buries_live some) = buries_live some
 
@@ -381,6 +381,7 @@ module _ (client serial : ℕ) (symbol : Name) (version : ℕ) (frame : Frame) (
     };
     changes = changes_are ∙ (λ i. changes.Wrote frame (sym at_is i) ∷ pruned (state_of before symbol) (sym prune_is i));
     puts = ap length puts_seen_are ∙ (length-append (tile_puts (placed client symbol version serial tiles)) _ ∙ ap (λ n. n + 2) (tiles_counted ∙ ap (λ c. length (parts (grid_of frame c))) (sym cutting_is)));
+    parts_are = slot_parts_are client serial symbol version frame cutting tiles storable tiled try_fits small ∙ ap (λ c. parts (grid_of frame c)) (sym cutting_is);
   }
     where
       changes_are : arc_value plan.changes ≡ changes_on before symbol frame at prune

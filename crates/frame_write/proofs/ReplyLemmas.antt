@@ -18,7 +18,8 @@ use Rattle.version_chain.specs.Traces.{own_of, met_in, Went}
 use Rattle.frame_write.specs.Tries.{Made, DidCommit, DidTry, DidTries, DidRefused}
 use Rattle.version_chain.specs.Traces.{GoesOn}
 use Rattle.frame_write.specs.Writes.{StandsAlone}
-use Rattle.version_chain.proofs.TraceLemmas.{own_of-append, own_of-one, went_then}
+use Rattle.reply_model.specs.Standing.{GrowsAlone}
+use Rattle.version_chain.proofs.TraceLemmas.{append_assoc, own_of-append, own_of-one, went_then, same_front}
 
 -- ---- how the history went on
 
@@ -79,41 +80,56 @@ goes_on client sole symbol Asked Refuses Wants most limit before now old new (Er
   ]
 ]
 
--- ---- a client that is alone
+-- ---- a window without events of others
 
--- none of its tries is met, so that a commit stands right behind its puts
-pub stands_alone : (client : ℕ) (symbol : Name) (Asked : Made → Type 0) (most limit before now : ℕ) (Refuses : History → Refusal → Type 0) (Wants : History → Type 0) (old new : History) (done : Committed) (tiles : ℕ)
-    → ((m : Made) → Asked m → length m.puts ≡ tiles + 2) → DidTries client true symbol Asked Refuses Wants most limit before now old new (Ok done) → StandsAlone tiles old done
-stands_alone client symbol Asked most limit before now Refuses Wants old new done tiles counts d =
+-- all events of one client
+abbrev AreOwn : ℕ → History → Type 0
+AreOwn client more = AllByRecursion (λ (e : Event). author e ≡ client) more
+
+all_parts : (client : ℕ) (xs ys : History) → AreOwn client (xs ++ ys) → AreOwn client xs × AreOwn client ys
+all_parts client [] ys all = (tt, all)
+all_parts client (x ∷ xs) ys all = let parts = all_parts client xs ys all.1 in ((all.0, parts.0), parts.1)
+
+-- what was added without others are the own events
+own_only : (client : ℕ) (more : History) (own : List Event) → AreOwn client more → own_of client more ≡ own → more ≡ reverse own
+own_only client more own all is = sym (reverse-reverse more) ∙ ap reverse (ap reverse (sym (kept more all)) ∙ is)
+  where
+    kept : (es : History) → AreOwn client es → filter (λ e. nat_eq (author e) client) es ≡ es
+    kept [] all = refl
+    kept (e ∷ es) all = ap (λ b. cond b (e ∷ filter (λ x. nat_eq (author x) client) es) (filter (λ x. nat_eq (author x) client) es)) (eq-eqb (author e) client all.0) ∙ ap (λ l. e ∷ l) (kept es all.1)
+
+-- own events are no Refers by others
+own_not_met : (client : ℕ) (symbol : Name) (more : History) → AreOwn client more → met_in client symbol more ≡ 0
+own_not_met client symbol [] own = refl
+own_not_met client symbol (e ∷ more) own =
+    let step : met_in client symbol (e ∷ more) ≡ cond (refers symbol e && not (nat_eq (author e) client)) 1 0 + met_in client symbol more = count_by-cons (λ x. refers symbol x && not (nat_eq (author x) client)) e more in
+    let mine : (refers symbol e && not (nat_eq (author e) client)) ≡ false = (λ i. refers symbol e && not (eq-eqb (author e) client own.0 i)) ∙ and_false (refers symbol e) in
+    step ∙ ((λ i. cond (mine i) 1 0 + own_not_met client symbol more own.1 i))
+  where
+    and_false : (b : Bool) → (b && false) ≡ false
+    and_false true = refl
+    and_false false = refl
+
+-- none of the tries is met, so that a commit stands right behind its puts
+pub stands_alone : (client : ℕ) (sole : Bool) (symbol : Name) (Asked : Made → Type 0) (most limit before now : ℕ) (Refuses : History → Refusal → Type 0) (Wants : History → Type 0) (old new : History) (done : Committed) (tiles : ℕ)
+    → ((m : Made) → Asked m → length m.puts ≡ tiles + 2) → GrowsAlone client old new → DidTries client sole symbol Asked Refuses Wants most limit before now old new (Ok done) → StandsAlone tiles old done
+stands_alone client sole symbol Asked most limit before now Refuses Wants old new done tiles counts grows d =
     let c = d.last in
-    let none : d.count ≤ 0 = subst (λ n. d.count ≤ n) (no_others client symbol d.refused.went.more (flat_map (λ t. t) d.refused.tries) d.refused.went.own_are (d.refused.went.alone refl)) d.refused.met in
-    let start : d.mid ≡ old = no_tries client true symbol old d.mid d.count d.refused none refl in
-    let size : length c.made.before ≡ length (map (put_of client) c.made.puts) + length d.mid = ap length (c.went.is ∙ ap (λ l. l ++ d.mid) (c.went.alone refl)) ∙ (length-append (reverse (map (put_of client) c.made.puts)) d.mid
+    let refer : Event = events.Refer client symbol c.was c.entry c.made.list in
+    let whole : new ≡ ((refer ∷ c.went.more) ++ d.refused.went.more) ++ old = c.newest ∙ ap (λ h. refer ∷ h) (c.went.is ∙ (ap (λ h. c.went.more ++ h) d.refused.went.is ∙ sym (append_assoc c.went.more d.refused.went.more old))) in
+    let own = all_parts client (refer ∷ c.went.more) d.refused.went.more (subst (AreOwn client) (same_front grows.more ((refer ∷ c.went.more) ++ d.refused.went.more) old (sym grows.is ∙ whole)) grows.own) in
+    let start : d.mid ≡ old = no_tries d.mid d.count d.refused own.1 in
+    let puts_are : c.went.more ≡ reverse (map (put_of client) c.made.puts) = own_only client c.went.more (map (put_of client) c.made.puts) own.0.1 c.went.own_are in
+    let size : length c.made.before ≡ length (map (put_of client) c.made.puts) + length d.mid = ap length (c.went.is ∙ ap (λ l. l ++ d.mid) puts_are) ∙ (length-append (reverse (map (put_of client) c.made.puts)) d.mid
     ∙ ap (λ n. n + length d.mid) (length-reverse (map (put_of client) c.made.puts))) in
     let puts : length (map (put_of client) c.made.puts) ≡ tiles + 2 = length-map c.made.puts (put_of client) ∙ counts c.made c.asked in
-    let whole : length new ≡ suc (length c.made.before) = ap length c.newest in
-    omega (arith, c.place, whole, size, puts, ap length start)
+    let last : length new ≡ suc (length c.made.before) = ap length c.newest in
+    omega (arith, c.place, last, size, puts, ap length start)
   where
-    -- own events are no Refers by others
-    own_not_met : (client : ℕ) (symbol : Name) (more : History) → AllByRecursion (λ (e : Event). author e ≡ client) more → met_in client symbol more ≡ 0
-    own_not_met client symbol [] own = refl
-    own_not_met client symbol (e ∷ more) own =
-        let step : met_in client symbol (e ∷ more) ≡ cond (refers symbol e && not (nat_eq (author e) client)) 1 0 + met_in client symbol more = count_by-cons (λ x. refers symbol x && not (nat_eq (author x) client)) e more in
-        let mine : (refers symbol e && not (nat_eq (author e) client)) ≡ false = (λ i. refers symbol e && not (eq-eqb (author e) client own.0 i)) ∙ and_false (refers symbol e) in
-        step ∙ ((λ i. cond (mine i) 1 0 + own_not_met client symbol more own.1 i))
-      where
-        and_false : (b : Bool) → (b && false) ≡ false
-        and_false true = refl
-        and_false false = refl
-
-    no_others : (client : ℕ) (symbol : Name) (more : History) (own : List Event) → own_of client more ≡ own → more ≡ reverse own → met_in client symbol more ≡ 0
-    no_others client symbol more own is alone = own_not_met client symbol more
-        (subst (AllByRecursion (λ (e : Event). author e ≡ client)) (sym (alone ∙ (ap reverse (sym is) ∙ reverse-reverse (filter (λ e. nat_eq (author e) client) more)))) (all_filtered client more))
-
-    no_tries : (client : ℕ) (sole : Bool) (symbol : Name) (old mid : History) (count : ℕ) → (r : DidRefused client sole symbol old mid count) → count ≤ 0 → sole ≡ true → mid ≡ old
-    no_tries client sole symbol old mid count r none alone =
-        let empty : r.tries ≡ [] = nothing r.tries (omega (arith, r.counted, none)) in
-        r.went.is ∙ ap (λ l. l ++ old) (r.went.alone alone ∙ ap (λ ts. reverse (flat_map (λ t. t) ts)) empty)
+    no_tries : (mid : History) (count : ℕ) → (r : DidRefused client sole symbol old mid count) → AreOwn client r.went.more → mid ≡ old
+    no_tries mid count r own =
+        let empty : r.tries ≡ [] = nothing r.tries (omega (arith, r.counted, r.met, own_not_met client symbol r.went.more own)) in
+        r.went.is ∙ ap (λ l. l ++ old) (own_only client r.went.more (flat_map (λ t. t) r.tries) own r.went.own_are ∙ ap (λ ts. reverse (flat_map (λ t. t) ts)) empty)
       where
         nothing : (ts : List (List Event)) → length ts ≤ 0 → ts ≡ []
         nothing [] le = refl

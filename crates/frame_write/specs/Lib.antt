@@ -4,4 +4,10 @@ pub mod Plans
 pub mod Loops
 pub mod Tries
 pub mod Writes
+pub mod Pieces
+pub mod Links
 pub mod WritePlans
+pub mod Laying
+pub mod Layouts
+pub mod SlotKeys
+pub mod Versions

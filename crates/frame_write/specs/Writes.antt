@@ -4,16 +4,21 @@
 --     IsLegalWrite        the reply to a write is legal for each such session
 --     IsWritten, Never, Always      what a write asks of its commit; no library refuses it, and it has a change to make always
 --     StandsAlone         the place of a commit where nobody else makes events
-use Rattle.std.specs.Prelude.{◌≡◌, ℕ, ◌+◌, ℤ, Bool, true, [], ◌∷◌, length, Option, Some, None, Result, Ok, Err, ⊤}
+--     newest_index, IsGridLinked      the index of a symbol's newest link; it is that of a frame's grid
+use Rattle.std.specs.Prelude.{◌≡◌, ℕ, ◌+◌, ℤ, Bool, true, [], ◌∷◌, length, map, Option, Some, None, option_map, Result, Ok, Err, ⊤}
 use Rattle.base_types.specs.Faults.{Rose}
 use Rattle.frame_core.specs.Frames.{Frame}
 use Rattle.frame_core.specs.declared.refusal.Refusal.{Refusal}
 use Rattle.frame_core.specs.declared.refusal.Refused.{Refused}
+use Rattle.segment_cut.specs.Cuttings.{Cutting, IsCutting}
 use Rattle.segment_cut.specs.Grids.{parts, grid_of}
+use Rattle.index_tree.specs.declared.index.Slot.{Slot}
+use Rattle.index_tree.specs.declared.index.Index.{Index}
 use Rattle.key_kind.specs.Names.{Name}
 use Rattle.bucket_core.specs.declared.event.Change.TheVariants as changes
 use Rattle.bucket_core.specs.History.{History}
-use Rattle.store_model.specs.Library.{state_of}
+use Rattle.store_model.specs.Library.{state_of, first_of}
+use Rattle.store_model.specs.Links.{Linked, links}
 use Rattle.expr_clause.specs.declared.command.Command.{Command}
 use Rattle.expr_clause.specs.declared.command.Command.TheVariants as commands
 use Rattle.reply_model.specs.declared.outcome.Outcome.TheVariants as outcomes
@@ -49,10 +54,11 @@ IsLegalWrite limit client tries symbol frame at prune before now old new result 
 
 -- ---- what a write makes
 
--- the frame, with what it buries; a put for each part of its grid, the index and the element
+-- the frame, with what it buries; a put for each part of its grid, the index and the element; the index has these parts
 pub record IsWritten (symbol : Name) (frame : Frame) (options : Options) (m : Made) : Type 0 where
   pub list : m.list ≡ changes.Wrote frame options.at ∷ pruned (state_of m.before symbol) options.prune
   pub puts : length m.puts ≡ length (parts (grid_of frame options.cutting)) + 2
+  pub parts_are : map (λ (s : Slot). s.part) m.index.slots ≡ parts (grid_of frame options.cutting)
 
 -- no library refuses a write
 abbrev pub Never : History → Refusal → Type 0
@@ -65,3 +71,14 @@ Always h = ⊤
 -- where nobody else makes events, a commit stands behind its puts: so many tiles, the index and the element
 abbrev pub StandsAlone : ℕ → History → Committed → Type 0
 StandsAlone tiles old done = done.place ≡ length old + tiles + 3
+
+-- the index of the symbol's newest link
+abbrev pub newest_index : History → Name → Option Index
+newest_index h symbol = option_map (λ (l : Linked). l.index) (first_of (links h symbol))
+
+-- the slots of that index are the parts of the frame's grid
+pub record IsGridLinked (h : History) (symbol : Name) (frame : Frame) (cutting : Cutting) : Type 0 where
+  pub cutting_is : IsCutting cutting
+  pub index : Index
+  pub newest : newest_index h symbol ≡ Some index
+  pub parts_are : map (λ (s : Slot). s.part) index.slots ≡ parts (grid_of frame cutting)

@@ -1,6 +1,7 @@
-ghost use Rattle.std.specs.Prelude.{◌≡◌, ◌<◌, ◌^◌, [], ◌∷◌, IfOk, if◌then◌else◌};
+ghost use Rattle.std.specs.Prelude.{◌≡◌, ◌<◌, ◌^◌, true, [], ◌∷◌, IfOk, if◌then◌else◌};
 ghost use Rattle.std.specs.Arc.{arc_value};
 ghost use Rattle.bucket_core.specs.declared.event.Change.TheVariants.{Wrote};
+ghost use Rattle.store_model.specs.Commits.{is_version};
 ghost use Rattle.version_chain.specs.States.{is_tomb};
 ghost use Rattle.reply_model.specs.Answering.{removed};
 ghost use Rattle.frame_write.specs.Placing.{live_of, next_of};
@@ -70,13 +71,58 @@ pub(crate) fn changes_of(
 ) -> Result<Arc<Changes>, NoMemory>
     ensures { IfOk result (λ changes. arc_value changes ≡ Wrote frame.now at ∷ removed buried) }
 {
+    let frame = frame.copy(alloc)?;
+    commit_changes(alloc, Change::Wrote { frame, at }, buried)
+}
+
+/// The changes of a commit: this one, and what it buries, if anything.
+fn commit_changes(
+    alloc: Global,
+    change: Change,
+    buried: Items<u64>,
+) -> Result<Arc<Changes>, NoMemory>
+    ensures { IfOk result (λ changes. arc_value changes ≡ change ∷ removed buried) }
+{
     let mut changes = Items::new(alloc);
-    changes.push(Change::Wrote {
-        frame: frame.copy(alloc)?,
-        at,
-    })?;
+    changes.push(change)?;
     if !buried.is_empty() {
         changes.push(Change::Removed { versions: buried })?;
     }
     Ok(Arc::new(alloc, changes)?)
+}
+
+/// The changes of a commit that makes this version, in memory of their own: the change, and what is buried, if anything.
+pub(crate) fn changes_with(
+    alloc: Global,
+    change: &Change,
+    buried: Items<u64>,
+) -> Result<Arc<Changes>, NoMemory>
+    requires { is_version change.now ≡ true }
+    ensures { IfOk result (λ changes. arc_value changes ≡ change.now ∷ removed buried) }
+{
+    let change = copy_change(alloc, change)?;
+    commit_changes(alloc, change, buried)
+}
+
+/// The same change, in memory of its own. Only changes that make a version are copied.
+fn copy_change(alloc: Global, change: &Change) -> Result<Change, NoMemory>
+    requires { is_version change.now ≡ true }
+    ensures { IfOk result (λ copy. copy ≡ change.now) }
+{
+    match change {
+        Change::Wrote { frame, at } => Ok(Change::Wrote {
+            frame: frame.copy(alloc)?,
+            at: *at,
+        }),
+        Change::Appended { frame, at } => Ok(Change::Appended {
+            frame: frame.copy(alloc)?,
+            at: *at,
+        }),
+        Change::Updated { frame, range, at } => Ok(Change::Updated {
+            frame: frame.copy(alloc)?,
+            range: *range,
+            at: *at,
+        }),
+        _ => unreachable!(),
+    }
 }

@@ -1,20 +1,26 @@
-ghost use Rattle.std.specs.Prelude.{◌≡◌, IfOk, IfSome};
+ghost use Rattle.std.specs.Prelude.{◌≡◌, ◌<◌, ◌^◌, true, IfOk, IfSome};
 ghost use Rattle.frame_core.specs.Limits.{IsStorable};
 ghost use Rattle.bucket_core.specs.History.{History};
 ghost use Rattle.store_model.specs.Law.{IsLawful};
-ghost use Rattle.store_model.specs.Commits.{Rising};
+ghost use Rattle.store_model.specs.Commits.{Rising, is_version};
 ghost use Rattle.version_chain.specs.States.{IsStateOf};
+ghost use Rattle.version_chain.specs.Entries.{IsKeyOf};
+ghost use Rattle.key_kind.specs.declared.key.KeyKind.TheVariants.{TableIndex};
 ghost use Rattle.frame_write.specs.Placing.{AreTilesOf, IsElementKey, live_of};
 ghost use Rattle.frame_write.specs.WritePlans.{IsWritePlan};
+ghost use Rattle.frame_write.specs.Links.{FitsPlan};
+ghost use Rattle.frame_write.specs.Versions.{AddsElement, MayPlan, IsPlanOf};
 
 use crate::elements::{mark_of, place_element};
-use crate::numbers::{buried_by, changes_of, next_version};
+use crate::laying::{Layout, lay_out, place_slots};
+use crate::numbers::{buried_by, changes_of, changes_with, next_version};
 use crate::options::Options;
+use crate::pieces::LinkPlan;
 use crate::placing::{Placed, place_index, place_tiles};
 use crate::puts::Prepared;
 use crate::tiles::Tile;
 use base_types::{Items, Keep, NoMemory};
-use bucket_core::{Body, Changes};
+use bucket_core::{Body, Change, Changes};
 use frame_core::Frame;
 use key_kind::{Key, Symbol};
 use std::alloc::Global;
@@ -93,6 +99,116 @@ pub(crate) fn plan_write(
         mark: mark_of(alloc, &entry)?,
         entry,
         changes: changes_of(alloc, frame, at, buried)?,
+        version,
+    })
+}
+
+/// The plan of a try to make a version in pieces on the symbol's state, for the client's puts from this serial on.
+pub(crate) fn plan_link(
+    alloc: Global,
+    client: u32,
+    serial: u64,
+    symbol: &Symbol,
+    state: &SymbolState,
+    link: &LinkPlan,
+    options: &Options,
+) -> Result<Plan, NoMemory>
+    requires was { IfSome state.now.was (IsElementKey symbol.now) }
+    requires rising { Rising (live_of state.now) }
+    requires fits { (before : History) × MayPlan client serial before symbol.now state.now × FitsPlan before symbol.now options.now.at link.now }
+    ensures { IfOk result (λ made. (before : History) → MayPlan client serial before symbol.now state.now → FitsPlan before symbol.now options.now.at link.now → IsPlanOf client serial before symbol.now options.now link.now.change link.now.pieces made) }
+{
+    let version = next_version(state)?;
+    let Layout {
+        slots,
+        mut puts,
+        rows,
+        next,
+    } = lay_out(
+        alloc,
+        client,
+        serial,
+        symbol,
+        version,
+        link.pieces.items(),
+        options.cutting,
+    )?;
+    let Some(last) = next.checked_add(1) else {
+        return Err(NoMemory);
+    };
+    let index = place_slots(
+        alloc,
+        client,
+        next,
+        symbol,
+        version,
+        &link.schema,
+        rows,
+        slots,
+    )?;
+    let index_key = index.key.copy(alloc)?;
+    puts.push(index)?;
+    plan_element(
+        alloc,
+        client,
+        last,
+        symbol,
+        state,
+        version,
+        rows,
+        index_key,
+        puts,
+        &link.change,
+        options,
+    )
+}
+
+/// The plan that puts these, and behind them the element that links the version of this index, on the symbol's state.
+fn plan_element(
+    alloc: Global,
+    client: u32,
+    serial: u64,
+    symbol: &Symbol,
+    state: &SymbolState,
+    version: u64,
+    rows: u64,
+    index: Key,
+    mut puts: Items<Prepared>,
+    change: &Change,
+    options: &Options,
+) -> Result<Plan, NoMemory>
+    requires was { IfSome state.now.was (IsElementKey symbol.now) }
+    requires rising { Rising (live_of state.now) }
+    requires few { rows < 2 ^ 32 }
+    requires index { IsKeyOf TableIndex index }
+    requires version { is_version change.now ≡ true }
+    ensures { IfOk result (AddsElement client serial symbol.now state.now (record { version = version; stamp = options.now.at; rows = rows; index = index }) puts change.now options.now.prune) }
+{
+    let buried = buried_by(alloc, state, options.prune)?;
+    let was = copied(alloc, &state.was)?;
+    let row = LinkRow {
+        version,
+        stamp: options.stamp(),
+        rows,
+        index,
+    };
+    let element = place_element(
+        alloc,
+        client,
+        serial,
+        symbol,
+        copied(alloc, &was)?,
+        row,
+        buried.items(),
+    )?;
+    let entry = element.key.copy(alloc)?;
+    puts.push(element)?;
+    Ok(Plan {
+        puts,
+        was,
+        mark: mark_of(alloc, &entry)?,
+        entry,
+        changes: changes_with(alloc, change, buried)?,
         version,
     })
 }

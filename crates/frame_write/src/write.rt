@@ -1,11 +1,12 @@
-ghost use Rattle.std.specs.Prelude.{◌≡◌, ◌≤◌, true, length, IfOk};
+ghost use Rattle.std.specs.Prelude.{◌≤◌, length, IfOk};
 ghost use Rattle.frame_core.specs.Limits.{IsStorable};
 ghost use Rattle.segment_cut.specs.Grids.{parts, grid_of};
 ghost use Rattle.bucket_core.specs.Calls.{IsSteady};
 ghost use Rattle.frame_write.specs.Placing.{AreTilesOf};
 ghost use Rattle.frame_write.specs.Tries.{DidTries};
 ghost use Rattle.version_chain.specs.Traces.{GoesOn};
-ghost use Rattle.frame_write.specs.Writes.{IsLegalWrite, IsWritten, Never, Always, StandsAlone};
+ghost use Rattle.reply_model.specs.Standing.{GrowsAlone};
+ghost use Rattle.frame_write.specs.Writes.{IsLegalWrite, IsWritten, Never, Always, StandsAlone, IsGridLinked};
 
 use crate::attempt::attempt;
 use crate::options::{Committed, Options};
@@ -69,8 +70,10 @@ pub fn write_link<R: Wait, B: Bucket<StoreLaw>>(
     ensures steady { IsSteady B.number B.limit B.faults B.sole bucket.old bucket.new }
     ensures grown { GoesOn (B.number bucket.old) (B.sole bucket.old) (B.seen bucket.old) (B.seen bucket.new) }
     ensures legal { IsLegalWrite (B.limit bucket.old) (B.number bucket.old) options.now.tries symbol.now frame.now options.now.at options.now.prune (B.faults bucket.old) (B.faults bucket.new) (B.seen bucket.old) (B.seen bucket.new) result }
-    // A client that is alone knows the place.
-    ensures alone { B.sole bucket.old ≡ true → IfOk result (StandsAlone (length (parts (grid_of frame.now options.now.cutting))) (B.seen bucket.old)) }
+    // Where nobody else makes events, the place is known.
+    ensures alone { GrowsAlone (B.number bucket.old) (B.seen bucket.old) (B.seen bucket.new) → IfOk result (StandsAlone (length (parts (grid_of frame.now options.now.cutting))) (B.seen bucket.old)) }
+    // The newest link has the tiles of the frame's grid.
+    ensures linked { IfOk result (λ done. IsGridLinked (B.seen bucket.new) symbol.now frame.now options.now.cutting) }
 {
     let Ok(tiles) = tiles_of(alloc, frame, options.cutting) else {
         return Err(Refused {

@@ -8,8 +8,6 @@ mod lookup;
 mod reach;
 mod reading;
 mod slot_view;
-#[cfg(test)]
-mod tests;
 mod writing;
 
 pub use base_types::{Items, Keep, NoMemory};

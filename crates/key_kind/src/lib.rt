@@ -5,8 +5,6 @@ mod key;
 mod key_bytes;
 mod key_view;
 mod name;
-#[cfg(test)]
-mod tests;
 
 pub use base_types::{Items, Keep, NoMemory, Text};
 pub use key::{Holder, Key, KeyKind};

@@ -1,11 +1,14 @@
 //! The library of one client: each command of a client is carried out by one step.
 #![tactic(auto)]
 
+mod appending;
 mod burying;
 mod commit_place;
 mod keys;
 mod library;
+mod preparing;
 mod reading;
+mod reclaiming;
 mod reply;
 mod settings;
 mod step;

@@ -70,7 +70,7 @@ impl<B> Library<B> {
         ensures grown { GoesOn (B.number self.old.bucket) (B.sole self.old.bucket) (B.seen self.old.bucket) (B.seen self.new.bucket) }
         ensures legal { IsLegalIn (client_of frames.now self.old.settings (B.number self.old.bucket) (B.limit self.old.bucket)) (B.faults self.old.bucket) (B.faults self.new.bucket) (B.seen self.old.bucket) (B.seen self.new.bucket) command.now result }
         // Where nobody else makes events a step is that of one client alone.
-        ensures alone { IsStepAlone self.old.settings (client_of frames.now self.old.settings (B.number self.old.bucket) (B.limit self.old.bucket)) (B.sole self.old.bucket) (B.seen self.old.bucket) (B.seen self.new.bucket) command.now result }
+        ensures alone { IsStepAlone self.old.settings (client_of frames.now self.old.settings (B.number self.old.bucket) (B.limit self.old.bucket)) (B.seen self.old.bucket) (B.seen self.new.bucket) command.now result }
     {
         let reply = perform(rt, alloc, &mut self.bucket, self.settings, command, frames);
         legal_replies_alone_are_sole();

@@ -49,7 +49,7 @@ use Rattle.prune_rule.specs.declared.choosing.Wish.{Wish}
 use Rattle.prune_rule.specs.declared.choosing.Wish.TheVariants as wishes
 use Rattle.prune_rule.specs.declared.burying.Buried.{Buried}
 use Rattle.prune_rule.specs.Burials.{to_bury, bury_answer, command_of, outcome_of}
-use Rattle.prune_rule.specs.Tries.{DidBury, DidNothing, DidRefuse, DidStop, DidFault, DidEnd, DidRefused, DidTries, IsPart, no_event, one_put, one_drop}
+use Rattle.prune_rule.specs.Tries.{DidBury, DidNothing, DidRefuse, DidStop, DidRefused, DidTries, IsPart, no_event, one_put, one_drop}
 use Rattle.prune_rule.specs.Replies.{commits_of, reply_to, IsLegalBurial}
 use Rattle.prune_rule.proofs.WindowLemmas.{is_refer, own_in_window, met_in_window, no_places, no_own_refer, one_place}
 use Rattle.prune_rule.proofs.TurnLemmas.{done_turn, open_turn, cut_turn, append_none}

@@ -6,3 +6,16 @@ pub mod TurnLemmas
 pub mod WindowLemmas
 pub mod SeenLemmas
 pub mod LegalBurials
+pub mod GoneLemmas
+pub mod DeadLemmas
+pub mod DropLemmas
+pub mod KeySets
+pub mod PieceLemmas
+pub mod ReferredLemmas
+pub mod SetLemmas
+pub mod ListedLemmas
+pub mod ReachLemmas
+pub mod FindingLemmas
+pub mod FindingEnds
+pub mod ReclaimLemmas
+pub mod LegalReclaims

@@ -1,5 +1,5 @@
 -- The reply of a delete or a prune is legal, from facts about its own events.
-use Rattle.std.proofs.Common.{◌≡◌, ◌⊎◌, ℕ, ◌≤◌, Bool, true, false, ◌||◌, List, [], ◌∷◌, length, refl, ap, sym, ◌∙◌, subst, Option, None}
+use Rattle.std.proofs.Common.{◌≡◌, ◌⊎◌, ℕ, ◌≤◌, true, false, ◌||◌, List, [], ◌∷◌, length, refl, ap, sym, ◌∙◌, subst, Option, None}
 use Rattle.std.specs.Prelude.{⊤, MatchBool}
 use Rattle.std.specs.List.{list_any, AllByRecursion}
 use Rattle.key_kind.specs.Names.{Name}

@@ -1,5 +1,5 @@
 -- What a walked state tells of the library: its live versions, and whether a number is live.
-use Rattle.std.proofs.Common.{◌≡◌, ℕ, Bool, true, false, cond, not, ◌&&◌, ◌||◌, List, [], ◌∷◌, ◌++◌, map, reverse, refl, ap, sym, ◌∙◌, subst, Option, Some, None, nat_eq}
+use Rattle.std.proofs.Common.{◌≡◌, ℕ, Bool, true, false, cond, not, ◌&&◌, ◌||◌, List, [], ◌∷◌, ◌++◌, map, reverse, refl, ap, sym, ◌∙◌, Some, None, nat_eq}
 use Rattle.std.specs.Prelude.{filter, find, is_some}
 use Rattle.std.specs.List.{AllZip, list_any}
 use Rattle.std.proofs.lemmas.List.{reverse-append}
@@ -11,7 +11,7 @@ use Rattle.key_kind.specs.Names.{Name}
 use Rattle.bucket_core.specs.History.{History}
 use Rattle.store_model.specs.declared.chain.LinkRow.{LinkRow}
 use Rattle.store_model.specs.Intact.{IsLinkOf}
-use Rattle.store_model.specs.Library.{State, Version, state_of, live_versions, is_live}
+use Rattle.store_model.specs.Library.{Version, state_of, is_live}
 use Rattle.store_model.specs.Links.{Linked, links}
 use Rattle.store_model.specs.Law.{IsLawful}
 use Rattle.store_model.proofs.Lawful.{lawful_is_intact}

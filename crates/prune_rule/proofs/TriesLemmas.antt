@@ -1,5 +1,5 @@
 -- Several tries, one after another.
-use Rattle.std.proofs.Common.{◌≡◌, ℕ, ◌+◌, ◌≤◌, Bool, true, false, List, [], ◌∷◌, ◌++◌, length, refl, ap, sym, ◌∙◌, subst, inl, inr, arith, Result, Ok, Err, length-append}
+use Rattle.std.proofs.Common.{◌≡◌, ℕ, ◌+◌, ◌≤◌, Bool, false, List, [], ◌∷◌, ◌++◌, length, refl, ap, sym, ◌∙◌, subst, inl, inr, arith, Result, Ok, Err, length-append}
 use Rattle.std.specs.List.{flat_map, AllByRecursion}
 use Rattle.frame_core.specs.declared.refusal.Refused.{Refused}
 use Rattle.key_kind.specs.Names.{Name}
@@ -14,9 +14,7 @@ use Rattle.version_chain.proofs.SteadyLemmas.{cause_sooner, rose_sooner}
 use Rattle.reply_model.specs.Tries.{IsRefused}
 use Rattle.prune_rule.specs.declared.choosing.Wish.{Wish}
 use Rattle.prune_rule.specs.declared.burying.Buried.{Buried}
-use Rattle.prune_rule.specs.declared.burying.Tried.{Tried}
-use Rattle.prune_rule.specs.declared.burying.Tried.TheVariants as tried
-use Rattle.prune_rule.specs.Tries.{DidBury, DidMeet, DidEnd, DidAttempt, DidRefused}
+use Rattle.prune_rule.specs.Tries.{DidBury, DidMeet, DidEnd, DidRefused}
 
 pub all_last : {X : Type 0} (P : X → Type 0) (xs : List X) (x : X) → AllByRecursion P xs → P x → AllByRecursion P (xs ++ x ∷ [])
 all_last P [] x all p = (p, tt)

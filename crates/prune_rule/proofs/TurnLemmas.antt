@@ -10,7 +10,7 @@ use Rattle.bucket_core.specs.declared.event.Change.{Change}
 use Rattle.bucket_core.specs.History.{History, Bytes}
 use Rattle.reply_model.specs.Answering.{Session}
 use Rattle.reply_model.specs.Windows.{Window, refers_by_others}
-use Rattle.reply_model.specs.Tries.{put_of, drop_of, IsTry, IsRefused, IsTurn}
+use Rattle.reply_model.specs.Tries.{put_of, IsTry, IsRefused, IsTurn}
 use Rattle.reply_model.specs.OwnEvents.{AnyMarks, IsBeginning}
 use Rattle.prune_rule.specs.Tries.{IsPart, no_event, one_put, one_drop}
 use Rattle.version_chain.proofs.TraceLemmas.{append_assoc}

@@ -1,5 +1,5 @@
 use crate::choosing::{Wish, choose};
-use crate::{Buried, delete_versions, prune};
+use crate::{Buried, Freed, delete_versions, prune, reclaim};
 use base_types::{Items, Keep};
 use bucket_core::PlainBucket;
 use frame_core::{Asked, Refusal, Refused};
@@ -109,5 +109,27 @@ fn an_unknown_symbol_is_refused(rt: HostRuntime) -> Result<(), Fail> {
             )
         );
     }
+    Ok(())
+}
+
+// What a reclaim answers in a store of no events.
+fn reclaimed<R: Wait>(rt: &R, alloc: Global) -> Result<Result<Freed, Refused>, Fail> {
+    let mut bucket: PlainBucket<StoreLaw> = PlainBucket::make(alloc, 1, 100)?;
+    let symbol = Symbol::make(alloc, "S")?;
+    Ok(reclaim(rt, alloc, &mut bucket, &symbol, 8))
+}
+
+#[test]
+fn a_reclaim_of_an_unknown_symbol_is_refused(rt: HostRuntime) -> Result<(), Fail> {
+    let answer = reclaimed(&rt, rt.alloc())?;
+    assert!(rt;
+        matches!(
+            answer,
+            Err(Refused {
+                place: 0,
+                why: Refusal::NoSuchSymbol
+            })
+        )
+    );
     Ok(())
 }

@@ -2,9 +2,7 @@
 use Rattle.std.proofs.Common.{◌≡◌, ℕ, suc, ◌+◌, ◌-◌, ◌≤◌, Bool, true, false, List, [], ◌∷◌, ◌++◌, length, Option, Some, None, Ok, refl, sym, ◌∙◌, ap, subst, inl, inr, arith, length-append, cond}
 use Rattle.std.specs.Prelude.{⊤, ℤ, not, nat_eq, nat_le, option_map, Result, Err}
 use Rattle.std.proofs.lemmas.Bool.{eq-eqb, le-leb, and_from}
-use Rattle.frame_core.specs.Frames.{Frame, first_stamp, last_stamp}
-use Rattle.frame_core.specs.Schemas.{schemas_differ}
-use Rattle.frame_core.specs.Limits.{frame_too_large, refuse_large}
+use Rattle.frame_core.specs.Frames.{Frame, replace_range}
 use Rattle.frame_core.specs.RawFrames.{unless}
 use Rattle.frame_core.specs.declared.refusal.Asked.TheVariants as asks
 use Rattle.frame_core.specs.declared.refusal.Refusal.{Refusal}
@@ -15,7 +13,7 @@ use Rattle.bucket_core.specs.declared.event.Change.TheVariants as changes
 use Rattle.bucket_core.specs.declared.event.Event.{Event}
 use Rattle.bucket_core.specs.declared.event.Event.TheVariants as events
 use Rattle.bucket_core.specs.History.{History, event_at, history_at}
-use Rattle.store_model.specs.Library.{State, Version, base_of, on_base}
+use Rattle.store_model.specs.Library.{State, first_of, base_of}
 use Rattle.store_model.specs.Snapshots.{Library, library_of}
 use Rattle.store_model.specs.Law.{IsLawful}
 use Rattle.expr_clause.specs.declared.command.Command.{Command}
@@ -23,10 +21,13 @@ use Rattle.expr_clause.specs.declared.command.Command.TheVariants as commands
 use Rattle.reply_model.specs.declared.outcome.Outcome.{Outcome}
 use Rattle.reply_model.specs.declared.outcome.Outcome.TheVariants as outcomes
 use Rattle.reply_model.specs.declared.reply.Reply.{Reply}
-use Rattle.reply_model.specs.CommitAnswers.{append_answer, delete_answer, prune_answer, first_absent, ascending, older_live}
-use Rattle.reply_model.specs.Answering.{Session, Answer, may_append, append_before, in_order, joined_within, ◌then◌, answered, refused, refuse_if, frame_of, stamp_of, committed, removed, live_numbers, pruned}
+use Rattle.reply_model.specs.CommitAnswers.{append_answer, update_range, may_update, update_answer, delete_answer, prune_answer, first_absent, ascending, older_live}
+use Rattle.reply_model.specs.Answering.{Session, Answer, base_or, may_append, joined_within, ◌then◌, answered, refused, refuse_if, frame_of, stamp_of, committed, removed, live_numbers, pruned}
 use Rattle.reply_model.specs.Answers.{answer}
-use Rattle.reply_model.specs.Windows.{Client, library_at, refer_places, symbol_of, is_refused, listed_at}
+use Rattle.reply_model.specs.Windows.{Client, library_at, refer_places, symbol_of, listed_at}
+use Rattle.store_model.specs.Links.{links}
+use Rattle.store_model.specs.Commits.{is_version}
+use Rattle.frame_core.specs.Ranges.{Range}
 use Rattle.reply_model.specs.Rows.{IsAnswer}
 use Rattle.reply_model.specs.Blocks.{Cutting, puts_of_version}
 use Rattle.reply_model.specs.Sole.{Alone, events_of, step_alone}
@@ -36,7 +37,7 @@ use Rattle.reply_model.proofs.Places.{history_at_end}
 use Rattle.reply_model.proofs.Covering.{event_at_end, some_is}
 use Rattle.reply_model.proofs.Isolated.{some_answer}
 use Rattle.reply_model.proofs.TryCounts.{PutsKeys}
-use Rattle.reply_model.proofs.AloneShapes.{Makes, shapes_behind}
+use Rattle.reply_model.proofs.AloneShapes.{Makes, shapes_behind, cut_behind}
 use Rattle.reply_model.proofs.AloneWindows.{Commits}
 use Rattle.reply_model.proofs.AloneSteps.{TellsSame, is_told, run_tells, told_step, commit_step}
 
@@ -50,86 +51,63 @@ not_none x xs e = cc
 
 -- ---- how many events a commit is
 
--- a written frame is the session's, and the write is not refused
-pub record IsWritten (s : Session) (frame : ℕ) (at : Option ℤ) (outcome : Outcome) (first : Change) : Type 0 where
-  pub whole : Frame
-  pub frame_is : frame_of s frame ≡ Some (Ok whole)
-  pub change : first ≡ changes.Wrote whole (stamp_of s at)
-  pub done : is_refused outcome ≡ false
+-- an answer that makes a version first, if it commits
+abbrev pub OnlyMakes : Result Answer Refusal → Type 0
+OnlyMakes (Err why) = ⊤
+OnlyMakes (Ok a) = (change : Change) × (rest : List Change) × (a.marks ≡ change ∷ rest) × (is_version change ≡ true)
 
-pub write_is : (s : Session) (list l : Library) (q : ℕ) (symbol : Name) (frame : ℕ) (at : Option ℤ) (prune : Bool) (outcome : Outcome) (first : Change) (rest : List Change)
-    → answer s list l q (commands.Write symbol frame at prune) ≡ Some (record { outcome = outcome; marks = first ∷ rest }) → IsWritten s frame at outcome first
-write_is s list l q symbol frame at prune outcome first rest e = by_frame (frame_of s frame) refl e
-  where
-    change_of : Frame → Change
-    change_of f = changes.Wrote f (stamp_of s at)
+makes_then : {A : Type 0} (x : Result A Refusal) (next : A → Result Answer Refusal) → ((a : A) → OnlyMakes (next a)) → OnlyMakes (x then next)
+makes_then (Ok a) next f = f a
+makes_then (Err why) next f = tt
 
-    by_frame : (o : Option (Result Frame Refusal)) → frame_of s frame ≡ o
-        → option_map (λ x. answered (x then λ f. Ok (committed (l.state symbol) prune (change_of f)))) o ≡ Some (record { outcome = outcome; marks = first ∷ rest }) → IsWritten s frame at outcome first
-    by_frame None is f = absurd cc
-    by_frame (Some (Err why)) is f = absurd (not_none first rest (ap (λ (a : Answer). a.marks) (some_answer (refused why) (record { outcome = outcome; marks = first ∷ rest }) f)))
-    by_frame (Some (Ok whole)) is f =
-        let same = some_answer (committed (l.state symbol) prune (change_of whole)) (record { outcome = outcome; marks = first ∷ rest }) f in
-        record {
-          whole = whole;
-          frame_is = is;
-          change = sym (first_is (change_of whole) first (pruned (l.state symbol) prune) rest (ap (λ (a : Answer). a.marks) same));
-          done = sym (ap (λ (a : Answer). is_refused a.outcome) same);
-        }
+commit_makes : (st : State) (prune : Bool) (change : Change) → is_version change ≡ true → OnlyMakes (Ok (committed st prune change))
+commit_makes st prune change e = (change, pruned st prune, refl, e)
 
--- an appended frame is the session's, and the append is not refused
-pub append_first : (st : State) (prune : Bool) (at : ℤ) (whole : Frame) (outcome : Outcome) (first : Change) (rest : List Change)
-    → Some (answered (append_answer st prune at whole)) ≡ Some (record { outcome = outcome; marks = first ∷ rest }) → (first ≡ changes.Appended whole at) × (is_refused outcome ≡ false)
-append_first st prune at whole outcome first rest e = by_base (base_of st) e
-  where
-    refuses : (why : Refusal) → Some (refused why) ≡ Some (record { outcome = outcome; marks = first ∷ rest }) → ⊥
-    refuses why f = not_none first rest (ap (λ (a : Answer). a.marks) (some_answer (refused why) (record { outcome = outcome; marks = first ∷ rest }) f))
+append_makes : (st : State) (prune : Bool) (at : ℤ) (frame : Frame) → OnlyMakes (append_answer st prune at frame)
+append_makes st prune at frame = makes_then (may_append (base_of st) frame) (λ f. joined_within (λ old new. old ++ new) (base_of st) f then λ g. Ok (committed st prune (changes.Appended g at)))
+    (λ f. makes_then (joined_within (λ old new. old ++ new) (base_of st) f) (λ g. Ok (committed st prune (changes.Appended g at))) (λ g. commit_makes st prune (changes.Appended g at) refl))
 
-    passes : {X : Type 0} (o : Option X) (why : X → Refusal) (f : Frame) (next : Frame → Result Answer Refusal)
-        → Some (answered (unless o why (Ok f) then next)) ≡ Some (record { outcome = outcome; marks = first ∷ rest }) → Some (answered (next f)) ≡ Some (record { outcome = outcome; marks = first ∷ rest })
-    passes None why f next g = g
-    passes (Some x) why f next g = absurd (refuses (why x) g)
+update_makes : (st : State) (upsert prune : Bool) (at : ℤ) (asked : Option Range) (frame : Frame) → OnlyMakes (update_answer st upsert prune at asked frame)
+update_makes st upsert prune at asked frame = makes_then (update_range asked frame)
+    (λ range. may_update st upsert (base_of st) frame then λ f. joined_within (λ old new. replace_range range new old) (base_of st) f then λ g. Ok (committed st prune (changes.Updated g range at)))
+    (λ range. makes_then (may_update st upsert (base_of st) frame)
+    (λ f. joined_within (λ old new. replace_range range new old) (base_of st) f then λ g. Ok (committed st prune (changes.Updated g range at)))
+    (λ f. makes_then (joined_within (λ old new. replace_range range new old) (base_of st) f) (λ g. Ok (committed st prune (changes.Updated g range at))) (λ g. commit_makes st prune (changes.Updated g range at) refl)))
 
-    passes_on : {X : Type 0} (o : Option X) (why : X → Refusal) (f : Frame) (then_frame : Frame → Result Frame Refusal) (next : Frame → Result Answer Refusal)
-        → Some (answered ((unless o why (Ok f) then then_frame) then next)) ≡ Some (record { outcome = outcome; marks = first ∷ rest })
-        → Some (answered (then_frame f then next)) ≡ Some (record { outcome = outcome; marks = first ∷ rest })
-    passes_on None why f then_frame next g = g
-    passes_on (Some x) why f then_frame next g = absurd (refuses (why x) g)
+-- its first change makes a version
+version_first : (x : Result Answer Refusal) (outcome : Outcome) (first : Change) (rest : List Change) → OnlyMakes x → Some (answered x) ≡ Some (record { outcome = outcome; marks = first ∷ rest }) → is_version first ≡ true
+version_first (Err why) outcome first rest o e = absurd (not_none first rest (ap (λ (a : Answer). a.marks) (some_answer (refused why) (record { outcome = outcome; marks = first ∷ rest }) e)))
+version_first (Ok a) outcome first rest o e =
+    ap is_version (sym (first_is o.0 first o.1 rest (sym o.2 ∙ ap (λ (x : Answer). x.marks) (some_answer a (record { outcome = outcome; marks = first ∷ rest }) e)))) ∙ o.3
 
-    commits : Some (committed st prune (changes.Appended whole at)) ≡ Some (record { outcome = outcome; marks = first ∷ rest }) → (first ≡ changes.Appended whole at) × (is_refused outcome ≡ false)
-    commits f =
-        let same = some_answer (committed st prune (changes.Appended whole at)) (record { outcome = outcome; marks = first ∷ rest }) f in
-        (sym (first_is (changes.Appended whole at) first (pruned st prune) rest (ap (λ (a : Answer). a.marks) same)), sym (ap (λ (a : Answer). is_refused a.outcome) same))
+-- so it is of a frame of the session
+frame_version_first : (o : Option (Result Frame Refusal)) (next : Frame → Result Answer Refusal) (outcome : Outcome) (first : Change) (rest : List Change) → ((f : Frame) → OnlyMakes (next f))
+    → option_map (λ x. answered (x then next)) o ≡ Some (record { outcome = outcome; marks = first ∷ rest }) → is_version first ≡ true
+frame_version_first None next outcome first rest makes e = absurd cc
+frame_version_first (Some x) next outcome first rest makes e = version_first (x then next) outcome first rest (makes_then x next makes) e
 
-    by_base : (base : Option Version)
-        → Some (answered (may_append base whole then λ f. joined_within (λ old new. old ++ new) base f then λ g. Ok (committed st prune (changes.Appended g at)))) ≡ Some (record { outcome = outcome; marks = first ∷ rest })
-        → (first ≡ changes.Appended whole at) × (is_refused outcome ≡ false)
-    by_base None f = commits f
-    by_base (Some base) f =
-        commits (passes_on (frame_too_large (on_base (λ old new. old ++ new) (Some base) whole)) refuse_large (on_base (λ old new. old ++ new) (Some base) whole) (λ w. Ok whole) (λ g. Ok (committed st prune (changes.Appended g at)))
-        (passes (append_before (last_stamp base.frame.rows) (first_stamp whole.rows)) (λ p. refusals.AppendBefore p.0 p.1) whole
-        (λ g. joined_within (λ old new. old ++ new) (Some base) g then λ x. Ok (committed st prune (changes.Appended x at)))
-        (passes_on (schemas_differ base.frame.schema whole.schema) refusals.SchemaDiffers whole (λ g. in_order base.frame g)
-        (λ g. joined_within (λ old new. old ++ new) (Some base) g then λ x. Ok (committed st prune (changes.Appended x at))) f)))
+pub write_first : (s : Session) (list l : Library) (q : ℕ) (symbol : Name) (frame : ℕ) (at : Option ℤ) (prune : Bool) (outcome : Outcome) (first : Change) (rest : List Change)
+    → answer s list l q (commands.Write symbol frame at prune) ≡ Some (record { outcome = outcome; marks = first ∷ rest }) → is_version first ≡ true
+write_first s list l q symbol frame at prune outcome first rest e =
+    frame_version_first (frame_of s frame) (λ f. Ok (committed (l.state symbol) prune (changes.Wrote f (stamp_of s at)))) outcome first rest (λ f. commit_makes (l.state symbol) prune (changes.Wrote f (stamp_of s at)) refl) e
 
--- an append of the session's frame
-pub record IsAppended (s : Session) (frame : ℕ) (at : Option ℤ) (outcome : Outcome) (first : Change) : Type 0 where
-  pub whole : Frame
-  pub frame_is : frame_of s frame ≡ Some (Ok whole)
-  pub change : first ≡ changes.Appended whole (stamp_of s at)
-  pub done : is_refused outcome ≡ false
+pub append_first : (s : Session) (list l : Library) (q : ℕ) (symbol : Name) (frame : ℕ) (at : Option ℤ) (prune : Bool) (outcome : Outcome) (first : Change) (rest : List Change)
+    → answer s list l q (commands.Append symbol frame at prune) ≡ Some (record { outcome = outcome; marks = first ∷ rest }) → is_version first ≡ true
+append_first s list l q symbol frame at prune outcome first rest e =
+    frame_version_first (frame_of s frame) (λ f. append_answer (l.state symbol) prune (stamp_of s at) f) outcome first rest (λ f. append_makes (l.state symbol) prune (stamp_of s at) f) e
 
-pub append_is : (s : Session) (list l : Library) (q : ℕ) (symbol : Name) (frame : ℕ) (at : Option ℤ) (prune : Bool) (outcome : Outcome) (first : Change) (rest : List Change)
-    → answer s list l q (commands.Append symbol frame at prune) ≡ Some (record { outcome = outcome; marks = first ∷ rest }) → IsAppended s frame at outcome first
-append_is s list l q symbol frame at prune outcome first rest e = by_frame (frame_of s frame) refl e
-  where
-    by_frame : (o : Option (Result Frame Refusal)) → frame_of s frame ≡ o
-        → option_map (λ x. answered (x then λ f. append_answer (l.state symbol) prune (stamp_of s at) f)) o ≡ Some (record { outcome = outcome; marks = first ∷ rest }) → IsAppended s frame at outcome first
-    by_frame None is f = absurd cc
-    by_frame (Some (Err why)) is f = absurd (not_none first rest (ap (λ (a : Answer). a.marks) (some_answer (refused why) (record { outcome = outcome; marks = first ∷ rest }) f)))
-    by_frame (Some (Ok whole)) is f =
-        let b = append_first (l.state symbol) prune (stamp_of s at) whole outcome first rest f in
-        record { whole = whole; frame_is = is; change = b.0; done = b.1 }
+pub update_first : (s : Session) (list l : Library) (q : ℕ) (symbol : Name) (frame : ℕ) (range : Option Range) (upsert : Bool) (at : Option ℤ) (prune : Bool) (outcome : Outcome) (first : Change) (rest : List Change)
+    → answer s list l q (commands.Update symbol frame range upsert at prune) ≡ Some (record { outcome = outcome; marks = first ∷ rest }) → is_version first ≡ true
+update_first s list l q symbol frame range upsert at prune outcome first rest e =
+    frame_version_first (frame_of s frame) (λ f. update_answer (l.state symbol) upsert prune (stamp_of s at) range f) outcome first rest
+    (λ f. update_makes (l.state symbol) upsert prune (stamp_of s at) range f) e
+
+pub delete_range_first : (s : Session) (list l : Library) (q : ℕ) (symbol : Name) (range : Range) (at : Option ℤ) (prune : Bool) (outcome : Outcome) (first : Change) (rest : List Change)
+    → answer s list l q (commands.DeleteRange symbol range at prune) ≡ Some (record { outcome = outcome; marks = first ∷ rest }) → is_version first ≡ true
+delete_range_first s list l q symbol range at prune outcome first rest e =
+    version_first (base_or (l.state symbol) then λ v. update_answer (l.state symbol) false prune (stamp_of s at) (Some range) (record v.frame { rows = [] })) outcome first rest
+    (makes_then (base_or (l.state symbol)) (λ v. update_answer (l.state symbol) false prune (stamp_of s at) (Some range) (record v.frame { rows = [] }))
+    (λ v. update_makes (l.state symbol) false prune (stamp_of s at) (Some range) (record v.frame { rows = [] }))) e
 
 -- an answer that only buries
 abbrev pub OnlyBuries : Result Answer Refusal → Type 0
@@ -166,20 +144,19 @@ buried_first (Ok a) outcome first rest o e = of_removed o.0 (sym o.1 ∙ ap (λ 
 -- ---- a reply to a command of one symbol
 
 -- a commit has the events that the run gives it, and its puts are the blocks that the run makes
-pub record IsCounted (c : Cutting) (r : Alone) (symbol : Name) (makes : Bool) (old behind : History) (puts : PutsKeys symbol makes behind) (first : Change) (rest : List Change) : Type 0 where
+pub record IsCounted (c : Cutting) (r : Alone) (symbol : Name) (makes : Bool) (old new behind : History) (puts : PutsKeys symbol makes behind) (first : Change) (rest : List Change) : Type 0 where
   pub events : suc (length (behind ++ old)) ≡ r.events + events_of c (r.library.state symbol) (r.shape symbol) (first ∷ rest)
-  pub blocks : Makes c (r.library.state symbol) (r.shape symbol) makes puts.tiles first rest
+  pub blocks : Makes c (r.library.state symbol) (r.shape symbol) makes (first_of (links new symbol)) puts.tiles first rest
 
 -- a commit's events are the puts of the blocks that it makes, its index, its element and its Refer
-pub made_events : (c : Cutting) (r : Alone) (symbol : Name) (makes : Bool) (old behind : History) (puts : PutsKeys symbol makes behind) (first : Change) (rest : List Change) → StandsAs old r
-    → Makes c (r.library.state symbol) (r.shape symbol) makes puts.tiles first rest → IsCounted c r symbol makes old behind puts first rest
-made_events c r symbol makes old behind puts first rest stands made = record { events = by_blocks makes puts made; blocks = made }
+pub made_events : (c : Cutting) (r : Alone) (symbol : Name) (makes : Bool) (old new behind : History) (puts : PutsKeys symbol makes behind) (first : Change) (rest : List Change) → StandsAs c old r
+    → Makes c (r.library.state symbol) (r.shape symbol) makes (first_of (links new symbol)) puts.tiles first rest → IsCounted c r symbol makes old new behind puts first rest
+made_events c r symbol makes old new behind puts first rest stands made = record { events = by_blocks makes puts made; blocks = made }
   where
-    by_blocks : (m : Bool) (p : PutsKeys symbol m behind) → Makes c (r.library.state symbol) (r.shape symbol) m p.tiles first rest
+    by_blocks : (m : Bool) (p : PutsKeys symbol m behind) → Makes c (r.library.state symbol) (r.shape symbol) m (first_of (links new symbol)) p.tiles first rest
         → suc (length (behind ++ old)) ≡ r.events + events_of c (r.library.state symbol) (r.shape symbol) (first ∷ rest)
-    by_blocks true p m =
-        omega (arith, stands.events, length-append behind old, p.size, p.with_index refl, m.2, ap (λ o. puts_of_version o + 2) m.1)
-    by_blocks false p m = omega (arith, stands.events, length-append behind old, p.size, (p.without refl).0, (p.without refl).1, ap (λ o. puts_of_version o + 2) m)
+    by_blocks true p m = omega (arith, stands.events, length-append behind old, p.size, p.with_index refl, m.counted, ap (λ o. puts_of_version o + 2) m.is)
+    by_blocks false p m = omega (arith, stands.events, length-append behind old, p.size, (p.without refl).0, (p.without refl).1, ap (λ o. puts_of_version o + 2) m.is)
 
 -- what is known of a reply without list and without holds that are left
 pub record Plain (s : Session) (command : Command) (reply : Reply) (old new : History) : Type 0 where
@@ -191,13 +168,13 @@ pub record Plain (s : Session) (command : Command) (reply : Reply) (old new : Hi
   pub commits : reply.commits ≡ refer_places s.client (length old) new
 
 -- nothing was added, and the reply has no commit
-pub looking : (c : Cutting) (client : Client) (command : Command) (r : Alone) (reply : Reply) (old : History) → StandsAs old r → Plain client.session command reply old old
-    → refer_places client.session.client (length old) old ≡ [] → IsAnswer old client command reply → StepsTo (step_alone c client.session command r) reply old
+pub looking : (c : Cutting) (client : Client) (command : Command) (r : Alone) (reply : Reply) (old : History) → StandsAs c old r → Plain client.session command reply old old
+    → refer_places client.session.client (length old) old ≡ [] → IsAnswer old client command reply → StepsTo c (step_alone c client.session command r) reply old
 looking c client command r reply old stands plain none is =
     let here : reply.place ≡ length old = omega (arith, plain.after, plain.before) in
     elim is [
       | inl told ↦ told_step c client.session command r reply old (library_at old (listed_at reply)) (library_at old reply.place) reply.place plain.told stands
-          (subst (λ h. TellsSame r.library (library_of h)) (sym (ap (history_at old) here ∙ history_at_end old)) (run_tells old r stands))
+          (subst (λ h. TellsSame r.library (library_of h)) (sym (ap (history_at old) here ∙ history_at_end old)) (run_tells c old r stands))
           here plain.unlisted told.1 plain.unleft told.0
       | inr made ↦ absurd (not_none reply.place [] (sym none ∙ (sym plain.commits ∙ made.6)))
     ]
@@ -208,11 +185,11 @@ list_of (events.Refer client symbol was entry list) = list
 list_of e = []
 
 -- a commit stands
-pub committing_reply : (c : Cutting) (client : Client) (command : Command) (symbol : Name) (makes : Bool) (r : Alone) (reply : Reply) (old new : History) → StandsAs old r → symbol_of command ≡ Some symbol
+pub committing_reply : (c : Cutting) (client : Client) (command : Command) (symbol : Name) (makes : Bool) (r : Alone) (reply : Reply) (old new : History) → StandsAs c old r → symbol_of command ≡ Some symbol
     → IsLawful new → Plain client.session command reply old new → (k : Commits client.session.client symbol makes old new) → IsAnswer new client command reply
     → ((list : Library) (q : ℕ) (first : Change) (rest : List Change) → answer client.session list (library_of (k.behind ++ old)) q command ≡ Some (record { outcome = reply.outcome; marks = first ∷ rest })
-    → reply.place ≡ suc (length (k.behind ++ old)) → IsCounted c r symbol makes old k.behind k.puts first rest)
-    → StepsTo (step_alone c client.session command r) reply new
+    → reply.place ≡ suc (length (k.behind ++ old)) → IsCounted c r symbol makes old new k.behind k.puts first rest)
+    → StepsTo c (step_alone c client.session command r) reply new
 committing_reply c client command symbol makes r reply old new stands named lawful plain k is counted =
     let own : ℕ = client.session.client in
     let before : History = k.behind ++ old in
@@ -236,8 +213,10 @@ committing_reply c client command symbol makes r reply old new stands named lawf
           (sym (event_at_end (events.Refer own symbol k.was k.entry k.list) before) ∙ (ap (λ h. event_at h (suc (length before))) (sym k.is) ∙ (ap (event_at new) (sym here) ∙ made.5.2)))) in
           let new_is : new ≡ events.Refer own symbol k.was k.entry (made.0 ∷ made.1) ∷ before = k.is ∙ ap (λ list. events.Refer own symbol k.was k.entry list ∷ before) list_is in
           let count = counted (library_at new (listed_at reply)) (reply.place - 1) made.0 made.1 answered_is here in
-          subst (λ h. StepsTo (step_alone c client.session command r) reply h) (sym new_is)
+          let lawful_is = subst (λ h. IsLawful h) new_is lawful in
+          let makes_is = subst (λ h. Makes c (r.library.state symbol) (r.shape symbol) makes (first_of (links h symbol)) k.puts.tiles made.0 made.1) new_is count.blocks in
+          subst (λ h. StepsTo c (step_alone c client.session command r) reply h) (sym new_is)
           (commit_step c client.session command symbol r reply old before k.was k.entry made.0 made.1 (library_at new (listed_at reply)) (reply.place - 1) plain.told named stands k.kept
           here plain.unlisted made.6 plain.unleft answered_is count.events
-          (shapes_behind c own symbol makes old k.behind k.was k.entry made.0 made.1 r stands k.kept k.puts (subst (λ h. IsLawful h) new_is lawful) count.blocks))
+          (shapes_behind c own symbol makes old k.behind k.was k.entry made.0 made.1 r stands k.kept k.puts lawful_is makes_is) (cut_behind c own symbol makes old k.behind k.was k.entry made.0 made.1 r stands k.kept k.puts lawful_is makes_is))
     ]

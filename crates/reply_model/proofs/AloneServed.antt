@@ -1,7 +1,7 @@
 -- The theorem for each command that is served.
 use Rattle.std.proofs.Common.{◌≡◌, ℕ, suc, ◌-◌, ◌≤◌, Bool, true, false, List, [], ◌∷◌, ◌++◌, map, length, take, Option, Some, None, refl, sym, ◌∙◌, ap, subst, inl, inr, arith, length-append, cond}
 use Rattle.std.specs.Prelude.{◌⊎◌, ℤ, MatchBool}
-use Rattle.std.specs.List.{list_any, AllByRecursion}
+use Rattle.std.specs.List.{list_any}
 use Rattle.std.proofs.lemmas.Bool.{true≢false}
 use Rattle.frame_core.specs.Ranges.{Range}
 use Rattle.frame_core.specs.Texts.{Text}
@@ -10,8 +10,10 @@ use Rattle.frame_core.specs.declared.refusal.Refusal.TheVariants as refusals
 use Rattle.key_kind.specs.Names.{Name}
 use Rattle.bucket_core.specs.declared.event.Change.{Change}
 use Rattle.bucket_core.specs.History.{History, history_at}
-use Rattle.store_model.specs.Library.{State, state_of, is_buried, base_of, next_number}
+use Rattle.store_model.specs.Library.{State, state_of, is_buried, base_of, first_of}
 use Rattle.store_model.specs.Law.{IsLawful}
+use Rattle.store_model.specs.Links.{Linked, links}
+use Rattle.store_model.specs.Commits.{is_version}
 use Rattle.key_kind.specs.declared.key.KeyKind.TheVariants as kinds
 use Rattle.store_model.specs.Snapshots.{Library, Snapshot, library_of}
 use Rattle.reply_model.specs.CommitAnswers.{delete_answer, prune_answer}
@@ -24,25 +26,26 @@ use Rattle.reply_model.specs.declared.outcome.SymbolRow.{SymbolRow}
 use Rattle.reply_model.specs.declared.outcome.Outcome.{Outcome}
 use Rattle.reply_model.specs.declared.outcome.Outcome.TheVariants as outcomes
 use Rattle.reply_model.specs.declared.reply.Reply.{Reply}
-use Rattle.reply_model.specs.Answering.{Answer, stamp_of}
+use Rattle.reply_model.specs.Answering.{Answer}
 use Rattle.reply_model.specs.Answers.{answer, symbol_row}
 use Rattle.reply_model.specs.Windows.{Window, Client, library_at, refer_places, symbol_of, is_refused, is_cut, unnames, own_events, AreCommits}
-use Rattle.reply_model.specs.OwnEvents.{IsOwn, is_done}
+use Rattle.reply_model.specs.Tries.{IsTurn}
+use Rattle.reply_model.specs.OwnEvents.{AnyMarks, IsOwn, is_done}
 use Rattle.reply_model.specs.Rows.{keys_of, keys_outcome, IsAnswer, IsSymbolRow, AreSymbolRows, number_of}
 use Rattle.reply_model.specs.Legal.{IsLegalRefusal, IsLegalOutcome, IsLegalSeen}
-use Rattle.reply_model.specs.Blocks.{Cutting, Block, tiles_in, blocks_made}
+use Rattle.reply_model.specs.Blocks.{Cutting, tiles_in, blocks_made}
 use Rattle.reply_model.specs.Causes.{IsVersionGone}
 use Rattle.reply_model.specs.Sole.{Alone, keys_alone, plain_reply, next_turn, step_alone}
-use Rattle.reply_model.specs.Standing.{StandsAs, StepsTo, IsStep, is_served, tiles_cut, PutsTiles, LaysOut, LegalAloneSteps}
+use Rattle.reply_model.specs.Standing.{StandsAs, StepsTo, IsStep, is_served, LaysOut, LegalAloneSteps}
 use Rattle.reply_model.proofs.Places.{history_at_end}
 use Rattle.reply_model.proofs.Isolated.{some_answer, Met, Gone, plain_outcome, uncut_is_no_fault, own_events_are, read_is_live}
 use Rattle.reply_model.proofs.Quiet.{is_plain}
-use Rattle.reply_model.proofs.AloneWindows.{AreBy, added, own_at, own_is_all, none_added, none_behind, Commits, turn_commits}
-use Rattle.reply_model.proofs.AloneSteps.{TellsSame, is_told, run_tells, reply_is, rows_same}
+use Rattle.reply_model.proofs.AloneWindows.{AreBy, added, own_at, own_is_all, none_added, none_behind, IsKept, Commits, turn_commits}
+use Rattle.reply_model.proofs.AloneSteps.{TellsSame, is_told, answer_told, run_tells, reply_is, rows_same}
 use Rattle.reply_model.proofs.TryCounts.{PutsKeys}
-use Rattle.reply_model.proofs.AloneShapes.{AreMade, Makes}
-use Rattle.reply_model.proofs.BlockCounts.{write_makes, append_makes}
-use Rattle.reply_model.proofs.AloneLegal.{write_is, append_is, delete_buries, prune_buries, buried_first, made_events, Plain, looking, committing_reply}
+use Rattle.reply_model.proofs.AloneShapes.{MakesVersion, Makes}
+use Rattle.reply_model.proofs.BlockCounts.{laid_makes}
+use Rattle.reply_model.proofs.AloneLegal.{write_first, append_first, update_first, delete_range_first, delete_buries, prune_buries, buried_first, made_events, Plain, looking, committing_reply}
 
 -- ---- what is known of a legal reply
 
@@ -99,64 +102,95 @@ plain_of client command reply more old faulted heard told unlisted unleft = reco
 -- how a commit with this answer counts
 abbrev Counts : Cutting → Client → Command → Name → Bool → Reply → History → History → Alone → Type 0
 Counts c client command symbol makes reply more old r =
-    (behind : History) (puts : PutsKeys symbol makes behind) (list : Library) (q : ℕ) (first : Change) (rest : List Change)
+    (behind : History) (kept : IsKept client.session.client old (behind ++ old)) (puts : PutsKeys symbol makes behind) (list : Library) (q : ℕ) (first : Change) (rest : List Change)
     → answer client.session list (library_of (behind ++ old)) q command ≡ Some (record { outcome = reply.outcome; marks = first ∷ rest })
-    → reply.place ≡ suc (length (behind ++ old)) → Makes c (r.library.state symbol) (r.shape symbol) makes puts.tiles first rest
+    → reply.place ≡ suc (length (behind ++ old)) → Makes c (r.library.state symbol) (r.shape symbol) makes (first_of (links (more ++ old) symbol)) puts.tiles first rest
 
 -- a command that commits, or had nothing to do
-turn_step : (c : Cutting) (client : Client) (command : Command) (symbol : Name) (makes : Bool) (reply : Reply) (more old : History) (r : Alone) → StandsAs old r → symbol_of command ≡ Some symbol
+turn_step : (c : Cutting) (client : Client) (command : Command) (symbol : Name) (makes : Bool) (reply : Reply) (more old : History) (r : Alone) → StandsAs c old r → symbol_of command ≡ Some symbol
     → IsLawful (more ++ old) → Plain client.session command reply old (more ++ old) → IsAnswer (more ++ old) client command reply → (done : Bool) → Counts c client command symbol makes reply more old r
-    → MatchBool done (Commits client.session.client symbol makes old (more ++ old)) (more ≡ []) → StepsTo (step_alone c client.session command r) reply (more ++ old)
+    → MatchBool done (Commits client.session.client symbol makes old (more ++ old)) (more ≡ []) → StepsTo c (step_alone c client.session command r) reply (more ++ old)
 turn_step c client command symbol makes reply more old r stands named lawful plain is true counts k =
     committing_reply c client command symbol makes r reply old (more ++ old) stands named lawful plain k is
-    (λ list q first rest answered here. made_events c r symbol makes old k.behind k.puts first rest stands (counts k.behind k.puts list q first rest answered here))
+    (λ list q first rest answered here. made_events c r symbol makes old (more ++ old) k.behind k.puts first rest stands (counts k.behind k.kept k.puts list q first rest answered here))
 turn_step c client command symbol makes reply more old r stands named lawful plain is false counts none =
-    subst (λ es. StepsTo (step_alone c client.session command r) reply (es ++ old)) (sym none)
+    subst (λ es. StepsTo c (step_alone c client.session command r) reply (es ++ old)) (sym none)
     (looking c client command r reply old stands (subst (λ es. Plain client.session command reply old (es ++ old)) none plain) (none_behind client.session.client (length old) old (omega arith))
     (subst (λ es. IsAnswer (es ++ old) client command reply) none is))
 
--- so many tiles are put where the reply's place says so
-tiles_are : (symbol : Name) (reply : Reply) (old behind : History) (puts : PutsKeys symbol true behind) (tiles : ℕ) → is_refused reply.outcome ≡ false → PutsTiles tiles reply old
-    → reply.place ≡ suc (length (behind ++ old)) → puts.tiles ≡ tiles
-tiles_are symbol reply old behind puts tiles done laid here = omega (arith, here, laid done, length-append behind old, puts.size, puts.with_index refl)
+-- a commit of a version that is laid out
+version_counts : (c : Cutting) (client : Client) (command : Command) (symbol : Name) (reply : Reply) (more old : History) (r : Alone) → StandsAs c old r → is_told command ≡ true → symbol_of command ≡ Some symbol
+    → LaysOut c client.session command reply old (more ++ old)
+    → ((list l : Library) (q : ℕ) (first : Change) (rest : List Change) → answer client.session list l q command ≡ Some (record { outcome = reply.outcome; marks = first ∷ rest }) → is_version first ≡ true)
+    → Counts c client command symbol true reply more old r
+version_counts c client command symbol reply more old r stands told named laid version behind kept puts list q first rest answered here =
+    let same : TellsSame (library_of old) (library_of (behind ++ old)) = record { symbols = sym kept.symbols; states = λ x. sym (kept.states x); snapshots = sym kept.snapshots } in
+    let answered_before = answer_told client.session (library_of old) list (library_of old) (library_of (behind ++ old)) (length old) q command told same ∙ answered in
+    let makes = version list (library_of (behind ++ old)) q first rest answered in
+    let is_laid = laid stands.cut symbol first rest named answered_before makes in
+    subst (λ (st : State). MakesVersion c st (r.shape symbol) (first_of (links (more ++ old) symbol)) puts.tiles first rest) (sym (stands.states symbol))
+    (laid_makes c (r.shape symbol) symbol puts.tiles reply.place first rest old (more ++ old) makes (stands.shapes symbol) stands.cut is_laid
+    (omega (arith, here, is_laid.tiles, length-append behind old, puts.size, puts.with_index refl)))
+
+-- a command that makes a version
+version_step : (c : Cutting) (client : Client) (command : Command) (symbol : Name) (reply : Reply) (more old : History) (faulted : Bool) → Heard client command reply more old faulted
+    → is_told command ≡ true → symbol_of command ≡ Some symbol → reply.listed ≡ None → reply.left ≡ [] → LaysOut c client.session command reply old (more ++ old)
+    → ((list l : Library) (q : ℕ) (first : Change) (rest : List Change) → answer client.session list l q command ≡ Some (record { outcome = reply.outcome; marks = first ∷ rest }) → is_version first ≡ true)
+    → IsAnswer (more ++ old) client command reply
+    → IsTurn (more ++ old) client.session (added more old faulted) symbol true (is_done reply) AnyMarks (own_events (more ++ old) client.session.client (added more old faulted))
+    → IsStep c client.session command reply old (more ++ old)
+version_step c client command symbol reply more old faulted heard told named unlisted unleft laid version is turn r stands =
+    turn_step c client command symbol true reply more old r stands named heard.lawful (plain_of client command reply more old faulted heard told unlisted unleft) is (is_done reply)
+    (version_counts c client command symbol reply more old r stands told named laid version) (turn_commits more old client.session symbol true (is_done reply) faulted heard.own turn)
 
 write_step : (c : Cutting) (client : Client) (symbol : Name) (frame : ℕ) (at : Option ℤ) (prune : Bool) (reply : Reply) (more old : History) (faulted : Bool)
-    → Heard client (commands.Write symbol frame at prune) reply more old faulted → LaysOut c client.session (commands.Write symbol frame at prune) reply old
+    → Heard client (commands.Write symbol frame at prune) reply more old faulted → LaysOut c client.session (commands.Write symbol frame at prune) reply old (more ++ old)
     → IsStep c client.session (commands.Write symbol frame at prune) reply old (more ++ old)
-write_step c client symbol frame at prune reply more old faulted heard laid r stands =
+write_step c client symbol frame at prune reply more old faulted heard laid =
     let command = commands.Write symbol frame at prune in
     elim (answered_or_gone client command reply more old faulted refl heard) [
       | inl gone ↦ absurd gone
-      | inr is ↦ turn_step c client command symbol true reply more old r stands refl heard.lawful (plain_of client command reply more old faulted heard refl heard.seen.listed heard.seen.left.left)
-          is (is_done reply) (λ behind puts list q first rest answered here.
-          let w = write_is client.session list (library_of (behind ++ old)) q symbol frame at prune reply.outcome first rest answered in
-          subst (λ x. Makes c (r.library.state symbol) (r.shape symbol) true puts.tiles x rest) (sym w.change)
-          (write_makes c (r.library.state symbol) (r.shape symbol) puts.tiles w.whole (stamp_of client.session at) rest
-          (tiles_are symbol reply old behind puts (tiles_cut c w.whole) w.done (laid w.whole w.frame_is) here)))
-          (turn_commits more old client.session symbol true (is_done reply) faulted heard.own (own_are client command reply more old faulted heard))
+      | inr is ↦ version_step c client command symbol reply more old faulted heard refl refl heard.seen.listed heard.seen.left.left laid
+          (λ list l q first rest e. write_first client.session list l q symbol frame at prune reply.outcome first rest e) is (own_are client command reply more old faulted heard)
     ]
 
 append_step : (c : Cutting) (client : Client) (symbol : Name) (frame : ℕ) (at : Option ℤ) (prune : Bool) (reply : Reply) (more old : History) (faulted : Bool)
-    → Heard client (commands.Append symbol frame at prune) reply more old faulted → LaysOut c client.session (commands.Append symbol frame at prune) reply old
+    → Heard client (commands.Append symbol frame at prune) reply more old faulted → LaysOut c client.session (commands.Append symbol frame at prune) reply old (more ++ old)
     → IsStep c client.session (commands.Append symbol frame at prune) reply old (more ++ old)
-append_step c client symbol frame at prune reply more old faulted heard laid r stands =
+append_step c client symbol frame at prune reply more old faulted heard laid =
     let command = commands.Append symbol frame at prune in
     elim (answered_or_gone client command reply more old faulted refl heard) [
       | inl gone ↦ absurd gone
-      | inr is ↦ turn_step c client command symbol true reply more old r stands refl heard.lawful (plain_of client command reply more old faulted heard refl heard.seen.listed heard.seen.left.left)
-          is (is_done reply) (λ behind puts list q first rest answered here.
-          let w = append_is client.session list (library_of (behind ++ old)) q symbol frame at prune reply.outcome first rest answered in
-          subst (λ x. Makes c (r.library.state symbol) (r.shape symbol) true puts.tiles x rest) (sym w.change)
-          (append_makes c (r.library.state symbol) (r.shape symbol) puts.tiles w.whole (stamp_of client.session at) rest
-          (subst (λ (st : State). AllByRecursion (λ (x : ℕ × List Block). AreMade (next_number st) x.1) (r.shape symbol).versions) (sym (stands.states symbol)) (stands.shapes symbol).made)
-          (tiles_are symbol reply old behind puts (tiles_cut c w.whole) w.done (laid w.whole w.frame_is) here)))
-          (turn_commits more old client.session symbol true (is_done reply) faulted heard.own (own_are client command reply more old faulted heard))
+      | inr is ↦ version_step c client command symbol reply more old faulted heard refl refl heard.seen.listed heard.seen.left.left laid
+          (λ list l q first rest e. append_first client.session list l q symbol frame at prune reply.outcome first rest e) is (own_are client command reply more old faulted heard)
+    ]
+
+update_step : (c : Cutting) (client : Client) (symbol : Name) (frame : ℕ) (range : Option Range) (upsert : Bool) (at : Option ℤ) (prune : Bool) (reply : Reply) (more old : History) (faulted : Bool)
+    → Heard client (commands.Update symbol frame range upsert at prune) reply more old faulted → LaysOut c client.session (commands.Update symbol frame range upsert at prune) reply old (more ++ old)
+    → IsStep c client.session (commands.Update symbol frame range upsert at prune) reply old (more ++ old)
+update_step c client symbol frame range upsert at prune reply more old faulted heard laid =
+    let command = commands.Update symbol frame range upsert at prune in
+    elim (answered_or_gone client command reply more old faulted refl heard) [
+      | inl gone ↦ absurd gone
+      | inr is ↦ version_step c client command symbol reply more old faulted heard refl refl heard.seen.listed heard.seen.left.left laid
+          (λ list l q first rest e. update_first client.session list l q symbol frame range upsert at prune reply.outcome first rest e) is (own_are client command reply more old faulted heard)
+    ]
+
+delete_range_step : (c : Cutting) (client : Client) (symbol : Name) (range : Range) (at : Option ℤ) (prune : Bool) (reply : Reply) (more old : History) (faulted : Bool)
+    → Heard client (commands.DeleteRange symbol range at prune) reply more old faulted → LaysOut c client.session (commands.DeleteRange symbol range at prune) reply old (more ++ old)
+    → IsStep c client.session (commands.DeleteRange symbol range at prune) reply old (more ++ old)
+delete_range_step c client symbol range at prune reply more old faulted heard laid =
+    let command = commands.DeleteRange symbol range at prune in
+    elim (answered_or_gone client command reply more old faulted refl heard) [
+      | inl gone ↦ absurd gone
+      | inr is ↦ version_step c client command symbol reply more old faulted heard refl refl heard.seen.listed heard.seen.left.left laid
+          (λ list l q first rest e. delete_range_first client.session list l q symbol range at prune reply.outcome first rest e) is (own_are client command reply more old faulted heard)
     ]
 
 -- a burial makes no blocks
-burial_makes : (c : Cutting) (r : Alone) (symbol : Name) (tiles : ℕ) (first : Change) (rest : List Change) → ((numbers : List ℕ) × (first ≡ changes.Removed numbers))
-    → Makes c (r.library.state symbol) (r.shape symbol) false tiles first rest
-burial_makes c r symbol tiles first rest b = ap (λ x. blocks_made c (r.library.state symbol) (r.shape symbol) x) b.1
+burial_makes : (c : Cutting) (r : Alone) (symbol : Name) (newest : Option Linked) (tiles : ℕ) (first : Change) (rest : List Change) → ((numbers : List ℕ) × (first ≡ changes.Removed numbers))
+    → Makes c (r.library.state symbol) (r.shape symbol) false newest tiles first rest
+burial_makes c r symbol newest tiles first rest b = record { is = ap (λ x. blocks_made c (r.library.state symbol) (r.shape symbol) x) b.1; mark = ap is_version b.1 }
 
 delete_step : (c : Cutting) (client : Client) (symbol : Name) (versions : Option (List ℕ)) (reply : Reply) (more old : History) (faulted : Bool)
     → Heard client (commands.Delete symbol versions) reply more old faulted → IsStep c client.session (commands.Delete symbol versions) reply old (more ++ old)
@@ -165,7 +199,7 @@ delete_step c client symbol versions reply more old faulted heard r stands =
     elim (answered_or_gone client command reply more old faulted refl heard) [
       | inl gone ↦ absurd gone
       | inr is ↦ turn_step c client command symbol false reply more old r stands refl heard.lawful (plain_of client command reply more old faulted heard refl heard.seen.listed heard.seen.left.left)
-          is (is_done reply) (λ behind puts list q first rest answered here. burial_makes c r symbol puts.tiles first rest
+          is (is_done reply) (λ behind kept puts list q first rest answered here. burial_makes c r symbol (first_of (links (more ++ old) symbol)) puts.tiles first rest
           (buried_first (delete_answer ((library_of (behind ++ old)).state symbol) versions) reply.outcome first rest (delete_buries ((library_of (behind ++ old)).state symbol) versions) answered))
           (turn_commits more old client.session symbol false (is_done reply) faulted heard.own (own_are client command reply more old faulted heard))
     ]
@@ -177,7 +211,7 @@ prune_step c client symbol reply more old faulted heard r stands =
     elim (answered_or_gone client command reply more old faulted refl heard) [
       | inl gone ↦ absurd gone
       | inr is ↦ turn_step c client command symbol false reply more old r stands refl heard.lawful (plain_of client command reply more old faulted heard refl heard.seen.listed heard.seen.left.left)
-          is (is_done reply) (λ behind puts list q first rest answered here. burial_makes c r symbol puts.tiles first rest
+          is (is_done reply) (λ behind kept puts list q first rest answered here. burial_makes c r symbol (first_of (links (more ++ old) symbol)) puts.tiles first rest
           (buried_first (prune_answer ((library_of (behind ++ old)).state symbol)) reply.outcome first rest (prune_buries ((library_of (behind ++ old)).state symbol)) answered))
           (turn_commits more old client.session symbol false (is_done reply) faulted heard.own (own_are client command reply more old faulted heard))
     ]
@@ -230,14 +264,14 @@ versions_step c client symbol reply old faulted heard r stands =
 -- ---- the lists of the library
 
 -- a reply to a list has its outcome, at the place where the window begins and ends
-listed_step : (client : Client) (command : Command) (reply : Reply) (r : Alone) (old : History) (faulted : Bool) (outcome : Outcome) → StandsAs old r → Heard client command reply [] old faulted
-    → reply.listed ≡ None → reply.left ≡ [] → reply.outcome ≡ outcome → StepsTo (Some (next_turn (plain_reply r.events None outcome, r))) reply old
-listed_step client command reply r old faulted outcome stands heard unlisted unleft is =
+listed_step : (c : Cutting) (client : Client) (command : Command) (reply : Reply) (r : Alone) (old : History) (faulted : Bool) (outcome : Outcome) → StandsAs c old r → Heard client command reply [] old faulted
+    → reply.listed ≡ None → reply.left ≡ [] → reply.outcome ≡ outcome → StepsTo c (Some (next_turn (plain_reply r.events None outcome, r))) reply old
+listed_step c client command reply r old faulted outcome stands heard unlisted unleft is =
     let here : reply.place ≡ length old = omega (arith, heard.seen.after, heard.seen.before) in (
       reply_is reply r.events None [] (here ∙ sym stands.events) unlisted
           (commits_are client command reply [] old faulted heard ∙ none_behind client.session.client (length old) old (omega arith)) unleft
           ∙ ap (λ o. plain_reply r.events None o) is,
-      record { events = stands.events; symbols = stands.symbols; states = stands.states; snapshots = stands.snapshots; shapes = stands.shapes },
+      record { events = stands.events; symbols = stands.symbols; states = stands.states; snapshots = stands.snapshots; shapes = stands.shapes; cut = stands.cut },
     )
 
 no_symbol : (symbol : Name) → None ≡ Some symbol → ⊥
@@ -260,8 +294,8 @@ snapshots_step c client reply old faulted heard r stands =
     let here : reply.place ≡ length old = omega (arith, heard.seen.after, heard.seen.before) in
     elim (snapshots_answered old client reply (added [] old faulted) reply.outcome heard.cut heard.seen.outcome) [
       | inl told ↦
-          let same : TellsSame r.library (library_at old reply.place) = subst (λ h. TellsSame r.library (library_of h)) (sym (ap (history_at old) here ∙ history_at_end old)) (run_tells old r stands) in
-          listed_step client commands.Snapshots reply r old faulted (outcomes.Snapshots (map (λ y. y.0) r.library.snapshots)) stands heard heard.seen.listed heard.seen.left.left
+          let same : TellsSame r.library (library_at old reply.place) = subst (λ h. TellsSame r.library (library_of h)) (sym (ap (history_at old) here ∙ history_at_end old)) (run_tells c old r stands) in
+          listed_step c client commands.Snapshots reply r old faulted (outcomes.Snapshots (map (λ y. y.0) r.library.snapshots)) stands heard heard.seen.listed heard.seen.left.left
           (sym (ap (λ (a : Answer). a.outcome) (some_answer (record { outcome = outcomes.Snapshots (map (λ y. y.0) (library_at old reply.place).snapshots); marks = [] }) (record { outcome = reply.outcome; marks = [] }) told.0))
           ∙ sym (ap (λ (xs : List (Name × Snapshot)). outcomes.Snapshots (map (λ y. y.0) xs)) same.snapshots))
       | inr made ↦ absurd (no_symbol made.2 made.4)
@@ -306,11 +340,11 @@ symbols_step c client reply old faulted heard r stands =
     let here : reply.place ≡ length old = omega (arith, heard.seen.after, heard.seen.before) in
     let rows = symbols_rows old client reply (added [] old faulted) reply.outcome refl heard.cut heard.seen.outcome in
     let at_end : history_at old reply.place ≡ old = ap (history_at old) here ∙ history_at_end old in
-    listed_step client commands.Symbols reply r old faulted (outcomes.Symbols (map (symbol_row r.library r.events) r.library.symbols)) stands heard heard.seen.listed heard.seen.left.left
+    listed_step c client commands.Symbols reply r old faulted (outcomes.Symbols (map (symbol_row r.library r.events) r.library.symbols)) stands heard heard.seen.listed heard.seen.left.left
     (rows.1 ∙ ap outcomes.Symbols (rows_are old reply.place (library_at old reply.place).symbols rows.0 here rows.2
     ∙ (ap (λ (g : History). map (symbol_row (library_of old) reply.place) (library_of g).symbols) at_end
     ∙ (ap (λ p. map (symbol_row (library_of old) p) (library_of old).symbols) (here ∙ sym stands.events)
-    ∙ (ap (map (symbol_row (library_of old) r.events)) (sym stands.symbols) ∙ sym (rows_same r.library (library_of old) r.events (run_tells old r stands) r.library.symbols))))))
+    ∙ (ap (map (symbol_row (library_of old) r.events)) (sym stands.symbols) ∙ sym (rows_same r.library (library_of old) r.events (run_tells c old r stands) r.library.symbols))))))
 
 -- ---- keys
 
@@ -338,7 +372,7 @@ keys_step c client symbol reply old faulted heard r stands =
     let here : reply.place ≡ length old = omega (arith, heard.seen.after, heard.seen.before) in
     let shape = stands.shapes symbol in
     let st : State = r.library.state symbol in
-    listed_step client (commands.Keys symbol) reply r old faulted (keys_alone st (r.shape symbol)) stands heard heard.seen.listed heard.seen.left.left
+    listed_step c client (commands.Keys symbol) reply r old faulted (keys_alone st (r.shape symbol)) stands heard heard.seen.listed heard.seen.left.left
     (keys_counted old client symbol reply (added [] old faulted) reply.outcome heard.cut heard.seen.outcome
     ∙ (ap (λ (g : History). keys_outcome g symbol) (ap (history_at old) here ∙ history_at_end old)
     ∙ (ap (λ n. outcomes.Keys n (keys_of old symbol kinds.TableIndex) (keys_of old symbol kinds.Version) (keys_of old symbol kinds.VersionRef) (keys_of old symbol kinds.Staged)) shape.tiles
@@ -351,7 +385,7 @@ keys_step c client symbol reply old faulted heard r stands =
 -- ---- each command
 
 served_step : (c : Cutting) (client : Client) (command : Command) (reply : Reply) (more old : History) (faulted : Bool) → Heard client command reply more old faulted → is_served command ≡ true
-    → LaysOut c client.session command reply old → IsStep c client.session command reply old (more ++ old)
+    → LaysOut c client.session command reply old (more ++ old) → IsStep c client.session command reply old (more ++ old)
 served_step c client (commands.Write a frame at prune) reply more old faulted heard served laid = write_step c client a frame at prune reply more old faulted heard laid
 served_step c client (commands.Delete a versions) reply more old faulted heard served laid = delete_step c client a versions reply more old faulted heard
 served_step c client (commands.Prune a) reply more old faulted heard served laid = prune_step c client a reply more old faulted heard
@@ -371,8 +405,8 @@ served_step c client commands.Snapshots reply more old faulted heard served laid
     let none : more ≡ [] = adds_none client commands.Snapshots reply more old faulted heard (own_are client commands.Snapshots reply more old faulted heard) in
     subst (λ es. IsStep c client.session commands.Snapshots reply old (es ++ old)) (sym none) (snapshots_step c client reply old faulted (subst (λ es. Heard client commands.Snapshots reply es old faulted) none heard))
 served_step c client (commands.Append a frame at prune) reply more old faulted heard served laid = append_step c client a frame at prune reply more old faulted heard laid
-served_step c client (commands.Update a frame range upsert at prune) reply more old faulted heard served laid = absurd (true≢false (sym served))
-served_step c client (commands.DeleteRange a range at prune) reply more old faulted heard served laid = absurd (true≢false (sym served))
+served_step c client (commands.Update a frame range upsert at prune) reply more old faulted heard served laid = update_step c client a frame range upsert at prune reply more old faulted heard laid
+served_step c client (commands.DeleteRange a range at prune) reply more old faulted heard served laid = delete_range_step c client a range at prune reply more old faulted heard laid
 served_step c client (commands.Finalize a append sorted at prune) reply more old faulted heard served laid = absurd (true≢false (sym served))
 served_step c client (commands.Discard a) reply more old faulted heard served laid = absurd (true≢false (sym served))
 served_step c client (commands.Stage a frame) reply more old faulted heard served laid = absurd (true≢false (sym served))
@@ -388,4 +422,4 @@ legal_alone_steps old new c client command reply faulted lawful grows legal serv
     let seen : IsLegalSeen new client command reply (record { start = length old; stop = length new; faulted = faulted }) =
     subst (λ h. IsLegalSeen h client command reply (record { start = length old; stop = length new; faulted = faulted })) (history_at_end new) legal.1 in
     subst (λ h. IsStep c client.session command reply old h) (sym grows.is) (served_step c client command reply grows.more old faulted
-    (record { lawful = subst (λ h. IsLawful h) grows.is lawful; own = grows.own; seen = subst (λ h. IsLegalSeen h client command reply (record { start = length old; stop = length h; faulted = faulted })) grows.is seen; cut = cut }) served laid)
+    (record { lawful = subst (λ h. IsLawful h) grows.is lawful; own = grows.own; seen = subst (λ h. IsLegalSeen h client command reply (record { start = length old; stop = length h; faulted = faulted })) grows.is seen; cut = cut }) served (subst (λ h. LaysOut c client.session command reply old h) grows.is laid))

@@ -1,28 +1,34 @@
 -- The shapes of a run behind a commit count the keys that are then stored.
-use Rattle.std.proofs.Common.{◌≡◌, ℕ, suc, ◌+◌, ◌≤◌, ◌<◌, Bool, true, false, List, [], ◌∷◌, ◌++◌, length, Option, Some, None, refl, sym, ◌∙◌, ap, subst, arith, cond, fold}
-use Rattle.std.specs.Prelude.{MatchBool, ◌&&◌}
-use Rattle.std.specs.List.{AllByRecursion}
+use Rattle.std.proofs.Common.{◌≡◌, ℕ, suc, ◌+◌, ◌≤◌, ◌<◌, Bool, true, false, List, [], ◌∷◌, ◌++◌, map, length, Option, Some, None, refl, sym, ◌∙◌, ap, subst, inl, inr, arith, cond, fold}
+use Rattle.std.specs.Prelude.{MatchBool, ◌&&◌, not}
+use Rattle.std.proofs.lemmas.Bool.{true≢false, or_parts}
+use Rattle.std.specs.List.{list_any, AllByRecursion, AllZip}
 use Rattle.std.proofs.lemmas.List.Sums.{sum_by-append}
 use Rattle.key_kind.specs.Names.{Name, same_name}
 use Rattle.key_kind.specs.declared.key.Key.{Key}
 use Rattle.key_kind.specs.declared.key.KeyKind.{KeyKind}
 use Rattle.key_kind.specs.declared.key.KeyKind.TheVariants as kinds
-use Rattle.key_kind.specs.Keys.{same_kind}
+use Rattle.key_kind.specs.Keys.{is_put, same_kind}
 use Rattle.key_kind.proofs.KeyTests.{same_name_is, same_name_self}
 use Rattle.bucket_core.specs.declared.event.Change.{Change}
 use Rattle.bucket_core.specs.declared.event.Change.TheVariants as changes
 use Rattle.bucket_core.specs.declared.event.Event.TheVariants as events
 use Rattle.bucket_core.specs.History.{History}
-use Rattle.store_model.specs.Library.{State, state_of, next_number, after_change, after_changes}
+use Rattle.store_model.specs.Library.{State, state_of, first_of, number_after, next_number, after_change, after_changes}
+use Rattle.store_model.specs.declared.chain.LinkRow.{LinkRow}
+use Rattle.store_model.specs.Links.{Linked, links, links_of, links_in, links_at}
+use Rattle.store_model.specs.Commits.{is_version, IsCommit, making, marking, marks_of, MayRefer}
+use Rattle.store_model.proofs.Linking.{MakesNone, marks_make_none, refer_makes}
+use Rattle.store_model.proofs.Referring.{linked_row}
 use Rattle.store_model.specs.Law.{IsLawful}
 use Rattle.store_model.proofs.Lists.{all_weaker}
 use Rattle.store_model.proofs.Lawful.{lawful_is_intact}
 use Rattle.reply_model.specs.Rows.{keys_of}
 use Rattle.reply_model.specs.Blocks.{Cutting, Block, Shape, tiles_in, made_for, blocks_made, with_version, shape_after}
 use Rattle.reply_model.specs.Sole.{Alone, committing}
-use Rattle.reply_model.specs.Standing.{HasShape, StandsAs}
+use Rattle.reply_model.specs.Standing.{row_sizes, IsCutBy, HasBlocks, HasShape, StandsAs}
 use Rattle.reply_model.proofs.StoredCounts.{keys_behind_refer, reference_behind}
-use Rattle.reply_model.proofs.TryCounts.{keys_behind_puts, PutsKeys}
+use Rattle.reply_model.proofs.TryCounts.{is_no_put, keys_behind_puts, PutsKeys}
 use Rattle.reply_model.proofs.AloneWindows.{IsKept}
 
 -- ---- numbers of versions
@@ -52,13 +58,46 @@ made_later n m le versions all =
 
 -- ---- one commit
 
--- the blocks that a commit makes: of a version so many new tiles, each block made for one that there then is; or none
-abbrev pub Makes : Cutting → State → Shape → Bool → ℕ → Change → List Change → Type 0
-Makes c st s makes tiles first rest = MatchBool makes
-    ((x : ℕ × List Block) × (blocks_made c st s first ≡ Some x) × (tiles_in (made_for x.0 x.1) ≡ tiles) × AreMade (next_number (after_changes st (first ∷ rest))) x.1)
-    (blocks_made c st s first ≡ None)
+-- the version that a commit makes: its number, so many new tiles, blocks that were made for versions that there then are, and the rows of the newest link
+pub record MakesVersion (c : Cutting) (st : State) (s : Shape) (newest : Option Linked) (tiles : ℕ) (first : Change) (rest : List Change) : Type 0 where
+  pub blocks : List Block
+  pub is : blocks_made c st s first ≡ Some (next_number st, blocks)
+  pub counted : tiles_in (made_for (next_number st) blocks) ≡ tiles
+  pub more : suc (next_number st) ≤ next_number (after_changes st (first ∷ rest))
+  pub made : AreMade (next_number (after_changes st (first ∷ rest))) blocks
+  pub link : Linked
+  pub link_is : newest ≡ Some link
+  pub rows : map (λ (b : Block). b.rows) blocks ≡ row_sizes link.index.slots
+  pub within : AllByRecursion (λ n. n ≤ c.rows) (row_sizes link.index.slots)
 
-module _ (c : Cutting) (client : ℕ) (symbol : Name) (makes : Bool) (old behind : History) (was : Option Key) (entry : Key) (first : Change) (rest : List Change) (r : Alone) (stands : StandsAs old r)
+-- or it makes none
+pub record MakesMark (c : Cutting) (st : State) (s : Shape) (first : Change) : Type 0 where
+  pub is : blocks_made c st s first ≡ None
+  pub mark : is_version first ≡ false
+
+abbrev pub Makes : Cutting → State → Shape → Bool → Option Linked → ℕ → Change → List Change → Type 0
+Makes c st s makes newest tiles first rest = MatchBool makes (MakesVersion c st s newest tiles first rest) (MakesMark c st s first)
+
+-- ---- links
+
+-- puts make no links
+links_kept : (symbol : Name) (es old : History) → list_any is_no_put es ≡ false → links (es ++ old) symbol ≡ links old symbol
+links_kept symbol [] old none = refl
+links_kept symbol (events.Put c key body ∷ es) old none = links_kept symbol es old (or_parts (not (is_put key.kind)) (list_any is_no_put es) none).1
+links_kept symbol (events.Refer c s was entry list ∷ es) old none = absurd (true≢false none)
+links_kept symbol (events.Name c snap body ∷ es) old none = absurd (true≢false none)
+links_kept symbol (events.Unname c snap ∷ es) old none = absurd (true≢false none)
+links_kept symbol (events.Drop c key ∷ es) old none = absurd (true≢false none)
+
+-- one change that is a mark makes no link
+mark_makes_none : (h : History) (client : ℕ) (symbol : Name) (row : LinkRow) (first : Change) (rest : List Change) → is_version first ≡ false → IsCommit (first ∷ rest) → MakesNone h row (state_of h symbol) (first ∷ rest)
+mark_makes_none h client symbol row first rest mark (making c version buries) = absurd (true≢false (sym version ∙ mark))
+mark_makes_none h client symbol row first rest mark (marking c other) = marks_make_none h row (state_of h symbol) first mark
+
+same_some : (a b : Linked) → Some a ≡ Some b → a ≡ b
+same_some a b e = cc
+
+module _ (c : Cutting) (client : ℕ) (symbol : Name) (makes : Bool) (old behind : History) (was : Option Key) (entry : Key) (first : Change) (rest : List Change) (r : Alone) (stands : StandsAs c old r)
     (kept : IsKept client old (behind ++ old)) (puts : PutsKeys symbol makes behind) (lawful : IsLawful (events.Refer client symbol was entry (first ∷ rest) ∷ (behind ++ old))) where
   abbrev before : History
   before = behind ++ old
@@ -82,6 +121,10 @@ module _ (c : Cutting) (client : ℕ) (symbol : Name) (makes : Bool) (old behind
   references_before other = omega (arith, keys_behind_puts other kinds.VersionRef behind old puts.none (lawful_is_intact new lawful).once, puts.counted other kinds.VersionRef)
       ∙ ((stands.shapes other).references ∙ ap (λ (st : State). cond st.has_reference 1 0) (sym (kept.states other)))
 
+  -- another symbol keeps its links
+  other_links : (other : Name) → same_name symbol other ≡ false → links new other ≡ links old other
+  other_links other differs = ap (λ b. cond b (links_at before entry ++ links before other) (links before other)) differs ∙ links_kept other behind old puts.none
+
   -- another symbol keeps its shape
   other_shape : (other : Name) → same_name symbol other ≡ false → HasShape new other (r.shape other)
   other_shape other differs =
@@ -96,6 +139,7 @@ module _ (c : Cutting) (client : ℕ) (symbol : Name) (makes : Bool) (old behind
             ∙ (references_before other ∙ ap (λ (st : State). cond st.has_reference 1 0) (kept.states other ∙ sym same));
         pieces = omega (arith, keys_are other kinds.Staged refl, was_shape.pieces);
         made = subst (λ (st : State). AllByRecursion (λ (x : ℕ × List Block). AreMade (next_number st) x.1) (r.shape other).versions) (sym same) was_shape.made;
+        versions = subst (λ (ls : List Linked). AllZip HasBlocks ls (r.shape other).versions) (sym (other_links other differs)) was_shape.versions;
       }
 
   -- what is told of the symbol behind the commit
@@ -108,53 +152,105 @@ module _ (c : Cutting) (client : ℕ) (symbol : Name) (makes : Bool) (old behind
       (subst (λ (st : State). next_number st ≤ next_number (after_changes (r.library.state symbol) (first ∷ rest))) (stands.states symbol) (numbers_kept (r.library.state symbol) (first ∷ rest)))
       (r.shape symbol).versions (stands.shapes symbol).made
 
-  -- the symbol's own shape, by the blocks that were made
-  own_shape : (m : Bool) (o : Option (ℕ × List Block)) → m ≡ makes → blocks_made c (r.library.state symbol) (r.shape symbol) first ≡ o
-      → MatchBool m
-      ((x : ℕ × List Block) × (o ≡ Some x) × (tiles_in (made_for x.0 x.1) ≡ puts.tiles) × AreMade (next_number (after_changes (r.library.state symbol) (first ∷ rest))) x.1)
-      (o ≡ None)
-      → HasShape new symbol (record (with_version o (r.shape symbol)) { elements = suc (r.shape symbol).elements })
-  own_shape m o is blocks made =
-      let was_shape = stands.shapes symbol in
-      let all : (n : ℕ) → cond {A = ℕ} (same_name symbol symbol) n 0 ≡ n = λ n. ap (λ b. cond b n 0) (same_name_self symbol) in
-      let referred : keys_of new symbol kinds.VersionRef ≡ cond (state_of new symbol).has_reference 1 0 =
-      reference_behind before client symbol was entry (first ∷ rest) lawful.1 (references_before symbol) ∙ ap (λ (st : State). cond st.has_reference 1 0) (sym state_behind) in
-      let elements : keys_of new symbol kinds.Version ≡ suc (r.shape symbol).elements = omega (arith, keys_are symbol kinds.Version refl, all 1, was_shape.elements) in
-      let pieces : keys_of new symbol kinds.Staged ≡ length (r.shape symbol).pieces = omega (arith, keys_are symbol kinds.Staged refl, was_shape.pieces) in
-      by_blocks m o is made referred elements pieces
-    where
-      by_blocks : (n : Bool) (p : Option (ℕ × List Block)) → n ≡ makes
-          → MatchBool n
-          ((x : ℕ × List Block) × (p ≡ Some x) × (tiles_in (made_for x.0 x.1) ≡ puts.tiles) × AreMade (next_number (after_changes (r.library.state symbol) (first ∷ rest))) x.1)
-          (p ≡ None)
-          → keys_of new symbol kinds.VersionRef ≡ cond (state_of new symbol).has_reference 1 0 → keys_of new symbol kinds.Version ≡ suc (r.shape symbol).elements
-          → keys_of new symbol kinds.Staged ≡ length (r.shape symbol).pieces → HasShape new symbol (record (with_version p (r.shape symbol)) { elements = suc (r.shape symbol).elements })
-      by_blocks true p e made referred elements pieces =
-          let all : (n : ℕ) → cond {A = ℕ} (same_name symbol symbol) n 0 ≡ n = λ n. ap (λ b. cond b n 0) (same_name_self symbol) in
-          subst (λ q. HasShape new symbol (record (with_version q (r.shape symbol)) { elements = suc (r.shape symbol).elements })) (sym made.1) (record {
-            tiles = omega (arith, keys_are symbol kinds.TableData refl, all puts.tiles, (stands.shapes symbol).tiles, made.2, sum_by-append (λ (b : Block). b.tiles) (made_for made.0.0 made.0.1) (r.shape symbol).blocks);
-            indexes = omega (arith, keys_are symbol kinds.TableIndex refl, all puts.indexes, puts.with_index (sym e), (stands.shapes symbol).indexes);
-            elements = elements;
-            references = referred;
-            pieces = pieces;
-            made = subst (λ (st : State). AllByRecursion (λ (x : ℕ × List Block). AreMade (next_number st) x.1) (made.0 ∷ (r.shape symbol).versions)) (sym state_behind) (made.3, versions_made);
-          })
-      by_blocks false p e made referred elements pieces =
-          let all : (n : ℕ) → cond {A = ℕ} (same_name symbol symbol) n 0 ≡ n = λ n. ap (λ b. cond b n 0) (same_name_self symbol) in
-          subst (λ q. HasShape new symbol (record (with_version q (r.shape symbol)) { elements = suc (r.shape symbol).elements })) (sym made) (record {
-            tiles = omega (arith, keys_are symbol kinds.TableData refl, all puts.tiles, (stands.shapes symbol).tiles, (puts.without (sym e)).0);
-            indexes = omega (arith, keys_are symbol kinds.TableIndex refl, all puts.indexes, (puts.without (sym e)).1, (stands.shapes symbol).indexes);
-            elements = elements;
-            references = referred;
-            pieces = pieces;
-            made = subst (λ (st : State). AllByRecursion (λ (x : ℕ × List Block). AreMade (next_number st) x.1) (r.shape symbol).versions) (sym state_behind) versions_made;
-          })
+  -- its links
+  may : MayRefer before client symbol was entry (first ∷ rest)
+  may = lawful.0.1
+
+  links_behind : links new symbol ≡ links_in before (marks_of may.row (first ∷ rest)) ++ links old symbol
+  links_behind = ap (λ b. cond b (links_at before entry ++ links before symbol) (links before symbol)) (same_name_self symbol)
+      ∙ (ap (λ ls. ls ++ links before symbol) (ap (links_of before) may.spelled) ∙ ap (λ ls. links_in before (marks_of may.row (first ∷ rest)) ++ ls) (links_kept symbol behind old puts.none))
+
+  -- the version that is made is that of the newest link
+  links_made : (x : MakesVersion c (r.library.state symbol) (r.shape symbol) (first_of (links new symbol)) puts.tiles first rest)
+      → (links new symbol ≡ x.link ∷ links old symbol) × (x.link.row.version ≡ next_number (r.library.state symbol))
+  links_made x = elim (refer_makes before client symbol may.row (first ∷ rest) may.form may.fits) [
+    | inl none ↦
+        let same : next_number (fold after_change (state_of before symbol) (first ∷ rest)) ≡ next_number (state_of before symbol) = ap number_after none.versions in
+        let here : r.library.state symbol ≡ state_of before symbol = stands.states symbol ∙ sym (kept.states symbol) in
+        absurd (omega (arith, same, subst (λ (st : State). suc (next_number st) ≤ next_number (after_changes st (first ∷ rest))) here x.more))
+    | inr one ↦
+        let list_is : links new symbol ≡ one.fits.link ∷ links old symbol = links_behind ∙ ap (λ ls. ls ++ links old symbol) one.links in
+        let link_is : one.fits.link ≡ x.link = same_some one.fits.link x.link (sym (ap (λ (ls : List Linked). first_of ls) list_is) ∙ x.link_is) in
+        let number : one.fits.link.row.version ≡ next_number (r.library.state symbol) =
+        ap (λ (l : LinkRow). l.version) (linked_row before may.row one.fits.link one.fits.link_is)
+        ∙ (one.fits.number ∙ (one.number ∙ ap (λ (st : State). next_number st) (kept.states symbol ∙ sym (stands.states symbol)))) in
+        (list_is ∙ ap (λ l. l ∷ links old symbol) link_is, ap (λ (l : Linked). l.row.version) (sym link_is) ∙ number)
+  ]
+
+  versions_behind : (x : MakesVersion c (r.library.state symbol) (r.shape symbol) (first_of (links new symbol)) puts.tiles first rest)
+      → AllZip HasBlocks (links new symbol) ((next_number (r.library.state symbol), x.blocks) ∷ (r.shape symbol).versions)
+  versions_behind x =
+      let made = links_made x in
+      subst (λ (ls : List Linked). AllZip HasBlocks ls ((next_number (r.library.state symbol), x.blocks) ∷ (r.shape symbol).versions)) (sym made.0) ((made.1, x.rows), (stands.shapes symbol).versions)
+
+  -- and a mark makes none
+  links_stay : is_version first ≡ false → links new symbol ≡ links old symbol
+  links_stay mark = let none = mark_makes_none before client symbol may.row first rest mark may.form in links_behind ∙ ap (λ ls. ls ++ links old symbol) none.links
+
+  versions_stay : is_version first ≡ false → AllZip HasBlocks (links new symbol) (r.shape symbol).versions
+  versions_stay mark = subst (λ (ls : List Linked). AllZip HasBlocks ls (r.shape symbol).versions) (sym (links_stay mark)) (stands.shapes symbol).versions
+
+  all_own : (n : ℕ) → cond {A = ℕ} (same_name symbol symbol) n 0 ≡ n
+  all_own n = ap (λ b. cond b n 0) (same_name_self symbol)
+
+  referred_behind : keys_of new symbol kinds.VersionRef ≡ cond (state_of new symbol).has_reference 1 0
+  referred_behind = reference_behind before client symbol was entry (first ∷ rest) lawful.1 (references_before symbol) ∙ ap (λ (st : State). cond st.has_reference 1 0) (sym state_behind)
+
+  elements_behind : keys_of new symbol kinds.Version ≡ suc (r.shape symbol).elements
+  elements_behind = omega (arith, keys_are symbol kinds.Version refl, all_own 1, (stands.shapes symbol).elements)
+
+  pieces_behind : keys_of new symbol kinds.Staged ≡ length (r.shape symbol).pieces
+  pieces_behind = omega (arith, keys_are symbol kinds.Staged refl, (stands.shapes symbol).pieces)
+
+  -- the symbol's own shape, by what was made
+  own_shape : (m : Bool) → m ≡ makes → Makes c (r.library.state symbol) (r.shape symbol) m (first_of (links new symbol)) puts.tiles first rest
+      → HasShape new symbol (record (with_version (blocks_made c (r.library.state symbol) (r.shape symbol) first) (r.shape symbol)) { elements = suc (r.shape symbol).elements })
+  own_shape true e made = subst (λ o. HasShape new symbol (record (with_version o (r.shape symbol)) { elements = suc (r.shape symbol).elements })) (sym made.is) (record {
+    tiles = omega (
+      arith,
+      keys_are symbol kinds.TableData refl,
+      all_own puts.tiles,
+      (stands.shapes symbol).tiles,
+      made.counted,
+      sum_by-append (λ (b : Block). b.tiles) (made_for (next_number (r.library.state symbol)) made.blocks) (r.shape symbol).blocks,
+    );
+    indexes = omega (arith, keys_are symbol kinds.TableIndex refl, all_own puts.indexes, puts.with_index (sym e), (stands.shapes symbol).indexes);
+    elements = elements_behind;
+    references = referred_behind;
+    pieces = pieces_behind;
+    made = subst (λ (st : State). AllByRecursion (λ (x : ℕ × List Block). AreMade (next_number st) x.1) ((next_number (r.library.state symbol), made.blocks) ∷ (r.shape symbol).versions)) (sym state_behind)
+        (made.made, versions_made);
+    versions = versions_behind made;
+  })
+  own_shape false e made = subst (λ o. HasShape new symbol (record (with_version o (r.shape symbol)) { elements = suc (r.shape symbol).elements })) (sym made.is) (record {
+    tiles = omega (arith, keys_are symbol kinds.TableData refl, all_own puts.tiles, (stands.shapes symbol).tiles, (puts.without (sym e)).0);
+    indexes = omega (arith, keys_are symbol kinds.TableIndex refl, all_own puts.indexes, (puts.without (sym e)).1, (stands.shapes symbol).indexes);
+    elements = elements_behind;
+    references = referred_behind;
+    pieces = pieces_behind;
+    made = subst (λ (st : State). AllByRecursion (λ (x : ℕ × List Block). AreMade (next_number st) x.1) (r.shape symbol).versions) (sym state_behind) versions_made;
+    versions = versions_stay made.mark;
+  })
 
   -- each symbol's shape
-  pub shapes_behind : Makes c (r.library.state symbol) (r.shape symbol) makes puts.tiles first rest → (other : Name) → HasShape new other ((committing c symbol (first ∷ rest) r).shape other)
+  pub shapes_behind : Makes c (r.library.state symbol) (r.shape symbol) makes (first_of (links new symbol)) puts.tiles first rest → (other : Name) → HasShape new other ((committing c symbol (first ∷ rest) r).shape other)
   shapes_behind made other =
       elim (same_name symbol other) as (λ b. same_name symbol other ≡ b → HasShape new other (cond b (shape_after c (r.library.state symbol) (r.shape symbol) (first ∷ rest)) (r.shape other))) [
-        | true ↦ λ e. subst (λ n. HasShape new n (shape_after c (r.library.state symbol) (r.shape symbol) (first ∷ rest))) (same_name_is symbol other e)
-            (own_shape makes (blocks_made c (r.library.state symbol) (r.shape symbol) first) refl refl made)
+        | true ↦ λ e. subst (λ n. HasShape new n (shape_after c (r.library.state symbol) (r.shape symbol) (first ∷ rest))) (same_name_is symbol other e) (own_shape makes refl made)
         | false ↦ λ e. other_shape other e
+      ] refl
+
+  -- all versions are cut as before
+  abbrev AreCut : List Linked → Type 0
+  AreCut ls = AllByRecursion (λ (l : Linked). AllByRecursion (λ n. n ≤ c.rows) (row_sizes l.index.slots)) ls
+
+  own_cut : (m : Bool) → Makes c (r.library.state symbol) (r.shape symbol) m (first_of (links new symbol)) puts.tiles first rest → AreCut (links new symbol)
+  own_cut true made = subst AreCut (sym (links_made made).0) (made.within, stands.cut symbol)
+  own_cut false made = subst AreCut (sym (links_stay made.mark)) (stands.cut symbol)
+
+  pub cut_behind : Makes c (r.library.state symbol) (r.shape symbol) makes (first_of (links new symbol)) puts.tiles first rest → IsCutBy c new
+  cut_behind made other =
+      elim (same_name symbol other) as (λ b. same_name symbol other ≡ b → AreCut (links new other)) [
+        | true ↦ λ e. subst (λ n. AreCut (links new n)) (same_name_is symbol other e) (own_cut makes made)
+        | false ↦ λ e. subst AreCut (sym (other_links other e)) (stands.cut other)
       ] refl

@@ -18,14 +18,14 @@ use Rattle.expr_clause.specs.declared.command.AsOf.TheVariants as moments
 use Rattle.expr_clause.specs.declared.command.Command.{Command}
 use Rattle.expr_clause.specs.declared.command.Command.TheVariants as commands
 use Rattle.reply_model.specs.declared.reply.Reply.{Reply}
-use Rattle.reply_model.specs.CommitAnswers.{append_answer, delete_answer, prune_answer}
-use Rattle.reply_model.specs.Answering.{Session, Answer, ◌then◌, answered, with_frame, stamp_of, committed, version_or, or_refuse}
+use Rattle.reply_model.specs.CommitAnswers.{append_answer, update_answer, delete_answer, prune_answer}
+use Rattle.reply_model.specs.Answering.{Session, Answer, base_or, ◌then◌, answered, with_frame, stamp_of, committed, version_or, or_refuse}
 use Rattle.reply_model.specs.Answers.{answer, symbol_row}
 use Rattle.reply_model.specs.ReadAnswers.{versions_answer, read_version, back, numbered, picked}
 use Rattle.reply_model.specs.Windows.{symbol_of}
 use Rattle.reply_model.specs.Blocks.{Cutting}
 use Rattle.reply_model.specs.Sole.{Alone, events_of, committing, answering, list_place, plain_reply, next_turn, step_alone}
-use Rattle.reply_model.specs.Standing.{HasShape, StandsAs, StepsTo, is_served}
+use Rattle.reply_model.specs.Standing.{HasShape, IsCutBy, StandsAs, StepsTo, is_served}
 use Rattle.reply_model.proofs.Isolated.{whole}
 use Rattle.reply_model.proofs.Quiet.{is_plain}
 use Rattle.reply_model.proofs.AloneWindows.{IsKept}
@@ -60,8 +60,9 @@ answer_told s list other l m p q (commands.Prune a) told same = ap (λ (st : Sta
 answer_told s list other l m p q (commands.Versions a) told same = ap (λ (st : State). Some (answered (versions_answer st))) (same.states a)
 answer_told s list other l m p q (commands.Read a as_of range columns) told same = ap (λ v. Some (answered (v then λ x. whole x range columns))) (read_same l m a as_of same)
 answer_told s list other l m p q (commands.Append a frame at prune) told same = ap (λ (st : State). with_frame s frame (λ f. append_answer st prune (stamp_of s at) f)) (same.states a)
-answer_told s list other l m p q (commands.Update a frame range upsert at prune) told same = absurd (true≢false (sym told))
-answer_told s list other l m p q (commands.DeleteRange a range at prune) told same = absurd (true≢false (sym told))
+answer_told s list other l m p q (commands.Update a frame range upsert at prune) told same = ap (λ (st : State). with_frame s frame (λ f. update_answer st upsert prune (stamp_of s at) range f)) (same.states a)
+answer_told s list other l m p q (commands.DeleteRange a range at prune) told same =
+    ap (λ (st : State). Some (answered (base_or st then λ v. update_answer st false prune (stamp_of s at) (Some range) (record v.frame { rows = [] })))) (same.states a)
 answer_told s list other l m p q (commands.Finalize a append sorted at prune) told same = absurd (true≢false (sym told))
 answer_told s list other l m p q (commands.Discard a) told same = absurd (true≢false (sym told))
 answer_told s list other l m p q (commands.Stage a frame) told same = absurd (true≢false (sym told))
@@ -78,12 +79,12 @@ rows_same l m p same (name ∷ names) =
     ap (λ (st : State). symbol_row (record l { state = λ x. st }) p name ∷ map (symbol_row l p) names) (same.states name) ∙ ap (λ xs. symbol_row m p name ∷ xs) (rows_same l m p same names)
 
 -- the library of a run is that of the history where it stands
-pub run_tells : (h : History) (r : Alone) → StandsAs h r → TellsSame r.library (library_of h)
-run_tells h r stands = record { symbols = stands.symbols; states = stands.states; snapshots = stands.snapshots }
+pub run_tells : (c : Cutting) (h : History) (r : Alone) → StandsAs c h r → TellsSame r.library (library_of h)
+run_tells c h r stands = record { symbols = stands.symbols; states = stands.states; snapshots = stands.snapshots }
 
 -- and of each one that tells the same
-pub run_tells_kept : (client : ℕ) (old before : History) (r : Alone) → StandsAs old r → IsKept client old before → TellsSame (library_of before) r.library
-run_tells_kept client old before r stands kept = record {
+pub run_tells_kept : (c : Cutting) (client : ℕ) (old before : History) (r : Alone) → StandsAs c old r → IsKept client old before → TellsSame (library_of before) r.library
+run_tells_kept c client old before r stands kept = record {
   symbols = kept.symbols ∙ sym stands.symbols;
   states = λ symbol. kept.states symbol ∙ sym (stands.states symbol);
   snapshots = kept.snapshots ∙ sym stands.snapshots;
@@ -91,11 +92,11 @@ run_tells_kept client old before r stands kept = record {
 
 -- ---- where the run stands behind a commit
 
-pub stands_behind : (c : Cutting) (client : ℕ) (symbol : Name) (list : List Change) (old before : History) (was : Option Key) (entry : Key) (r : Alone) → StandsAs old r → IsKept client old before
+pub stands_behind : (c : Cutting) (client : ℕ) (symbol : Name) (list : List Change) (old before : History) (was : Option Key) (entry : Key) (r : Alone) → StandsAs c old r → IsKept client old before
     → suc (length before) ≡ r.events + events_of c (r.library.state symbol) (r.shape symbol) list
     → ((other : Name) → HasShape (events.Refer client symbol was entry list ∷ before) other ((committing c symbol list r).shape other))
-    → StandsAs (events.Refer client symbol was entry list ∷ before) (record (committing c symbol list r) { turn = suc r.turn })
-stands_behind c client symbol list old before was entry r stands kept counted shapes = record {
+    → IsCutBy c (events.Refer client symbol was entry list ∷ before) → StandsAs c (events.Refer client symbol was entry list ∷ before) (record (committing c symbol list r) { turn = suc r.turn })
+stands_behind c client symbol list old before was entry r stands kept counted shapes cut = record {
   events = sym counted;
   symbols = ap (insert_name symbol) (stands.symbols ∙ sym kept.symbols);
   states = λ other.
@@ -106,6 +107,7 @@ stands_behind c client symbol list old before was entry r stands kept counted sh
       ] refl;
   snapshots = stands.snapshots ∙ sym kept.snapshots;
   shapes = shapes;
+  cut = cut;
 }
 
 -- ---- the fold's step
@@ -118,8 +120,8 @@ step_is c s (commands.Prune a) r told = refl
 step_is c s (commands.Versions a) r told = refl
 step_is c s (commands.Read a as_of range columns) r told = refl
 step_is c s (commands.Append a frame at prune) r told = refl
-step_is c s (commands.Update a frame range upsert at prune) r told = absurd (true≢false (sym told))
-step_is c s (commands.DeleteRange a range at prune) r told = absurd (true≢false (sym told))
+step_is c s (commands.Update a frame range upsert at prune) r told = refl
+step_is c s (commands.DeleteRange a range at prune) r told = refl
 step_is c s (commands.Finalize a append sorted at prune) r told = absurd (true≢false (sym told))
 step_is c s (commands.Discard a) r told = absurd (true≢false (sym told))
 step_is c s (commands.Stage a frame) r told = absurd (true≢false (sym told))
@@ -148,20 +150,20 @@ reply_is reply place listed commits p l c f =
 -- the fold's answer, where it is known
 steps_by : (c : Cutting) (s : Session) (command : Command) (r : Alone) (reply : Reply) (new : History) (marks : List Change) → is_told command ≡ true
     → answer s r.library r.library r.events command ≡ Some (record { outcome = reply.outcome; marks = marks })
-    → StepsTo (Some (next_turn (answering c command (symbol_of command) reply.outcome marks r))) reply new → StepsTo (step_alone c s command r) reply new
+    → StepsTo c (Some (next_turn (answering c command (symbol_of command) reply.outcome marks r))) reply new → StepsTo c (step_alone c s command r) reply new
 steps_by c s command r reply new marks told answered to =
-    subst (λ o. StepsTo o reply new)
+    subst (λ o. StepsTo c o reply new)
     (sym (step_is c s command r told ∙ ap (option_map (λ (a : Answer). next_turn (answering c command (symbol_of command) a.outcome a.marks r))) answered)) to
 
 -- a reply without changes, where nothing was added
-pub told_step : (c : Cutting) (s : Session) (command : Command) (r : Alone) (reply : Reply) (old : History) (list l : Library) (q : ℕ) → is_told command ≡ true → StandsAs old r → TellsSame r.library l
+pub told_step : (c : Cutting) (s : Session) (command : Command) (r : Alone) (reply : Reply) (old : History) (list l : Library) (q : ℕ) → is_told command ≡ true → StandsAs c old r → TellsSame r.library l
     → reply.place ≡ length old → reply.listed ≡ None → reply.commits ≡ [] → reply.left ≡ []
-    → answer s list l q command ≡ Some (record { outcome = reply.outcome; marks = [] }) → StepsTo (step_alone c s command r) reply old
+    → answer s list l q command ≡ Some (record { outcome = reply.outcome; marks = [] }) → StepsTo c (step_alone c s command r) reply old
 told_step c s command r reply old list l q told stands same here unlisted uncommitted unleft answered =
     steps_by c s command r reply old [] told (answer_told s r.library list r.library l r.events q command told same ∙ answered)
-    (subst (λ (x : Reply × Alone). StepsTo (Some (next_turn x)) reply old) (sym (without (symbol_of command))) (
+    (subst (λ (x : Reply × Alone). StepsTo c (Some (next_turn x)) reply old) (sym (without (symbol_of command))) (
       reply_is reply r.events (list_place command r.events) [] (here ∙ sym stands.events) (unlisted ∙ sym (no_list command r.events told)) uncommitted unleft,
-      record { events = stands.events; symbols = stands.symbols; states = stands.states; snapshots = stands.snapshots; shapes = stands.shapes },
+      record { events = stands.events; symbols = stands.symbols; states = stands.states; snapshots = stands.snapshots; shapes = stands.shapes; cut = stands.cut },
     ))
   where
     without : (symbol : Option Name) → answering c command symbol reply.outcome [] r ≡ (plain_reply r.events (list_place command r.events) reply.outcome, r)
@@ -170,17 +172,17 @@ told_step c s command r reply old list l q told stands same here unlisted uncomm
 
 -- a commit
 pub commit_step : (c : Cutting) (s : Session) (command : Command) (symbol : Name) (r : Alone) (reply : Reply) (old before : History) (was : Option Key) (entry : Key) (first : Change) (rest : List Change)
-    (list : Library) (q : ℕ) → is_told command ≡ true → symbol_of command ≡ Some symbol → StandsAs old r → IsKept s.client old before
+    (list : Library) (q : ℕ) → is_told command ≡ true → symbol_of command ≡ Some symbol → StandsAs c old r → IsKept s.client old before
     → reply.place ≡ suc (length before) → reply.listed ≡ None → reply.commits ≡ reply.place ∷ [] → reply.left ≡ []
     → answer s list (library_of before) q command ≡ Some (record { outcome = reply.outcome; marks = first ∷ rest })
     → suc (length before) ≡ r.events + events_of c (r.library.state symbol) (r.shape symbol) (first ∷ rest)
     → ((other : Name) → HasShape (events.Refer s.client symbol was entry (first ∷ rest) ∷ before) other ((committing c symbol (first ∷ rest) r).shape other))
-    → StepsTo (step_alone c s command r) reply (events.Refer s.client symbol was entry (first ∷ rest) ∷ before)
-commit_step c s command symbol r reply old before was entry first rest list q told named stands kept here unlisted committed unleft answered counted shapes =
+    → IsCutBy c (events.Refer s.client symbol was entry (first ∷ rest) ∷ before) → StepsTo c (step_alone c s command r) reply (events.Refer s.client symbol was entry (first ∷ rest) ∷ before)
+commit_step c s command symbol r reply old before was entry first rest list q told named stands kept here unlisted committed unleft answered counted shapes cut =
     let new = events.Refer s.client symbol was entry (first ∷ rest) ∷ before in
     let place : ℕ = r.events + events_of c (r.library.state symbol) (r.shape symbol) (first ∷ rest) in
-    steps_by c s command r reply new (first ∷ rest) told (sym (answer_told s list r.library (library_of before) r.library q r.events command told (run_tells_kept s.client old before r stands kept)) ∙ answered)
-    (subst (λ (o : Option Name). StepsTo (Some (next_turn (answering c command o reply.outcome (first ∷ rest) r))) reply new) (sym named) (
+    steps_by c s command r reply new (first ∷ rest) told (sym (answer_told s list r.library (library_of before) r.library q r.events command told (run_tells_kept c s.client old before r stands kept)) ∙ answered)
+    (subst (λ (o : Option Name). StepsTo c (Some (next_turn (answering c command o reply.outcome (first ∷ rest) r))) reply new) (sym named) (
       reply_is reply place (list_place command r.events) (place ∷ []) (here ∙ counted) (unlisted ∙ sym (no_list command r.events told)) (committed ∙ ap (λ n. n ∷ []) (here ∙ counted)) unleft,
-      stands_behind c s.client symbol (first ∷ rest) old before was entry r stands kept counted shapes,
+      stands_behind c s.client symbol (first ∷ rest) old before was entry r stands kept counted shapes cut,
     ))

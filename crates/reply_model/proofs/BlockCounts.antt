@@ -1,46 +1,23 @@
--- The blocks of a version that keeps blocks of its base and cuts a frame behind them.
-use Rattle.std.proofs.Common.{◌≡◌, ℕ, suc, ◌≤◌, ◌<◌, true, false, List, [], ◌∷◌, ◌++◌, map, length, Option, Some, None, refl, sym, ◌∙◌, ap, arith, cond}
-use Rattle.std.specs.Prelude.{ℤ, find, nat_eq}
+-- What a commit that is laid out makes of the run's blocks.
+use Rattle.std.proofs.Common.{◌≡◌, ℕ, suc, ◌≤◌, true, false, List, [], ◌∷◌, map, Option, Some, None, refl, sym, ◌∙◌, ap, cond}
+use Rattle.std.specs.Prelude.{◌*◌, find, nat_eq}
 use Rattle.std.specs.Option.{option_map_or}
 use Rattle.std.specs.List.{AllByRecursion}
-use Rattle.std.proofs.lemmas.Bool.{eqb-true}
-use Rattle.frame_core.specs.Frames.{Row, Frame}
+use Rattle.std.proofs.lemmas.Bool.{true≢false}
+use Rattle.key_kind.specs.Names.{Name}
 use Rattle.bucket_core.specs.declared.event.Change.{Change}
 use Rattle.bucket_core.specs.declared.event.Change.TheVariants as changes
-use Rattle.store_model.specs.Library.{State, Version, base_of, next_number, after_change, after_changes, on_base}
-use Rattle.reply_model.specs.Blocks.{Cutting, Block, Part, shared, fresh, block_sizes, tiles_across, cut_rows, blocks_from, Shape, base_blocks, tiles_in, made_for}
-use Rattle.reply_model.specs.Standing.{tiles_cut}
-use Rattle.reply_model.proofs.GridCounts.{tiles_counted}
-use Rattle.reply_model.proofs.AloneShapes.{numbers_kept, AreMade, Makes}
+use Rattle.bucket_core.specs.History.{History}
+use Rattle.store_model.specs.Library.{State, Version, state_of, base_of, first_of, next_number, after_change, after_changes}
+use Rattle.store_model.specs.Links.{links}
+use Rattle.store_model.specs.Commits.{is_version}
+use Rattle.reply_model.specs.Blocks.{Cutting, Block, Part, parts_of, blocks_from, Shape, base_blocks, blocks_made}
+use Rattle.reply_model.specs.Standing.{HasShape, IsCutBy, bare_block, part_rows, fresh_in, slices, parts_laid, IsLaid}
+use Rattle.reply_model.proofs.AloneShapes.{numbers_kept, AreMade, MakesVersion}
+use Rattle.reply_model.proofs.PartRows.{laid_within}
+use Rattle.reply_model.proofs.PartCounts.{bare, bare_part, bare_parts, fresh_bare, rows_bare, shared_parts, parts_counted, parts_made, parts_rows, base_has_rows}
 
 -- ---- blocks of the base
-
-made_append : (n : ℕ) (xs ys : List Block) → AreMade n xs → AreMade n ys → AreMade n (xs ++ ys)
-made_append n [] ys a b = b
-made_append n (x ∷ xs) ys a b = (a.0, made_append n xs ys a.1 b)
-
-made_more : (n m : ℕ) → n ≤ m → (xs : List Block) → AreMade n xs → AreMade m xs
-made_more n m le [] a = tt
-made_more n m le (x ∷ xs) a = (omega (arith, a.0, le), made_more n m le xs a.1)
-
--- new blocks are those of their version
-fresh_made : (version tiles k m : ℕ) (sizes : List ℕ) → version < m → AreMade m (blocks_from version tiles k (map fresh sizes))
-fresh_made version tiles k m [] low = tt
-fresh_made version tiles k m (rows ∷ sizes) low = (low, fresh_made version tiles (suc k) m sizes low)
-
--- blocks that are kept come first
-kept_first : (version tiles k : ℕ) (blocks : List Block) (parts : List Part) → blocks_from version tiles k (map shared blocks ++ parts) ≡ blocks ++ blocks_from version tiles k parts
-kept_first version tiles k [] parts = refl
-kept_first version tiles k (x ∷ blocks) parts = ap (λ xs. x ∷ xs) (kept_first version tiles k blocks parts)
-
--- and were not made for the new version
-kept_are_old : (version : ℕ) (blocks more : List Block) → AreMade version blocks → made_for version (blocks ++ more) ≡ made_for version more
-kept_are_old version [] more a = refl
-kept_are_old version (x ∷ blocks) more a =
-    elim (nat_eq version x.version) as (λ b. nat_eq version x.version ≡ b → cond b (x ∷ made_for version (blocks ++ more)) (made_for version (blocks ++ more)) ≡ made_for version more) [
-      | true ↦ λ e. absurd (omega (arith, a.0, eqb-true version x.version e))
-      | false ↦ λ e. kept_are_old version blocks more a.1
-    ] refl
 
 blocks_of_version : (n number : ℕ) (versions : List (ℕ × List Block)) → AllByRecursion (λ (x : ℕ × List Block). AreMade n x.1) versions
     → AreMade n (option_map_or (λ (x : ℕ × List Block). x.1) (find (λ (x : ℕ × List Block). nat_eq number x.0) versions) [])
@@ -51,39 +28,64 @@ blocks_of_version n number (x ∷ versions) a =
       | false ↦ blocks_of_version n number versions a.1
     ]
 
-pub base_made : (n : ℕ) (s : Shape) (base : Option Version) → AllByRecursion (λ (x : ℕ × List Block). AreMade n x.1) s.versions → AreMade n (base_blocks s base)
+base_made : (n : ℕ) (s : Shape) (base : Option Version) → AllByRecursion (λ (x : ℕ × List Block). AreMade n x.1) s.versions → AreMade n (base_blocks s base)
 base_made n s None a = tt
 base_made n s (Some v) a = blocks_of_version n v.number s.versions a
 
--- ---- the versions of a write and of an append
+-- the parts of the version that the run makes
+abbrev parts_made_of : Cutting → State → Shape → Change → List Part
+parts_made_of c st s change = parts_of c (base_of st) (base_blocks s (base_of st)) change
 
--- their new tiles are those of the frame that is cut
-pub write_makes : (c : Cutting) (st : State) (s : Shape) (tiles : ℕ) (whole : Frame) (at : ℤ) (rest : List Change) → tiles ≡ tiles_cut c whole → Makes c st s true tiles (changes.Wrote whole at) rest
-write_makes c st s tiles whole at rest is = (
-  (next_number st, blocks_from (next_number st) (tiles_across c (length whole.schema.columns)) 0 (cut_rows c (length whole.rows))),
-  refl,
-  tiles_counted c whole (next_number st) ∙ sym is,
-  fresh_made (next_number st) (tiles_across c (length whole.schema.columns)) 0 (next_number (after_changes st (changes.Wrote whole at ∷ rest))) (block_sizes c (length whole.rows))
-      (omega (arith, numbers_kept (after_change st (changes.Wrote whole at)) rest)),
-)
+bare_rows : (blocks : List Block) → map bare_block (map (λ (b : Block). b.rows) blocks) ≡ map bare blocks
+bare_rows [] = refl
+bare_rows (x ∷ blocks) = ap (λ bs. bare x ∷ bs) (bare_rows blocks)
 
-same_columns : (join : List Row → List Row → List Row) (base : Option Version) (whole : Frame) → length (on_base join base whole).schema.columns ≡ length whole.schema.columns
-same_columns join None whole = refl
-same_columns join (Some v) whole = refl
+-- they are those that are laid, with the blocks that are shared
+laid_are : (c : Cutting) (h : History) (symbol : Name) (s : Shape) (change : Change) → HasShape h symbol s → parts_laid c h symbol change ≡ map bare_part (parts_made_of c (state_of h symbol) s change)
+laid_are c h symbol s change shape =
+    let base = base_of (state_of h symbol) in
+    ap (λ ns. parts_of c base (map bare_block ns) change) (sym (base_has_rows (links h symbol) s base shape.versions))
+    ∙ (ap (λ bs. parts_of c base bs change) (bare_rows (base_blocks s base)) ∙ bare_parts c base (base_blocks s base) change)
 
-pub append_makes : (c : Cutting) (st : State) (s : Shape) (tiles : ℕ) (whole : Frame) (at : ℤ) (rest : List Change) → AllByRecursion (λ (x : ℕ × List Block). AreMade (next_number st) x.1) s.versions
-    → tiles ≡ tiles_cut c whole → Makes c st s true tiles (changes.Appended whole at) rest
-append_makes c st s tiles whole at rest made is =
-    let across : ℕ = tiles_across c (length whole.schema.columns) in
-    let old : List Block = base_blocks s (base_of st) in
-    let new : List Block = blocks_from (next_number st) across 0 (cut_rows c (length whole.rows)) in
-    let old_made : AreMade (next_number st) old = base_made (next_number st) s (base_of st) made in
-    let more : suc (next_number st) ≤ next_number (after_changes st (changes.Appended whole at ∷ rest)) = numbers_kept (after_change st (changes.Appended whole at)) rest in (
-      (next_number st, old ++ new),
-      ap (λ n. Some (next_number st, blocks_from (next_number st) (tiles_across c n) 0 (map shared old ++ cut_rows c (length whole.rows)))) (same_columns (λ a b. a ++ b) (base_of st) whole)
-          ∙ ap (λ xs. Some (next_number st, xs)) (kept_first (next_number st) across 0 old (cut_rows c (length whole.rows))),
-      ap tiles_in (kept_are_old (next_number st) old new old_made) ∙ (tiles_counted c whole (next_number st) ∙ sym is),
-      made_append (next_number (after_changes st (changes.Appended whole at ∷ rest))) old new
-          (made_more (next_number st) (next_number (after_changes st (changes.Appended whole at ∷ rest))) (omega (arith, more)) old old_made)
-          (fresh_made (next_number st) across 0 (next_number (after_changes st (changes.Appended whole at ∷ rest))) (block_sizes c (length whole.rows)) more),
-    )
+-- ---- the version
+
+blocks_are : (c : Cutting) (st : State) (s : Shape) (change : Change) → is_version change ≡ true
+    → blocks_made c st s change ≡ Some (next_number st, blocks_from (next_number st) (slices c st change) 0 (parts_made_of c st s change))
+blocks_are c st s (changes.Wrote frame at) e = refl
+blocks_are c st s (changes.Appended frame at) e = refl
+blocks_are c st s (changes.Updated frame range at) e = refl
+blocks_are c st s (changes.Removed versions) e = absurd (true≢false (sym e))
+blocks_are c st s (changes.Held holder version) e = absurd (true≢false (sym e))
+blocks_are c st s (changes.Released holder) e = absurd (true≢false (sym e))
+blocks_are c st s (changes.Discarded pieces) e = absurd (true≢false (sym e))
+
+one_more : (st : State) (change : Change) (rest : List Change) → is_version change ≡ true → suc (next_number st) ≤ next_number (after_changes st (change ∷ rest))
+one_more st (changes.Wrote frame at) rest e = numbers_kept (after_change st (changes.Wrote frame at)) rest
+one_more st (changes.Appended frame at) rest e = numbers_kept (after_change st (changes.Appended frame at)) rest
+one_more st (changes.Updated frame range at) rest e = numbers_kept (after_change st (changes.Updated frame range at)) rest
+one_more st (changes.Removed versions) rest e = absurd (true≢false (sym e))
+one_more st (changes.Held holder version) rest e = absurd (true≢false (sym e))
+one_more st (changes.Released holder) rest e = absurd (true≢false (sym e))
+one_more st (changes.Discarded pieces) rest e = absurd (true≢false (sym e))
+
+-- what is laid out is what the run makes
+pub laid_makes : (c : Cutting) (s : Shape) (symbol : Name) (tiles place : ℕ) (change : Change) (rest : List Change) (old new : History) → is_version change ≡ true → HasShape old symbol s
+    → IsCutBy c old → IsLaid c symbol change place old new → tiles ≡ fresh_in (parts_laid c old symbol change) * slices c (state_of old symbol) change
+    → MakesVersion c (state_of old symbol) s (first_of (links new symbol)) tiles change rest
+laid_makes c s symbol tiles place change rest old new version shape cut laid counted =
+    let st : State = state_of old symbol in
+    let made : List Part = parts_made_of c st s change in
+    let are = laid_are c old symbol s change shape in
+    let shared = shared_parts (next_number st) c (base_of st) (base_blocks s (base_of st)) change (base_made (next_number st) s (base_of st) shape.made) in
+    record {
+      blocks = blocks_from (next_number st) (slices c st change) 0 made;
+      is = blocks_are c st s change version;
+      counted = parts_counted (next_number st) (slices c st change) 0 made shared
+          ∙ (ap (λ n. n * slices c st change) (sym (fresh_bare made)) ∙ (ap (λ ps. fresh_in ps * slices c st change) (sym are) ∙ sym counted));
+      more = one_more st change rest version;
+      made = parts_made (next_number st) (slices c st change) 0 (next_number (after_changes st (change ∷ rest))) made (one_more st change rest version) shared;
+      link = laid.link;
+      link_is = laid.newest;
+      within = laid_within c symbol change place old new cut laid;
+      rows = parts_rows (next_number st) (slices c st change) 0 made ∙ (sym (rows_bare made) ∙ (ap (λ ps. map part_rows ps) (sym are) ∙ sym laid.rows));
+    }

@@ -1,9 +1,19 @@
 -- A frame is cut into as many tiles as its blocks have.
-use Rattle.std.proofs.Common.{◌≡◌, ℕ, zero, suc, ◌+◌, List, [], ◌∷◌, map, length, refl, sym, ◌∙◌, ap, arith, length-append, cond}
-use Rattle.std.specs.Prelude.{◌*◌, ◌/◌, ◌%◌, min, max, replicate, sum_by}
-use Rattle.std.specs.List.{range_with_len}
+use Rattle.std.proofs.Common.{◌≡◌, ℕ, zero, suc, ◌+◌, ◌-◌, ◌≤◌, ◌<◌, Bool, true, false, ◌++◌, Some, subst, List, [], ◌∷◌, map, length, refl, sym, ◌∙◌, ap, arith, length-append, cond}
+use Rattle.std.specs.Prelude.{ℤ, filter, nat_eq, ◌*◌, ◌/◌, ◌%◌, min, max, replicate, sum_by}
+use Rattle.std.specs.List.{flat_map, range_with_len}
 use Rattle.std.specs.Int.{div_ceil}
-use Rattle.std.proofs.Math.Nat.{suc-mul}
+use Rattle.std.proofs.Math.Nat.{suc-mul, mod-lt, mul-le-mul, mul-le-mul_right}
+use Rattle.std.proofs.lemmas.Nat.{div-add-mod'}
+use Rattle.std.proofs.lemmas.Bool.{ne_eqb}
+use Rattle.std.proofs.lemmas.List.Concat.{flat_map-cons}
+use Rattle.frame_core.specs.declared.part.Part as frame_parts
+use Rattle.index_tree.specs.declared.index.Slot.{Slot}
+use Rattle.key_kind.specs.Names.{Name}
+use Rattle.bucket_core.specs.declared.event.Change.TheVariants as changes
+use Rattle.bucket_core.specs.History.{History}
+use Rattle.store_model.specs.Library.{first_of}
+use Rattle.store_model.specs.Links.{Linked, links}
 use Rattle.std.proofs.lemmas.Bool.{eq-eqb}
 use Rattle.std.proofs.lemmas.List.{length-replicate}
 use Rattle.std.proofs.lemmas.List.Sums.{sum_by-cons}
@@ -12,7 +22,7 @@ use Rattle.std.proofs.lemmas.List.FromFn.{length-range_with_len, length-map-rang
 use Rattle.frame_core.specs.Frames.{Frame}
 use Rattle.segment_cut.specs.Grids.{Grid, row_blocks, col_blocks, part_at, block_parts, parts, grid_of}
 use Rattle.reply_model.specs.Blocks.{Cutting, Block, some_rows, block_sizes, tiles_across, fresh, cut_rows, blocks_from, tiles_in, made_for}
-use Rattle.reply_model.specs.Standing.{grid_cutting, tiles_cut}
+use Rattle.reply_model.specs.Standing.{grid_cutting, tiles_cut, row_sizes, part_rows, fresh_in, IsLaid}
 
 -- the sum of one number
 sum_of_one : {X : Type 0} (f : X → ℕ) (k : ℕ) → ((x : X) → f x ≡ k) → (xs : List X) → sum_by f xs ≡ length xs * k
@@ -55,3 +65,122 @@ tiles_counted c frame version = fresh_counted version (tiles_across c (length fr
     ∙ (ap (λ k. k * tiles_across c (length frame.schema.columns)) (sizes_counted c (length frame.rows))
     ∙ (ap (λ k. div_ceil (length frame.rows) c.rows * k) (across_counted c (length frame.schema.columns))
     ∙ sym (parts_counted (grid_of frame (grid_cutting c)))))
+
+-- so are the tiles of a write
+pub write_counted : (c : Cutting) (frame : Frame) → fresh_in (cut_rows c (length frame.rows)) * tiles_across c (length frame.schema.columns) ≡ tiles_cut c frame
+write_counted c frame =
+    ap (λ k. k * tiles_across c (length frame.schema.columns)) (fresh_all (block_sizes c (length frame.rows)) ∙ sizes_counted c (length frame.rows))
+    ∙ (ap (λ k. div_ceil (length frame.rows) c.rows * k) (across_counted c (length frame.schema.columns)) ∙ sym (parts_counted (grid_of frame (grid_cutting c))))
+  where
+    fresh_all : (sizes : List ℕ) → fresh_in (map fresh sizes) ≡ length sizes
+    fresh_all [] = refl
+    fresh_all (n ∷ sizes) = ap (λ k. suc k) (fresh_all sizes)
+
+-- ---- the rows of the parts
+
+-- full blocks
+full_rows : (n size a q : ℕ) → (a + q) * size ≤ n → map (λ k. min size (n - k * size)) (range_with_len a q) ≡ replicate q size
+full_rows n size a zero within = refl
+full_rows n size a (suc q) within =
+    let next : (a + 1) * size ≤ (a + suc q) * size = mul-le-mul_right size (omega arith) in
+    let step : (a + 1) * size ≡ a * size + size = omega arith in
+    let first : min size (n - a * size) ≡ size = omega (arith, within, next, step) in
+    let later : ((a + 1) + q) * size ≤ n = subst (λ k. k * size ≤ n) (omega arith) within in
+    ap (λ k. k ∷ map (λ x. min size (n - x * size)) (range_with_len (a + 1) q)) first ∙ ap (λ ks. size ∷ ks) (full_rows n size (a + 1) q later)
+
+-- and a last one
+last_rows : (n size q r : ℕ) → n ≡ q * size + r → r < size → map (λ k. min size (n - k * size)) (range_with_len q (min 1 r)) ≡ some_rows r
+last_rows n size q zero is less = refl
+last_rows n size q (suc r) is less =
+    let one : min 1 (suc r) ≡ 1 = omega arith in
+    let first : min size (n - q * size) ≡ suc r = omega (arith, is, less) in
+    ap (λ m. map (λ k. min size (n - k * size)) (range_with_len q m)) one ∙ ap (λ k. k ∷ []) first
+
+ranges_split : (f : ℕ → ℕ) (a q m : ℕ) → map f (range_with_len a (q + m)) ≡ map f (range_with_len a q) ++ map f (range_with_len (a + q) m)
+ranges_split f a zero m =
+    let none : zero + m ≡ m = omega arith in
+    let same : a ≡ a + zero = omega arith in
+    ap (λ k. map f (range_with_len a k)) none ∙ ap (λ k. map f (range_with_len k m)) same
+ranges_split f a (suc q) m =
+    let more : suc q + m ≡ suc (q + m) = omega arith in
+    let same : (a + 1) + q ≡ a + suc q = omega arith in
+    ap (λ k. map f (range_with_len a k)) more ∙ ap (λ ks. f a ∷ ks) (ranges_split f (a + 1) q m ∙ ap (λ k. map f (range_with_len (a + 1) q) ++ map f (range_with_len k m)) same)
+
+blocks_sized : (c : Cutting) (n : ℕ) → 1 ≤ c.rows → map (λ k. min c.rows (n - k * c.rows)) (range_with_len 0 (div_ceil n c.rows)) ≡ block_sizes c n
+blocks_sized c n some =
+    let q : ℕ = n / c.rows in
+    let r : ℕ = n % c.rows in
+    let is : q * c.rows + r ≡ n = div-add-mod' n c.rows in
+    let less : r < c.rows = mod-lt n some in
+    let within : (0 + q) * c.rows ≤ n = omega (arith, is) in
+    let from : 0 + q ≡ q = omega arith in
+    ranges_split (λ k. min c.rows (n - k * c.rows)) 0 q (min 1 r)
+    ∙ (ap (λ ks. ks ++ map (λ k. min c.rows (n - k * c.rows)) (range_with_len (0 + q) (min 1 r))) (full_rows n c.rows 0 q within)
+    ∙ ap (λ ks. replicate q c.rows ++ ks) (ap (λ a. map (λ k. min c.rows (n - k * c.rows)) (range_with_len a (min 1 r))) from ∙ last_rows n c.rows q r (sym is) less))
+
+-- ---- the tiles of the first columns
+
+-- a part of the first columns
+abbrev leads : frame_parts.Part → Bool
+leads x = nat_eq x.first_col 0
+
+none_lead : (grid : Grid) (block a m : ℕ) → 1 ≤ a → 1 ≤ grid.cutting.cols → filter leads (map (part_at grid block) (range_with_len a m)) ≡ []
+none_lead grid block a zero some cols = refl
+none_lead grid block a (suc m) some cols =
+    let more : 1 * 1 ≤ a * grid.cutting.cols = mul-le-mul some cols in
+    let no : nat_eq (a * grid.cutting.cols) 0 ≡ false = ne_eqb (a * grid.cutting.cols) 0 (λ e. omega (arith, e, more)) in
+    ap (λ b. cond b (part_at grid block a ∷ filter leads (map (part_at grid block) (range_with_len (a + 1) m))) (filter leads (map (part_at grid block) (range_with_len (a + 1) m)))) no
+    ∙ none_lead grid block (a + 1) m (omega arith) cols
+
+first_leads : (grid : Grid) (block m : ℕ) → 1 ≤ m → 1 ≤ grid.cutting.cols → filter leads (map (part_at grid block) (range_with_len 0 m)) ≡ part_at grid block 0 ∷ []
+first_leads grid block zero some cols = absurd (omega (arith, some))
+first_leads grid block (suc m) some cols =
+    let first : 0 * grid.cutting.cols ≡ 0 = omega arith in
+    ap (λ b. cond b (part_at grid block 0 ∷ filter leads (map (part_at grid block) (range_with_len (0 + 1) m))) (filter leads (map (part_at grid block) (range_with_len (0 + 1) m)))) (eq-eqb (0 * grid.cutting.cols) 0 first)
+    ∙ ap (λ ps. part_at grid block 0 ∷ ps) (none_lead grid block (0 + 1) m (omega arith) cols)
+
+filtered_append : (xs ys : List frame_parts.Part) → filter leads (xs ++ ys) ≡ filter leads xs ++ filter leads ys
+filtered_append [] ys = refl
+filtered_append (x ∷ xs) ys = elim (leads x) as (λ b. cond b (x ∷ filter leads (xs ++ ys)) (filter leads (xs ++ ys)) ≡ cond b (x ∷ filter leads xs) (filter leads xs) ++ filter leads ys) [
+  | true ↦ ap (λ ps. x ∷ ps) (filtered_append xs ys)
+  | false ↦ filtered_append xs ys
+]
+
+rows_lead : (grid : Grid) (blocks : List ℕ) → 1 ≤ grid.cutting.cols
+    → map (λ (x : frame_parts.Part). x.rows) (filter leads (flat_map (block_parts grid) blocks)) ≡ map (λ k. min grid.cutting.rows (grid.rows - k * grid.cutting.rows)) blocks
+rows_lead grid [] cols = refl
+rows_lead grid (k ∷ blocks) cols =
+    ap (λ ps. map (λ (x : frame_parts.Part). x.rows) (filter leads ps)) (flat_map-cons (block_parts grid) k blocks)
+    ∙ (ap (λ ps. map (λ (x : frame_parts.Part). x.rows) ps) (filtered_append (block_parts grid k) (flat_map (block_parts grid) blocks))
+    ∙ (ap (λ ps. map (λ (x : frame_parts.Part). x.rows) (ps ++ filter leads (flat_map (block_parts grid) blocks))) (first_leads grid k (col_blocks grid) (omega arith) cols)
+    ∙ ap (λ ns. min grid.cutting.rows (grid.rows - k * grid.cutting.rows) ∷ ns) (rows_lead grid blocks cols)))
+
+slots_lead : (slots : List Slot) → row_sizes slots ≡ map (λ (x : frame_parts.Part). x.rows) (filter leads (map (λ (s : Slot). s.part) slots))
+slots_lead [] = refl
+slots_lead (s ∷ slots) = elim (leads s.part) as (λ b. map (λ (x : Slot). x.part.rows) (cond b (s ∷ filter (λ (x : Slot). nat_eq x.part.first_col 0) slots) (filter (λ (x : Slot). nat_eq x.part.first_col 0) slots))
+    ≡ map (λ (x : frame_parts.Part). x.rows) (cond b (s.part ∷ filter leads (map (λ (x : Slot). x.part) slots)) (filter leads (map (λ (x : Slot). x.part) slots)))) [
+      | true ↦ ap (λ ns. s.part.rows ∷ ns) (slots_lead slots)
+      | false ↦ slots_lead slots
+    ]
+
+-- an index of a frame's grid has the rows of its blocks
+pub grid_rows : (c : Cutting) (frame : Frame) (slots : List Slot) → 1 ≤ c.rows → 1 ≤ c.columns → map (λ (s : Slot). s.part) slots ≡ parts (grid_of frame (grid_cutting c)) → row_sizes slots ≡ block_sizes c (length frame.rows)
+grid_rows c frame slots rows columns are =
+    slots_lead slots ∙ (ap (λ ps. map (λ (x : frame_parts.Part). x.rows) (filter leads ps)) are
+    ∙ (rows_lead (grid_of frame (grid_cutting c)) (range_with_len 0 (row_blocks (grid_of frame (grid_cutting c)))) columns ∙ blocks_sized c (length frame.rows) rows))
+
+-- ---- a write that cuts its whole frame is laid out
+
+pub write_is_laid : (c : Cutting) (symbol : Name) (whole : Frame) (at : ℤ) (place : ℕ) (old new : History) (link : Linked) → 1 ≤ c.rows → 1 ≤ c.columns → first_of (links new symbol) ≡ Some link
+    → map (λ (s : Slot). s.part) link.index.slots ≡ parts (grid_of whole (grid_cutting c)) → place ≡ length old + (tiles_cut c whole + 3) → IsLaid c symbol (changes.Wrote whole at) place old new
+write_is_laid c symbol whole at place old new link rows columns newest are here = record {
+  some_rows = rows;
+  tiles = here ∙ ap (λ n. length old + (n + 3)) (sym (write_counted c whole));
+  link = link;
+  newest = newest;
+  rows = grid_rows c whole link.index.slots rows columns are ∙ sizes_of (block_sizes c (length whole.rows));
+}
+  where
+    sizes_of : (sizes : List ℕ) → sizes ≡ map part_rows (map fresh sizes)
+    sizes_of [] = refl
+    sizes_of (n ∷ sizes) = ap (λ ns. n ∷ ns) (sizes_of sizes)

@@ -1,6 +1,6 @@
 ghost use Rattle.reply_model.specs.Legal.{LegalStays};
 ghost use Rattle.reply_model.specs.Runs.{LegalIsIsolated, RefusedHarmsNothing, RefusedReleases};
-ghost use Rattle.reply_model.specs.Standing.{LegalAloneSteps, RunsAreSole, RunsGrow};
+ghost use Rattle.reply_model.specs.Standing.{LegalAloneSteps, RunsAreSole, BlocksAreSole, RunsGrow};
 
 /// Replies that are legal in a history are legal in each longer one.
 pub fn legal_replies_stay_legal()
@@ -26,8 +26,10 @@ pub fn legal_replies_alone_are_sole()
     ensures { LegalAloneSteps }
 {}
 
-/// Such steps make runs, one command after another; and a run from the empty history is that of one client alone.
+/// Such steps make runs, one command after another; and a run from the empty history is that of one client alone, also where a second
+/// client's block stands between first and last commands.
 pub fn runs_alone_are_sole()
     ensures grow { RunsGrow }
     ensures sole { RunsAreSole }
+    ensures blocks { BlocksAreSole }
 {}

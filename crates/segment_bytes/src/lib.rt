@@ -16,6 +16,3 @@ pub use heads::{put_head, read_head, read_text, read_type, type_byte};
 pub use laws::one_spelling;
 pub use viewing::{SegFault, SegView, view};
 pub use writing::encode;
-
-#[cfg(test)]
-mod tests;

@@ -5,8 +5,6 @@ mod cutting;
 mod grid;
 mod joining;
 mod laws;
-#[cfg(test)]
-mod tests;
 mod tile;
 mod tiling;
 

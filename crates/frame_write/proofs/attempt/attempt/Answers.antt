@@ -1,4 +1,6 @@
-use Rattle.std.proofs.Common.{◌≤◌, inl, inr, length, subst, sym, ◌∙◌, ap, ◌∷◌}
+use Rattle.std.proofs.Common.{◌≤◌, inl, inr, length, map, subst, sym, ◌∙◌, ap, ◌∷◌}
+use Rattle.index_tree.specs.declared.index.Slot.{Slot}
+use Rattle.index_tree.specs.declared.index.Index.{Index}
 use Rattle.bucket_core.specs.History.{AllByOthers}
 use Rattle.bucket_core.specs.declared.event.Change.TheVariants as changes
 use Rattle.store_model.specs.Library.{state_of}
@@ -65,6 +67,7 @@ returns-clause-did g c =
     let follows : (m : Made) → IsMadeBy c.args.symbol.now (state_of walked.before c.args.symbol.now) made.index c.in-Ok.plan m → IsWritten c.args.symbol.now c.args.frame.now c.args.options.now m = λ m b. record {
       list = b.list ∙ (made.changes ∙ ap (λ cs. changes.Wrote c.args.frame.now c.args.options.now.at ∷ cs) (same_pruned (state_of walked.before c.args.symbol.now) (state_of m.before c.args.symbol.now) c.args.options.now.prune b.unmoved));
       puts = ap length b.puts ∙ made.puts;
+      parts_are = ap (λ (i : Index). map (λ (x : Slot). x.part) i.slots) b.index_is ∙ made.parts_are;
     } in
     try_from (g.B.Bucket.number c.args.bucket.now) (g.B.Bucket.sole c.args.bucket.now) c.args.symbol.now (IsWritten c.args.symbol.now c.args.frame.now c.args.options.now) (g.B.Bucket.limit c.args.bucket.now) (g.B.Bucket.faults c.args.bucket.now) (g.B.Bucket.faults c.commit.new.bucket) (length walked.before) (length (g.B.Bucket.seen c.args.bucket.now)) (g.B.Bucket.seen c.args.bucket.now) (g.B.Bucket.seen c.walk.new.bucket) (g.B.Bucket.seen c.commit.new.bucket) (subst (λ n. length (g.B.Bucket.seen c.args.bucket.now) ≤ n) walked.place c.in_ok-state.ensures.place.from)
     (went_looks (g.B.Bucket.number c.args.bucket.now) (g.B.Bucket.sole c.args.bucket.now) (g.B.Bucket.seen c.args.bucket.now) (g.B.Bucket.seen c.walk.new.bucket) c.walk.ensures.looks) c.commit.result

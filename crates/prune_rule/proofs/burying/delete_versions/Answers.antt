@@ -1,4 +1,4 @@
-use Rattle.std.proofs.Common.{sym, subst, ap, option_copied}
+use Rattle.std.proofs.Common.{sym, subst, option_copied}
 use Rattle.expr_clause.specs.declared.command.Command.TheVariants.{Delete}
 use Rattle.reply_model.specs.declared.outcome.Outcome.TheVariants.{Deleted}
 use Rattle.prune_rule.specs.Replies.{IsLegalBurial}

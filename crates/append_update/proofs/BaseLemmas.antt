@@ -1,0 +1,205 @@
+-- What a look at a base finds.
+use Rattle.std.proofs.Common.{◌≡◌, ℕ, zero, suc, ◌+◌, ◌-◌, ◌≤◌, Bool, true, false, ◌&&◌, List, [], ◌∷◌, ◌++◌, length, take, drop, refl, sym, ap, ◌∙◌, subst, arith, Option, Some, None, nat_eq, length-append}
+use Rattle.std.specs.Prelude.{Contains, option_map, option_and_then}
+use Rattle.std.specs.List.{list_any}
+use Rattle.std.proofs.lemmas.Bool.{and_from, eq-eqb, or_right}
+use Rattle.std.proofs.lemmas.List.{take-append-drop, append_assoc}
+use mathlib.Core.Logic.{∥∥₁_map}
+use denote.Struct.Props.{props}
+use Rattle.frame_core.specs.declared.refusal.Refusal.TheVariants as refusals
+use Rattle.frame_core.specs.declared.refusal.Refusal.{Refusal}
+use Rattle.frame_core.specs.declared.refusal.Refused.{Refused}
+use Rattle.segment_cut.specs.Tiles.{Tile}
+use Rattle.index_tree.specs.declared.index.Index.{Index}
+use Rattle.index_tree.specs.IndexRules.{IsIndex}
+use Rattle.key_kind.specs.Names.{Name}
+use Rattle.key_kind.specs.Keys.{same_key, reference_key}
+use Rattle.key_kind.proofs.KeyTests.{same_key_self}
+use Rattle.bucket_core.specs.History.{History, AllByOthers, history_at, since, referred_at}
+use Rattle.bucket_core.specs.Laws.{refers}
+use Rattle.store_model.specs.declared.chain.LinkRow.{LinkRow}
+use Rattle.store_model.specs.Library.{Version, state_of, base_of, is_buried}
+use Rattle.store_model.specs.Links.{Linked, links, linked, index_put, tiles_put}
+use Rattle.store_model.specs.Holders.{has_index}
+use Rattle.store_model.specs.Law.{IsLawful}
+use Rattle.store_model.proofs.Lawful.{lawful_as_put}
+use Rattle.store_model.proofs.Lists.{passes}
+use Rattle.version_chain.specs.declared.state.SymbolState.{SymbolState}
+use Rattle.version_chain.specs.States.{newest_link, IsStateAt, IsLookRefusal, RefusesWalk}
+use Rattle.frame_read.specs.declared.target.Target.{Target}
+use Rattle.frame_read.specs.Fetches.{IsTargetIndex}
+use Rattle.frame_read.proofs.FetchLemmas.{links_later}
+use Rattle.frame_read.proofs.ResolvingLemmas.{state_at, lawful_at}
+use Rattle.version_chain.specs.Marking.{own_refers}
+use Rattle.frame_write.specs.Tries.{IsMet}
+use Rattle.frame_write.proofs.MeetLemmas.{met_here, none_in_both, others_refer_not}
+use Rattle.append_update.specs.Newest.{IsNewest}
+use Rattle.frame_read.specs.Fetches.{IsGone, IsGetRefusal, RefusesGet}
+use Rattle.reply_model.proofs.Later.{history_at_later}
+use Rattle.reply_model.proofs.Places.{history_at_end}
+use Rattle.append_update.specs.Looking.{MetCommit, MetAt}
+use Rattle.append_update.proofs.GoneLemmas.{since_referred, referred_since}
+use Rattle.append_update.proofs.ToldLemmas.{Told, told_prop}
+use Rattle.append_update.proofs.NewestLemmas.{no_newest, newest_is, newest_linked}
+
+index_told : (a b : Index) → Told (a ≡ b)
+index_told a b = told_prop (hlevel props)
+
+-- ---- the index of a link is what was put under its key
+
+linked_index : (h : History) (row : LinkRow) (l : Linked) → linked h row ≡ Some l → index_put h row.index ≡ Some l.index
+linked_index h row l e = by (index_put h row.index) e
+  where
+    of : (i : Index) (tiles : Option (List Tile)) → option_map (λ t. record { row = row; index = i; tiles = t }) tiles ≡ Some l → Some i ≡ Some l.index
+    of i None e = absurd cc
+    of i (Some tiles) e = ap (λ (o : Linked). Some o.index) (some_same e)
+      where
+        some_same : {x y : Linked} → Some x ≡ Some y → x ≡ y
+        some_same e = cc
+
+    by : (i : Option Index) → option_and_then (λ i. option_map (λ t. record { row = row; index = i; tiles = t }) (tiles_put h i.slots)) i ≡ Some l → i ≡ Some l.index
+    by None e = absurd cc
+    by (Some i) e = of i (tiles_put h i.slots) e
+
+-- links with one index key have one index
+same_index : (h : History) (symbol : Name) (a b : Linked) → ∥ IsLawful h ∥₁ → Contains (links h symbol) a → Contains (links h symbol) b → a.row.index ≡ b.row.index → a.index ≡ b.index
+same_index h symbol a b lawful in_a in_b key = index_told a.index b.index (∥∥₁_map lawful (λ l.
+    some_same (sym (linked_index h a.row a ((lawful_as_put h l).links symbol a in_a)) ∙ (ap (index_put h) key ∙ linked_index h b.row b ((lawful_as_put h l).links symbol b in_b)))))
+  where
+    some_same : {x y : Index} → Some x ≡ Some y → x ≡ y
+    some_same e = cc
+
+-- ---- a link that is looked up later
+
+row_indexed : (ls : List Linked) (l : Linked) → Contains ls l → has_index ls l.row.version l.row.index ≡ true
+row_indexed ls l there = passes (λ (m : Linked). nat_eq l.row.version m.row.version && same_key l.row.index m.row.index) ls l there (and_from _ _ (eq-eqb l.row.version l.row.version refl) (same_key_self l.row.index))
+
+-- the history goes on from each of its places
+goes_on : (h : History) (place : ℕ) → h ≡ take (length h - place) h ++ history_at h place
+goes_on h place = sym (take-append-drop (length h - place) h)
+
+module _ (h : History) (symbol : Name) (state : SymbolState) (at : IsStateAt h symbol state) (lawful : ∥ IsLawful h ∥₁) where
+  pub none_found : newest_link state ≡ None → base_of (state_of (history_at h state.place) symbol) ≡ None
+  none_found e = no_newest (history_at h state.place) symbol state (lawful_at h state.place lawful) (state_at h symbol state at) e
+
+  module _ (row : LinkRow) (newest : newest_link state ≡ Some row) where
+    -- a link of the symbol has the row's index
+    pub is_linked : has_index (links h symbol) row.version row.index ≡ true
+    is_linked =
+        let found = (newest_linked (history_at h state.place) symbol state row (lawful_at h state.place lawful) (state_at h symbol state at) newest).0 in
+        let there : Contains (links h symbol) found.0 = subst (λ g. Contains (links g symbol) found.0) (sym (goes_on h state.place)) (links_later (take (length h - state.place) h) (history_at h state.place) symbol found.0 found.1) in
+        subst (λ (r : LinkRow). has_index (links h symbol) r.version r.index ≡ true) found.2 (row_indexed (links h symbol) found.0 there)
+
+    -- and its version is live
+    pub lives : is_buried (state_of (history_at h state.place) symbol) row.version ≡ false
+    lives = (newest_linked (history_at h state.place) symbol state row (lawful_at h state.place lawful) (state_at h symbol state at) newest).1
+
+    -- the index that was got is that of the newest live version
+    pub one_found : (more new : History) (target : Target) (index : Index) → new ≡ more ++ h → ∥ IsLawful new ∥₁ → target.symbol ≡ symbol → target.index ≡ row.index → IsIndex index → IsTargetIndex new target index
+        → (v : Version) × IsNewest (history_at h state.place) symbol v index
+    one_found more new target index is lawful_new symbol_is key rules got =
+        newest_is (history_at h state.place) symbol state row index (lawful_at h state.place lawful) (state_at h symbol state at) newest rules (λ l there row_is.
+        let whole : new ≡ (more ++ take (length h - state.place) h) ++ history_at h state.place =
+        is ∙ (ap (λ g. more ++ g) (goes_on h state.place) ∙ sym (append_assoc more (take (length h - state.place) h) (history_at h state.place))) in
+        let later : Contains (links new symbol) l = subst (λ g. Contains (links g symbol) l) (sym whole) (links_later (more ++ take (length h - state.place) h) (history_at h state.place) symbol l there) in
+        let link : Contains (links new symbol) got.link = subst (λ n. Contains (links new n) got.link) symbol_is got.link_is in
+        same_index new symbol l got.link lawful_new later link (ap (λ (r : LinkRow). r.index) row_is ∙ (sym key ∙ sym got.key)) ∙ got.is)
+
+-- ---- refusals of a look, as those of the call that made it
+
+look_wider : (before mid now : ℕ) (why : Refusal) → before ≤ mid → IsLookRefusal mid now why → IsLookRefusal before now why
+look_wider before mid now refusals.NoMemory le is = is
+look_wider before mid now refusals.StoreFault le is = omega (arith, le, is)
+look_wider before mid now (refusals.VersionGone number) le is = absurd is
+look_wider before mid now refusals.NoSuchSymbol le is = absurd is
+look_wider before mid now (refusals.NoSuchVersion asked) le is = absurd is
+look_wider before mid now (refusals.Moved at) le is = absurd is
+look_wider before mid now (refusals.Unsorted row) le is = absurd is
+look_wider before mid now (refusals.SchemaDiffers column) le is = absurd is
+look_wider before mid now (refusals.AppendBefore last first) le is = absurd is
+look_wider before mid now (refusals.OutsideRange row) le is = absurd is
+look_wider before mid now refusals.EmptyUpdate le is = absurd is
+look_wider before mid now (refusals.NoSuchColumn clause position) le is = absurd is
+look_wider before mid now (refusals.TypeMismatch clause) le is = absurd is
+look_wider before mid now (refusals.Overflow clause row) le is = absurd is
+look_wider before mid now (refusals.GroupOverflow clause group) le is = absurd is
+look_wider before mid now (refusals.NotTimeIndexed clause) le is = absurd is
+look_wider before mid now refusals.SnapshotExists le is = absurd is
+look_wider before mid now refusals.NoSuchSnapshot le is = absurd is
+look_wider before mid now refusals.NoStaged le is = absurd is
+look_wider before mid now (refusals.StagedOverlap piece) le is = absurd is
+look_wider before mid now (refusals.Spent count) le is = absurd is
+look_wider before mid now (refusals.TooLarge what limit) le is = absurd is
+
+-- a look that refuses refuses the whole call
+pub walk_wider : (before mid now : ℕ) (others old between new : History) (refused : Refused) → before ≤ mid → between ≡ others ++ old → RefusesWalk mid now between new refused → RefusesWalk before now old new refused
+walk_wider before mid now others old between new refused le is r =
+    let longer : length between ≡ length others + length old = ap length is ∙ length-append others old in
+    record {
+      why = look_wider before mid now refused.why le r.why;
+      place = record { from = omega (arith, longer, r.place.from); to = r.place.to };
+    }
+
+-- ---- a base that is gone was buried by another's commit
+
+since_told : (h : History) (symbol : Name) → ∥ IsLawful h ∥₁ → since h (reference_key symbol) ≡ referred_at h symbol
+since_told h symbol lawful = told_prop (hlevel props) (∥∥₁_map lawful (λ l. since_referred h l symbol))
+
+-- the history at a place that does not lie before an earlier one
+at_place : (more before : History) (place : ℕ) → length before ≤ place → history_at (more ++ before) place ≡ drop (length (more ++ before) - place) more ++ before
+at_place more before place le = front (length (more ++ before) - place) more (omega (arith, le, length-append more before))
+  where
+    front : (n : ℕ) (xs : History) → n ≤ length xs → drop n (xs ++ before) ≡ drop n xs ++ before
+    front zero xs le = refl
+    front (suc n) [] le = absurd (omega (arith, le))
+    front (suc n) (x ∷ xs) le = front n xs (omega (arith, le))
+
+any_later : {X : Type 0} (p : X → Bool) (n : ℕ) (xs : List X) → list_any p (drop n xs) ≡ true → list_any p xs ≡ true
+any_later p zero xs e = e
+any_later p (suc n) [] e = e
+any_later p (suc n) (x ∷ xs) e = or_right (p x) (list_any p xs) (any_later p n xs e)
+
+pub gone_was_met : (client : ℕ) (symbol : Name) (before more : History) (place number : ℕ) (refused : Refused) → ∥ IsLawful (more ++ before) ∥₁ → list_any (own_refers client symbol) more ≡ false
+    → length before ≤ place → is_buried (state_of before symbol) number ≡ false → is_buried (state_of (history_at (more ++ before) place) symbol) number ≡ true
+    → MetCommit (more ++ before) symbol refused → MetAt client symbol (length before) (more ++ before) refused
+gone_was_met client symbol before more place number refused lawful none le live buried m =
+    let cut = drop (length (more ++ before) - place) more in
+    let some : list_any (refers symbol) cut ≡ true = referred_since cut before symbol number live (subst (λ h. is_buried (state_of h symbol) number ≡ true) (at_place more before place le) buried) in
+    let all : list_any (refers symbol) more ≡ true = any_later (refers symbol) (length (more ++ before) - place) more some in
+    record {
+      met = subst (IsMet client symbol (length before) (more ++ before)) (sym (m.place ∙ since_told (more ++ before) symbol lawful)) (met_here client symbol before more none all);
+      why = m.why;
+    }
+
+pub walked_here : (h : History) (symbol : Name) (state : SymbolState) (at : IsStateAt h symbol state) → history_at h state.place ≡ at.before
+walked_here h symbol state at =
+    ap (λ g. history_at g state.place) at.split
+    ∙ (ap (history_at (at.later ++ at.before)) at.place
+    ∙ (history_at_later at.before at.later (length at.before) (omega arith) ∙ history_at_end at.before))
+
+gone_of : (before now : ℕ) (h : History) (symbol : Name) (version number : ℕ) (why : Refusal) → IsGetRefusal before now h symbol version why → why ≡ refusals.VersionGone number → IsGone h symbol version
+gone_of before now h symbol version number why is e = (subst (IsGetRefusal before now h symbol version) e is).1
+
+-- so the look at the reference tells that commit
+pub base_gone : (client faults now : ℕ) (symbol : Name) (later before old mid new first more : History) → old ≡ later ++ before → list_any (own_refers client symbol) later ≡ false
+    → ∥ IsLawful new ∥₁ → mid ≡ first ++ old → new ≡ more ++ mid → AllByOthers client first → AllByOthers client more
+    → (target : Target) → target.symbol ≡ symbol → is_buried (state_of before symbol) target.version ≡ false
+    → (got refused : Refused) (number : ℕ) → got.why ≡ refusals.VersionGone number → RefusesGet faults now old mid target.symbol target.version got
+    → MetCommit new symbol refused → MetAt client symbol (length before) new refused
+base_gone client faults now symbol later before old mid new first more split none lawful_new is_mid is_new by_first by_more target symbol_is live got refused number why r m =
+    let gone = gone_of faults now (history_at mid got.place) target.symbol target.version number got.why r.why why in
+    let all : History = more ++ (first ++ later) in
+    let whole : new ≡ all ++ before =
+    is_new ∙ (ap (λ h. more ++ h) (is_mid ∙ (ap (λ h. first ++ h) split ∙ sym (append_assoc first later before))) ∙ sym (append_assoc more (first ++ later) before)) in
+    let no_own : list_any (own_refers client symbol) all ≡ false =
+    none_in_both (own_refers client symbol) more (first ++ later) (others_refer_not client symbol more by_more)
+    (none_in_both (own_refers client symbol) first later (others_refer_not client symbol first by_first) none) in
+    let size : length old ≡ length later + length before = ap length split ∙ length-append later before in
+    let low : length before ≤ got.place = omega (arith, size, r.place.from) in
+    let buried_mid : is_buried (state_of (history_at mid got.place) symbol) target.version ≡ true =
+    subst (λ s. is_buried (state_of (history_at mid got.place) s) target.version ≡ true) symbol_is gone.buried in
+    let here : history_at (all ++ before) got.place ≡ history_at mid got.place =
+    ap (λ h. history_at h got.place) (sym whole ∙ is_new) ∙ history_at_later mid more got.place r.place.to in
+    let buried : is_buried (state_of (history_at (all ++ before) got.place) symbol) target.version ≡ true = subst (λ h. is_buried (state_of h symbol) target.version ≡ true) (sym here) buried_mid in
+    let met = gone_was_met client symbol before all got.place target.version refused (subst (λ h. ∥ IsLawful h ∥₁) whole lawful_new) no_own low live buried (subst (λ h. MetCommit h symbol refused) whole m) in
+    subst (λ h. MetAt client symbol (length before) h refused) (sym whole) met

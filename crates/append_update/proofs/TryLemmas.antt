@@ -1,0 +1,175 @@
+-- One try: what a walk, a plan and a commit over it did.
+use Rattle.std.proofs.Common.{◌≡◌, ℕ, ◌≤◌, Bool, [], ◌++◌, length, sym, ap, ◌∙◌, subst, inl, inr, arith, Result, Ok, Err, length-append}
+use Rattle.std.specs.Prelude.{◌+◌}
+use Rattle.std.proofs.lemmas.List.{append_assoc}
+use Rattle.frame_core.specs.declared.refusal.Refusal.{Refusal}
+use Rattle.frame_core.specs.declared.refusal.Refusal.TheVariants as refusals
+use Rattle.frame_core.specs.declared.refusal.Refused.{Refused}
+use Rattle.key_kind.specs.Names.{Name}
+use Rattle.bucket_core.specs.History.{History, history_at}
+use Rattle.bucket_core.specs.Laws.{Looks}
+use Rattle.store_model.specs.Library.{State, state_of}
+use Rattle.store_model.specs.Law.{IsClaimed}
+use Rattle.reply_model.specs.Answering.{Answer, committed}
+use Rattle.version_chain.specs.declared.state.SymbolState.{SymbolState}
+use Rattle.version_chain.specs.States.{IsStateAt, IsLookRefusal, RefusesWalk}
+use Rattle.version_chain.specs.Traces.{Went}
+use Rattle.version_chain.proofs.TraceLemmas.{went_looks}
+use Rattle.frame_write.specs.declared.options.Options.{Options}
+use Rattle.frame_write.specs.declared.options.Committed.{Committed}
+use Rattle.frame_write.specs.declared.pieces.LinkPlan.{LinkPlan}
+use Rattle.frame_write.specs.Plans.{IsUnmoved}
+use Rattle.frame_write.specs.Links.{IsLinkMade}
+use Rattle.frame_write.specs.Tries.{Made, DidTry, DidFail, IsBusy}
+use Rattle.frame_write.proofs.MeetLemmas.{met_sooner}
+use Rattle.frame_write.proofs.CommitLemmas.{walk_stops}
+use Rattle.frame_write.proofs.TriesLemmas.{try_weaker, try_from}
+use Rattle.append_update.specs.declared.wish.Wish.{Wish}
+use Rattle.append_update.specs.Asking.{answer_to, IsAnswered, Declines, Wants, IsPlanOf}
+use Rattle.append_update.specs.Attempts.{DidAttempt}
+use Rattle.append_update.specs.Looking.{RefusesPlan}
+use Rattle.append_update.proofs.BaseLemmas.{walked_here, walk_wider}
+use Rattle.append_update.proofs.AskedLemmas.{answer_unmoved}
+
+-- ---- a state that was walked, later
+
+abbrev pub state_later : (old new others : History) (symbol : Name) (state : SymbolState) → new ≡ others ++ old → IsStateAt old symbol state → IsStateAt new symbol state
+state_later old new others symbol state is at = record {
+  later = others ++ at.later;
+  before = at.before;
+  split = is ∙ (ap (λ h. others ++ h) at.split ∙ sym (append_assoc others at.later at.before));
+  place = at.place;
+  is = at.is;
+}
+
+-- a refusal of a look is one of the whole try
+pub plan_wider : (client : ℕ) (symbol : Name) (answer : State → Result Answer Refusal) (h : History) (before mid now : ℕ) (others old between new : History) (refused : Refused) → before ≤ mid → between ≡ others ++ old
+    → RefusesPlan client symbol answer h mid now between new refused → RefusesPlan client symbol answer h before now old new refused
+plan_wider client symbol answer h before mid now others old between new refused le is r = elim r [
+  | inl look ↦ elim look [
+    | inl w ↦ inl (inl (walk_wider before mid now others old between new refused le is w))
+    | inr m ↦ inl (inr m)
+  ]
+  | inr d ↦ inr d
+]
+
+-- ---- where the store was full
+
+busy_else : (Busy : History → Type 0) (old new : History) (place : ℕ) (why : Refusal) → (q : ℕ) × (length old ≤ q) × (q ≤ place) × Busy (history_at new q) → IsBusy Busy old new place why
+busy_else busy old new place refusals.NoMemory some = tt
+busy_else busy old new place refusals.StoreFault some = tt
+busy_else busy old new place (refusals.Spent count) some = some
+busy_else busy old new place refusals.NoSuchSymbol some = tt
+busy_else busy old new place (refusals.NoSuchVersion asked) some = tt
+busy_else busy old new place (refusals.VersionGone version) some = tt
+busy_else busy old new place (refusals.Moved at) some = tt
+busy_else busy old new place (refusals.Unsorted row) some = tt
+busy_else busy old new place (refusals.SchemaDiffers column) some = tt
+busy_else busy old new place (refusals.AppendBefore last first) some = tt
+busy_else busy old new place (refusals.OutsideRange row) some = tt
+busy_else busy old new place refusals.EmptyUpdate some = tt
+busy_else busy old new place (refusals.NoSuchColumn clause position) some = tt
+busy_else busy old new place (refusals.TypeMismatch clause) some = tt
+busy_else busy old new place (refusals.Overflow clause row) some = tt
+busy_else busy old new place (refusals.GroupOverflow clause group) some = tt
+busy_else busy old new place (refusals.NotTimeIndexed clause) some = tt
+busy_else busy old new place refusals.SnapshotExists some = tt
+busy_else busy old new place refusals.NoSuchSnapshot some = tt
+busy_else busy old new place refusals.NoStaged some = tt
+busy_else busy old new place (refusals.StagedOverlap piece) some = tt
+busy_else busy old new place (refusals.TooLarge what most) some = tt
+
+look_busy : (Busy : History → Type 0) (before now : ℕ) (old new : History) (place : ℕ) (why : Refusal) → IsLookRefusal before now why → IsBusy Busy old new place why
+look_busy busy before now old new place refusals.NoMemory is = tt
+look_busy busy before now old new place refusals.StoreFault is = tt
+look_busy busy before now old new place (refusals.Spent count) is = absurd is
+look_busy busy before now old new place refusals.NoSuchSymbol is = tt
+look_busy busy before now old new place (refusals.NoSuchVersion asked) is = tt
+look_busy busy before now old new place (refusals.VersionGone version) is = tt
+look_busy busy before now old new place (refusals.Moved at) is = tt
+look_busy busy before now old new place (refusals.Unsorted row) is = tt
+look_busy busy before now old new place (refusals.SchemaDiffers column) is = tt
+look_busy busy before now old new place (refusals.AppendBefore last first) is = tt
+look_busy busy before now old new place (refusals.OutsideRange row) is = tt
+look_busy busy before now old new place refusals.EmptyUpdate is = tt
+look_busy busy before now old new place (refusals.NoSuchColumn clause position) is = tt
+look_busy busy before now old new place (refusals.TypeMismatch clause) is = tt
+look_busy busy before now old new place (refusals.Overflow clause row) is = tt
+look_busy busy before now old new place (refusals.GroupOverflow clause group) is = tt
+look_busy busy before now old new place (refusals.NotTimeIndexed clause) is = tt
+look_busy busy before now old new place refusals.SnapshotExists is = tt
+look_busy busy before now old new place refusals.NoSuchSnapshot is = tt
+look_busy busy before now old new place refusals.NoStaged is = tt
+look_busy busy before now old new place (refusals.StagedOverlap piece) is = tt
+look_busy busy before now old new place (refusals.TooLarge what most) is = tt
+
+-- ---- the ends of a try
+
+module _ (client : ℕ) (sole : Bool) (symbol : Name) (wish : Wish) (options : Options) (limit before now : ℕ) (old : History) where
+  abbrev pub Did : History → Result Committed Refused → Type 0
+  Did new r = DidAttempt client sole symbol (IsAnswered symbol wish options) (Declines symbol wish options) (Wants symbol wish options) limit before now old new r
+
+  -- a look failed
+  pub look_ends : (new : History) (refused : Refused) → Looks IsClaimed client sole old new → RefusesWalk before now old new refused → Did new (Err refused)
+  look_ends new refused looks r =
+      inr (inr (inl (inl (walk_stops client sole symbol limit before now (length old) old new refused looks r), look_busy (Wants symbol wish options) before now old new refused.place refused.why r.why)))
+
+  -- there is no plan
+  pub plan_ends : (new : History) (state : SymbolState) (refused : Refused) → Looks IsClaimed client sole old new → (at : IsStateAt new symbol state) → length old ≤ state.place
+      → RefusesPlan client symbol (answer_to wish options.prune options.at) at.before before now old new refused → Did new (Err refused)
+  plan_ends new state refused looks at from r = elim r [
+    | inl look ↦ elim look [
+      | inl w ↦ look_ends new refused looks w
+      | inr m ↦ inr (inl (record {
+        went = went_looks client sole old new looks;
+        met = met_sooner client symbol (length at.before) (length old) new refused.place (subst (λ n. length old ≤ n) at.place from) m.met;
+        why = m.why;
+      }))
+    ]
+    | inr d ↦
+        let size : length new ≡ length at.later + length at.before = ap length at.split ∙ length-append at.later at.before in
+        let here : history_at new refused.place ≡ at.before = ap (history_at new) (d.place ∙ sym at.place) ∙ walked_here new symbol state at in
+        inr (inr (inr (record {
+          went = went_looks client sole old new looks;
+          place = record { from = omega (arith, from, at.place, d.place); to = omega (arith, size, d.place) };
+          refuses = subst (λ h. Declines symbol wish options h refused.why) (sym here) d.answered;
+        })))
+  ]
+
+  -- a commit was tried
+  module _ (mid new : History) (looks : Went client sole old mid []) (state : SymbolState) (at : IsStateAt mid symbol state) (from : length old ≤ state.place)
+      (plan : LinkPlan) (of : IsPlanOf at.before symbol options (answer_to wish options.prune options.at) plan) (more : History) (is : new ≡ more ++ mid) where
+    made : (serial : ℕ) (m : Made) → IsLinkMade client serial symbol (state_of (history_at mid state.place) symbol) plan options m → IsAnswered symbol wish options m
+    made serial m i =
+        let same : state_of (history_at mid state.place) symbol ≡ state_of at.before symbol = ap (λ h. state_of h symbol) (walked_here mid symbol state at) in
+        record {
+          change = plan.change;
+          list = i.list;
+          answered = answer_unmoved wish options (state_of at.before symbol) (state_of m.before symbol) plan.change (subst (λ st. IsUnmoved st (state_of m.before symbol)) same i.unmoved) of.answered;
+        }
+
+    within : (Asked : Made → Type 0) (refused : Refused) → DidFail client sole symbol Asked limit before now state.place mid new refused → length mid ≤ refused.place
+    within Asked refused f = elim f [
+      | inl s ↦ omega (arith, s.stops.place, s.stops.later)
+      | inr s ↦ omega (arith, s.stops.place, s.stops.later)
+    ]
+
+    pub commit_ends : (serial : ℕ) (r : Result Committed Refused)
+        → DidTry client sole symbol (IsLinkMade client serial symbol (state_of (history_at mid state.place) symbol) plan options) limit before now state.place mid new r → Did new r
+    commit_ends serial r d = by r (try_weaker client sole symbol _ (IsAnswered symbol wish options) (made serial) limit before now state.place mid new r d)
+      where
+        by : (r : Result Committed Refused) → DidTry client sole symbol (IsAnswered symbol wish options) limit before now state.place mid new r → Did new r
+        by (Ok done) d = try_from client sole symbol (IsAnswered symbol wish options) limit before now state.place (length old) old mid new from looks (Ok done) d
+        by (Err refused) d =
+            let size : length mid ≡ length at.later + length at.before = ap length at.split ∙ length-append at.later at.before in
+            let here : history_at new state.place ≡ at.before = walked_here new symbol state (state_later mid new more symbol state is at) in
+            let wants : Wants symbol wish options (history_at new state.place) =
+            (plan.change, subst (λ h. answer_to wish options.prune options.at (state_of h symbol) ≡ Ok (committed (state_of h symbol) options.prune plan.change)) (sym here) of.answered) in
+            let busy : IsBusy (Wants symbol wish options) old new refused.place refused.why = elim d [
+              | inl m ↦ subst (IsBusy (Wants symbol wish options) old new refused.place) (sym m.why) tt
+              | inr f ↦ busy_else (Wants symbol wish options) old new refused.place refused.why (state.place, from, omega (arith, within (IsAnswered symbol wish options) refused f, size, at.place), wants)
+            ] in
+            elim (try_from client sole symbol (IsAnswered symbol wish options) limit before now state.place (length old) old mid new from looks (Err refused) d) [
+              | inl m ↦ inl m
+              | inr f ↦ inr (inr (inl (f, busy)))
+            ]

@@ -1,0 +1,31 @@
+use Rattle.std.proofs.Common.{rules, ◌≡◌, w64, to_z, of_z, ◌+◌, ◌≤◌, sym, ap, ◌∙◌, inl, inr, Err}
+use Rattle.std.proofs.lemmas.Bool.{true≢false, cases_lt}
+use Rattle.bucket_core.specs.declared.event.Change.TheVariants as changes
+use Rattle.store_model.specs.Library.{state_of}
+use Rattle.append_update.specs.Replacing.{appended}
+use Rattle.append_update.specs.Sizes.{text_total}
+use Rattle.append_update.proofs.AppendLemmas.{append_large}
+use Rattle.append_update.proofs.PlanLemmas.{behind_texts, behind_fits, append_over_is}
+use Rattle.append_update.proofs.asking.append_over.Goals as goal
+
+pub returns-then-exceeds-clause-refused : goal.returns-then-exceeds-clause-refused
+returns-then-exceeds-clause-refused g c = λ b.
+    let v = b.version in
+    let fits = c.in-Ok.ensures.judged v.frame b.newest.index_of in
+    inr (record {
+      place = b.place;
+      answered = append_large (state_of b.before c.args.symbol.now) c.args.options.now.prune c.args.options.now.at c.args.frame.now v _ b.newest.is fits.same fits.order (behind_texts v.frame c.args.frame.now b.newest.index_of.storable c.requires.storable fits ((c.in_ok-exceeds.ensures.exceeds b).0 c.if-exceeds.true))
+          ∙ ap Err (sym c.too_many_texts.ensures);
+    })
+
+pub returns-in-Ok-plan_append-clause-plan : goal.returns-in-Ok-plan_append-clause-plan
+returns-in-Ok-plan_append-clause-plan g c = λ b.
+    let v = b.version in
+    let fits = c.in-Ok.ensures.judged v.frame b.newest.index_of in
+    let few : text_total v.frame.rows + text_total c.args.frame.now.rows ≤ 67108864 = elim (cases_lt 67108864 (text_total v.frame.rows + text_total c.args.frame.now.rows)) [
+      | inl many ↦ absurd (true≢false (sym ((c.in_ok-exceeds.ensures.exceeds b).1 many) ∙ c.if-exceeds.false))
+      | inr few ↦ few
+    ] in
+    let at : to_z w64 (of_z w64 c.stamp_of.result) ≡ c.args.options.now.at = search rules in
+    append_over_is b.before c.args.symbol.now c.args.options.now v c.args.base.now c.args.frame.now _ b.newest c.requires.storable (behind_fits v.frame c.args.frame.now b.newest.index_of.storable c.requires.storable fits few)
+    (c.in-Ok-plan_append.ensures ∙ ap (λ at. record { schema = c.args.frame.now.schema; pieces = appended c.args.base.now.index.slots c.args.frame.now; change = changes.Appended c.args.frame.now at }) at)

@@ -1,0 +1,14 @@
+use Rattle.std.proofs.Common.{sym, subst}
+use Rattle.std.specs.Prelude.{IfOk, IfErr}
+use Rattle.append_update.specs.Asking.{answer_to, IsPlanOf}
+use Rattle.append_update.specs.Looking.{RefusesPlan}
+use Rattle.append_update.proofs.asking.plan_over.Goals as goal
+
+pub returns-in-Append-clause-plan : goal.returns-in-Append-clause-plan
+returns-in-Append-clause-plan g c = λ b.
+    subst (λ w. IfOk c.append_over.result (IsPlanOf b.before c.args.symbol.now c.args.options.now (answer_to w c.args.options.now.prune c.args.options.now.at))) (sym c.in-Append.is) (c.append_over.ensures.plan b)
+
+pub returns-in-Append-clause-refused : goal.returns-in-Append-clause-refused
+returns-in-Append-clause-refused g c = λ b.
+    subst (λ w. IfErr c.append_over.result (RefusesPlan (g.B.Bucket.number c.args.bucket.now) c.args.symbol.now (answer_to w c.args.options.now.prune c.args.options.now.at) b.before (g.B.Bucket.faults c.args.bucket.now) (g.B.Bucket.faults c.append_over.new.bucket) (g.B.Bucket.seen c.args.bucket.now) (g.B.Bucket.seen c.append_over.new.bucket)))
+    (sym c.in-Append.is) (c.append_over.ensures.refused b)

@@ -1,0 +1,9 @@
+pub mod Bases
+pub mod Replacing
+pub mod Replies
+pub mod Newest
+pub mod Looking
+pub mod Attempts
+pub mod Asking
+pub mod Sizes
+pub mod Blocks

@@ -1,0 +1,217 @@
+//! The plan of what is asked, over a walked state.
+
+ghost use Rattle.std.specs.Prelude.{◌≡◌, ◌<◌, ◌+◌, ◌↔◌, false, is_some, IsTrue, IfOk, IfErr, IfSome};
+ghost use Rattle.std.specs.List.{list_any};
+ghost use Rattle.frame_core.specs.declared.refusal.Extent.TheVariants.{TextBytes};
+ghost use Rattle.frame_core.specs.Ranges.{IsRange};
+ghost use Rattle.frame_core.specs.Limits.{IsStorable, refuse_large};
+ghost use Rattle.bucket_core.specs.History.{history_at};
+ghost use Rattle.bucket_core.specs.Laws.{Looks};
+ghost use Rattle.bucket_core.specs.Calls.{IsSteady};
+ghost use Rattle.store_model.specs.Law.{IsClaimed};
+ghost use Rattle.version_chain.specs.Marking.{own_refers};
+ghost use Rattle.version_chain.specs.States.{IsStateAt};
+ghost use Rattle.reply_model.specs.CommitAnswers.{append_answer};
+ghost use Rattle.append_update.specs.Asking.{answer_to, IsWish, IsPlanOf, IsAlone, why_missing};
+ghost use Rattle.append_update.specs.Looking.{RefusesBase, RefusesPlan};
+ghost use Rattle.append_update.specs.Newest.{IsBaseAt};
+ghost use Rattle.append_update.specs.Sizes.{text_total, kept_rows};
+
+use crate::base::{Base, base_of, out_of_memory};
+use crate::blocks::block_frame;
+use crate::judging::judge_append;
+use crate::planning::{plan_alone, plan_append};
+use crate::sizes::{has_texts, kept_text_bytes, text_bytes};
+use crate::wish::Wish;
+use base_types::{Keep, NoMemory};
+use bucket_core::{Bucket, Change};
+use frame_core::{Asked, Extent, Frame, Range, Refusal, Refused};
+use frame_write::{LinkPlan, Options};
+use key_kind::Symbol;
+use std::alloc::Global;
+use std::sync::Wait;
+use version_chain::{StoreLaw, SymbolState};
+
+/// The most bytes that all texts of a frame may have.
+const TEXT_LIMIT: u64 = 67_108_864;
+
+/// The plan of what is asked over a walked state, or why there is none. It may wait for the store.
+///
+/// A refusal of the library has the state's place. Where a key of the newest live version is gone, another client's commit has buried
+/// it since the walk; then the refusal is Moved, with the place of the symbol's newest commit.
+pub(crate) fn plan_on<R: Wait, B: Bucket<StoreLaw>>(
+    rt: &R,
+    alloc: Global,
+    bucket: &mut B,
+    symbol: &Symbol,
+    state: &SymbolState,
+    wish: &Wish<'_>,
+    options: &Options,
+) -> Result<LinkPlan, Refused>
+    requires walked { (at : IsStateAt (B.seen bucket.old) symbol.now state.now) × (list_any (own_refers (B.number bucket.old) symbol.now) at.later ≡ false) }
+    requires wish { IsWish wish.now }
+    ensures looks { Looks IsClaimed (B.number bucket.old) (B.sole bucket.old) (B.seen bucket.old) (B.seen bucket.new) }
+    ensures steady { IsSteady B.number B.limit B.faults B.sole bucket.old bucket.new }
+    ensures plan { IfOk result (IsPlanOf (history_at (B.seen bucket.old) state.now.place) symbol.now options.now (answer_to wish.now options.now.prune options.now.at)) }
+    ensures refused { IfErr result (RefusesPlan (B.number bucket.old) symbol.now (answer_to wish.now options.now.prune options.now.at) (history_at (B.seen bucket.old) state.now.place) (B.faults bucket.old) (B.faults bucket.new) (B.seen bucket.old) (B.seen bucket.new)) }
+{
+    let base = base_of(rt, alloc, bucket, symbol, state)?;
+    match base {
+        Some(base) => plan_over(rt, alloc, bucket, symbol, &base, wish, options),
+        None => match plan_without(alloc, wish, stamp_of(options)) {
+            Ok(Some(plan)) => Ok(plan),
+            Ok(None) => Err(Refused {
+                place: state.place,
+                why: missing(state),
+            }),
+            Err(_) => Err(out_of_memory(bucket.place())),
+        },
+    }
+}
+
+/// Why a symbol has no live version.
+fn missing(state: &SymbolState) -> Refusal
+    ensures { result ≡ why_missing (is_some state.now.was) }
+{
+    match state.was {
+        Some(_) => Refusal::NoSuchVersion {
+            asked: Asked::Back(1),
+        },
+        None => Refusal::NoSuchSymbol,
+    }
+}
+
+/// The plan where there is no live version; None where the command wants one.
+fn plan_without(alloc: Global, wish: &Wish<'_>, at: i64) -> Result<Option<LinkPlan>, NoMemory>
+    ensures { IfOk result (IsAlone wish.now at) }
+{
+    match *wish {
+        Wish::Append(frame) => {
+            let change = Change::Appended {
+                frame: frame.copy(alloc)?,
+                at,
+            };
+            Ok(Some(plan_alone(alloc, frame, change)?))
+        }
+        Wish::Replace {
+            frame,
+            range,
+            upsert: true,
+        } => {
+            let change = Change::Updated {
+                frame: frame.copy(alloc)?,
+                range,
+                at,
+            };
+            Ok(Some(plan_alone(alloc, frame, change)?))
+        }
+        _ => Ok(None),
+    }
+}
+
+/// The plan over the newest live version. No call asks for other rows in place of its rows yet.
+fn plan_over<R: Wait, B: Bucket<StoreLaw>>(
+    rt: &R,
+    alloc: Global,
+    bucket: &mut B,
+    symbol: &Symbol,
+    base: &Base,
+    wish: &Wish<'_>,
+    options: &Options,
+) -> Result<LinkPlan, Refused>
+    requires base { IsBaseAt (B.number bucket.old) (B.seen bucket.old) symbol.now base.now }
+    requires wish { IsWish wish.now }
+    ensures looks { Looks IsClaimed (B.number bucket.old) (B.sole bucket.old) (B.seen bucket.old) (B.seen bucket.new) }
+    ensures steady { IsSteady B.number B.limit B.faults B.sole bucket.old bucket.new }
+    ensures plan { (b : IsBaseAt (B.number bucket.old) (B.seen bucket.old) symbol.now base.now) → IfOk result (IsPlanOf b.before symbol.now options.now (answer_to wish.now options.now.prune options.now.at)) }
+    ensures refused { (b : IsBaseAt (B.number bucket.old) (B.seen bucket.old) symbol.now base.now) → IfErr result (RefusesPlan (B.number bucket.old) symbol.now (answer_to wish.now options.now.prune options.now.at) b.before (B.faults bucket.old) (B.faults bucket.new) (B.seen bucket.old) (B.seen bucket.new)) }
+{
+    match *wish {
+        Wish::Append(frame) => append_over(rt, alloc, bucket, symbol, base, frame, options),
+        Wish::Replace { .. } => Err(out_of_memory(bucket.place())),
+        Wish::Clear(_) => Err(out_of_memory(bucket.place())),
+    }
+}
+
+/// The plan of the frame's rows behind those of the newest live version.
+fn append_over<R: Wait, B: Bucket<StoreLaw>>(
+    rt: &R,
+    alloc: Global,
+    bucket: &mut B,
+    symbol: &Symbol,
+    base: &Base,
+    frame: &Frame,
+    options: &Options,
+) -> Result<LinkPlan, Refused>
+    requires base { IsBaseAt (B.number bucket.old) (B.seen bucket.old) symbol.now base.now }
+    requires storable { IsStorable frame.now }
+    ensures looks { Looks IsClaimed (B.number bucket.old) (B.sole bucket.old) (B.seen bucket.old) (B.seen bucket.new) }
+    ensures steady { IsSteady B.number B.limit B.faults B.sole bucket.old bucket.new }
+    ensures plan { (b : IsBaseAt (B.number bucket.old) (B.seen bucket.old) symbol.now base.now) → IfOk result (IsPlanOf b.before symbol.now options.now (λ st. append_answer st options.now.prune options.now.at frame.now)) }
+    ensures refused { (b : IsBaseAt (B.number bucket.old) (B.seen bucket.old) symbol.now base.now) → IfErr result (RefusesPlan (B.number bucket.old) symbol.now (λ st. append_answer st options.now.prune options.now.at frame.now) b.before (B.faults bucket.old) (B.faults bucket.new) (B.seen bucket.old) (B.seen bucket.new)) }
+{
+    let place = base.target.place;
+    match judge_append(&base.index, frame) {
+        Ok(()) => {}
+        Err(why) => return Err(Refused { place, why }),
+    }
+    let exceeds = exceeds_texts(rt, alloc, bucket, symbol, base, frame, None)?;
+    if exceeds {
+        return Err(Refused {
+            place,
+            why: too_many_texts(),
+        });
+    }
+    match plan_append(alloc, &base.index, frame, stamp_of(options)) {
+        Ok(plan) => Ok(plan),
+        Err(_) => Err(out_of_memory(bucket.place())),
+    }
+}
+
+/// The stamp of the new version.
+fn stamp_of(options: &Options) -> i64
+    ensures { result ≡ options.now.at }
+{
+    options.at
+}
+
+/// The refusal of too many bytes of text.
+fn too_many_texts() -> Refusal
+    ensures { result ≡ refuse_large (TextBytes, 67108864) }
+{
+    Refusal::TooLarge {
+        what: Extent::TextBytes,
+        limit: TEXT_LIMIT,
+    }
+}
+
+/// Whether the texts of a frame, and of those rows of the base that lie outside a range, or of all, have too many bytes.
+///
+/// The base's tiles are got only where there are texts and the frame has rows. It may wait for the store.
+fn exceeds_texts<R: Wait, B: Bucket<StoreLaw>>(
+    rt: &R,
+    alloc: Global,
+    bucket: &mut B,
+    symbol: &Symbol,
+    base: &Base,
+    frame: &Frame,
+    range: Option<Range>,
+) -> Result<bool, Refused>
+    requires base { IsBaseAt (B.number bucket.old) (B.seen bucket.old) symbol.now base.now }
+    requires storable { IsStorable frame.now }
+    requires range { IfSome range IsRange }
+    ensures looks { Looks IsClaimed (B.number bucket.old) (B.sole bucket.old) (B.seen bucket.old) (B.seen bucket.new) }
+    ensures steady { IsSteady B.number B.limit B.faults B.sole bucket.old bucket.new }
+    ensures exceeds { (b : IsBaseAt (B.number bucket.old) (B.seen bucket.old) symbol.now base.now) → IfOk result (λ exceeds. IsTrue exceeds ↔ (67108864 < text_total (kept_rows range b.version.frame.rows) + text_total frame.now.rows)) }
+    ensures refused { IfErr result (RefusesBase (B.number bucket.old) symbol.now base.now.target.place (B.faults bucket.old) (B.faults bucket.new) (B.seen bucket.old) (B.seen bucket.new)) }
+{
+    if frame.rows() == 0 || !has_texts(base.index.schema.columns()) {
+        return Ok(false);
+    }
+    let slots = base.index.slots.len();
+    let whole = block_frame(rt, alloc, bucket, symbol, base, 0, slots)?;
+    match kept_text_bytes(alloc, &whole, range) {
+        Ok(kept) => Ok(kept + text_bytes(frame) > TEXT_LIMIT),
+        Err(_) => Err(out_of_memory(bucket.place())),
+    }
+}

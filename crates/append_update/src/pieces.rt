@@ -1,0 +1,77 @@
+//! The pieces of a new version on a base.
+
+ghost use Rattle.std.specs.Prelude.{◌≡◌, ◌≤◌, [], ◌∷◌, ◌++◌, length, take, drop, slice_range, IfOk, OnOk};
+ghost use Rattle.append_update.specs.Replacing.{fresh, appended, replaced};
+
+use crate::cuts::Cuts;
+use base_types::{Items, Keep, NoMemory};
+use frame_core::Frame;
+use frame_write::Piece;
+use index_tree::Slot;
+use std::alloc::Global;
+
+/// What is left of the row blocks that a range cuts.
+#[derive(Drop)]
+pub(crate) struct Edges {
+    /// The rows below the range in the block that it cuts at its beginning, if there is one.
+    pub(crate) below: Option<Frame>,
+    /// The rows above the range in the block that it cuts at its end.
+    pub(crate) above: Option<Frame>,
+}
+
+/// All rows of the base, by its slots, and behind them a frame's.
+pub(crate) fn pieces_appended(
+    alloc: Global,
+    slots: &[Slot],
+    frame: Frame,
+) -> Result<Items<Piece>, NoMemory>
+    ensures { IfOk result (λ pieces. pieces ≡ appended slots.now frame) }
+{
+    let mut pieces = Items::new(alloc);
+    pieces.push(Piece::Shared(run(alloc, slots)?))?;
+    pieces.push(Piece::Fresh(frame))?;
+    Ok(pieces)
+}
+
+/// The base's rows below the range, a frame's, and the base's rows above it. What lies in whole row blocks stays in their slots.
+pub(crate) fn pieces_replaced(
+    alloc: Global,
+    slots: &[Slot],
+    cuts: Cuts,
+    edges: Edges,
+    frame: Frame,
+) -> Result<Items<Piece>, NoMemory>
+    requires below { cuts.below ≤ length slots.now }
+    requires reached { cuts.reached ≤ length slots.now }
+    ensures { IfOk result (λ pieces. pieces ≡ replaced slots.now cuts edges frame) }
+{
+    let Edges { below, above } = edges;
+    let mut pieces = Items::new(alloc);
+    pieces.push(Piece::Shared(run(alloc, &slots[..cuts.below])?))?;
+    push_fresh(&mut pieces, below)?;
+    pieces.push(Piece::Fresh(frame))?;
+    push_fresh(&mut pieces, above)?;
+    pieces.push(Piece::Shared(run(alloc, &slots[cuts.reached..])?))?;
+    Ok(pieces)
+}
+
+/// Puts a frame behind the pieces, if there is one.
+fn push_fresh(pieces: &mut Items<Piece>, frame: Option<Frame>) -> Result<(), NoMemory>
+    ensures { OnOk result (pieces.new ≡ pieces.old ++ fresh frame) }
+{
+    match frame {
+        Some(frame) => pieces.push(Piece::Fresh(frame)),
+        None => Ok(()),
+    }
+}
+
+/// Copies of slots.
+fn run(alloc: Global, slots: &[Slot]) -> Result<Items<Slot>, NoMemory>
+    ensures { IfOk result (λ run. run ≡ slots.now) }
+{
+    let mut run = Items::with_capacity(alloc, slots.len())?;
+    for slot in slots {
+        run.push(slot.copy(alloc)?)?;
+    }
+    Ok(run)
+}

@@ -1,0 +1,72 @@
+//! The plans of new versions on a base, or on none.
+
+ghost use Rattle.std.specs.Prelude.{◌≡◌, ◌≤◌, [], ◌∷◌, length, IfOk};
+ghost use Rattle.bucket_core.specs.declared.event.Change.TheVariants.{Appended, Updated};
+ghost use Rattle.frame_write.specs.declared.pieces.Piece.TheVariants.{Fresh};
+ghost use Rattle.append_update.specs.Replacing.{appended, replaced};
+
+use crate::cuts::Cuts;
+use crate::pieces::{Edges, pieces_appended, pieces_replaced};
+use base_types::{Items, Keep, NoMemory};
+use bucket_core::Change;
+use frame_core::{Frame, Range};
+use frame_write::{LinkPlan, Piece};
+use index_tree::Index;
+use std::alloc::Global;
+
+/// The frame as a version of its own, with this change.
+pub(crate) fn plan_alone(alloc: Global, frame: &Frame, change: Change) -> Result<LinkPlan, NoMemory>
+    ensures { IfOk result (λ plan. plan ≡ record { schema = frame.now.schema; pieces = Fresh frame.now ∷ []; change = change }) }
+{
+    let mut pieces = Items::new(alloc);
+    pieces.push(Piece::Fresh(frame.copy(alloc)?))?;
+    Ok(LinkPlan {
+        schema: frame.schema().copy(alloc)?,
+        pieces,
+        change,
+    })
+}
+
+/// The frame's rows behind those of the base with this index.
+pub(crate) fn plan_append(
+    alloc: Global,
+    index: &Index,
+    frame: &Frame,
+    at: i64,
+) -> Result<LinkPlan, NoMemory>
+    ensures { IfOk result (λ plan. plan ≡ record { schema = frame.now.schema; pieces = appended index.now.slots frame.now; change = Appended frame.now at }) }
+{
+    Ok(LinkPlan {
+        schema: frame.schema().copy(alloc)?,
+        pieces: pieces_appended(alloc, index.slots.items(), frame.copy(alloc)?)?,
+        change: Change::Appended {
+            frame: frame.copy(alloc)?,
+            at,
+        },
+    })
+}
+
+/// The frame's rows in place of those in the range of the base with this index.
+pub(crate) fn plan_update(
+    alloc: Global,
+    index: &Index,
+    cuts: Cuts,
+    edges: Edges,
+    frame: &Frame,
+    range: Range,
+    at: i64,
+) -> Result<LinkPlan, NoMemory>
+    requires below { cuts.below ≤ length index.now.slots }
+    requires reached { cuts.reached ≤ length index.now.slots }
+    ensures { IfOk result (λ plan. plan ≡ record { schema = frame.now.schema; pieces = replaced index.now.slots cuts edges frame.now; change = Updated frame.now range at }) }
+{
+    Ok(LinkPlan {
+        schema: frame.schema().copy(alloc)?,
+        pieces: pieces_replaced(alloc, index.slots.items(), cuts, edges, frame.copy(alloc)?)?,
+        change: Change::Updated {
+            frame: frame.copy(alloc)?,
+            range,
+            at,
+        },
+    })
+}

@@ -1,0 +1,16 @@
+//! Tests of frames and of what is stored of them, through their public calls: a crate with tests of its own is proved twice, and
+//! those below are the largest.
+#![tactic(auto)]
+
+#[cfg(test)]
+mod columns;
+#[cfg(test)]
+mod cuts;
+#[cfg(test)]
+mod frames;
+#[cfg(test)]
+mod indexes;
+#[cfg(test)]
+mod keys;
+#[cfg(test)]
+mod segments;

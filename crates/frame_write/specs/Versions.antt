@@ -1,0 +1,84 @@
+-- The plan of a new version.
+--     row_of, index_with      the row of the version's link, and its index
+--     IsVersionPlan       how a plan is made of slots that are laid out, over a walked state
+--     AddsElement         a plan that puts an element behind other puts
+--     MayPlan             the walked state is the symbol's, and the next serials are free
+--     IsPlanOf            the plan of a change in pieces
+use Rattle.std.specs.Prelude.{◌≡◌, ◌<◌, ◌≤◌, ◌^◌, ◌+◌, ℕ, suc, Bool, List, [], ◌∷◌, ◌++◌, map, length, Ok, if◌then◌else◌}
+use Rattle.std.specs.Arc.{arc_value}
+use Rattle.frame_core.specs.Schemas.{Schema}
+use Rattle.index_tree.specs.declared.index.Index.{Index}
+use Rattle.index_tree.specs.IndexText.{index_of}
+use Rattle.key_kind.specs.Names.{Name, IsName}
+use Rattle.key_kind.specs.KeyText.{key_text}
+use Rattle.bucket_core.specs.declared.event.Change.{Change}
+use Rattle.bucket_core.specs.History.{History, Bytes, puts_by}
+use Rattle.store_model.specs.declared.chain.LinkRow.{LinkRow}
+use Rattle.store_model.specs.declared.chain.ChainMark.TheVariants as marks
+use Rattle.store_model.specs.ChainText.{entry_of}
+use Rattle.store_model.specs.Library.{state_of, next_number}
+use Rattle.store_model.specs.Law.{IsLawful}
+use Rattle.version_chain.specs.declared.state.SymbolState.{SymbolState}
+use Rattle.version_chain.specs.States.{IsStateOf}
+use Rattle.reply_model.specs.Answering.{removed, pruned}
+use Rattle.frame_write.specs.declared.laying.Layout.{Layout}
+use Rattle.frame_write.specs.declared.options.Options.{Options}
+use Rattle.frame_write.specs.declared.pieces.Piece.{Piece}
+use Rattle.frame_write.specs.declared.plan.Plan.{Plan}
+use Rattle.frame_write.specs.declared.puts.Prepared.{Prepared}
+use Rattle.frame_write.specs.Pieces.{laid, new_tiles}
+use Rattle.frame_write.specs.Placing.{live_of, element_key}
+use Rattle.frame_write.specs.Plans.{IsPlan, puts_seen}
+use Rattle.frame_write.specs.SlotKeys.{slots_key}
+
+-- the row of the version's link
+abbrev pub row_of : ℕ → Name → ℕ → Layout → Options → LinkRow
+row_of client symbol version layout options = record { version = version; stamp = options.at; rows = layout.rows; index = slots_key client symbol version layout.next layout.slots }
+
+-- the index of the slots
+abbrev pub index_with : Schema → Layout → Index
+index_with schema layout = record { schema = schema; rows = layout.rows; slots = layout.slots }
+
+-- the new tiles are put, then the index and an element, which stands on the walked reference, links the index and buries what is to be buried
+pub record IsVersionPlan (client version : ℕ) (symbol : Name) (state : SymbolState) (layout : Layout) (schema : Schema) (change : Change) (options : Options) (plan : Plan) : Type 0 where
+  pub index : Bytes
+  pub element : Bytes
+  pub buried : List ℕ
+  pub buried_are : buried ≡ (if options.prune then live_of state else [])
+  pub puts : puts_seen plan.puts ≡ puts_seen layout.puts ++ (slots_key client symbol version layout.next layout.slots, index) ∷ (element_key client symbol (suc layout.next), element) ∷ []
+  pub index_spelled : index_of index ≡ Ok (index_with schema layout)
+  pub element_spelled : entry_of element ≡ Ok (record { prev = state.was; changes = marks.Link (row_of client symbol version layout options) ∷ map marks.Tomb buried })
+  pub was : plan.was ≡ state.was
+  pub number : plan.version ≡ version
+  pub entry : plan.entry ≡ element_key client symbol (suc layout.next)
+  pub mark : arc_value plan.mark ≡ key_text plan.entry
+  pub changes : arc_value plan.changes ≡ change ∷ removed buried
+  pub is_name : IsName symbol
+  pub serials_fit : suc layout.next < 2 ^ 64
+
+-- the plan puts these and behind them an element, which stands on the walked reference, has this link and buries what is to be buried
+pub record AddsElement (client serial : ℕ) (symbol : Name) (state : SymbolState) (row : LinkRow) (puts : List Prepared) (change : Change) (prune : Bool) (plan : Plan) : Type 0 where
+  pub element : Bytes
+  pub buried : List ℕ
+  pub buried_are : buried ≡ (if prune then live_of state else [])
+  pub puts_are : puts_seen plan.puts ≡ puts_seen puts ++ (element_key client symbol serial, element) ∷ []
+  pub spelled : entry_of element ≡ Ok (record { prev = state.was; changes = marks.Link row ∷ map marks.Tomb buried })
+  pub was : plan.was ≡ state.was
+  pub number : plan.version ≡ row.version
+  pub entry : plan.entry ≡ element_key client symbol serial
+  pub mark : arc_value plan.mark ≡ key_text plan.entry
+  pub changes : arc_value plan.changes ≡ change ∷ removed buried
+
+-- the walked state is the symbol's in the lawful history, and the client's next serial is no lower than it was there
+pub record MayPlan (client serial : ℕ) (before : History) (symbol : Name) (state : SymbolState) : Type 0 where
+  pub lawful : ∥ IsLawful before ∥₁
+  pub is_state : IsStateOf before symbol state
+  pub serial_is : puts_by client before ≤ serial
+
+-- a plan over the state in a history that makes this change, with what it buries, and whose index has the slots of these pieces
+pub record IsPlanOf (client serial : ℕ) (before : History) (symbol : Name) (options : Options) (change : Change) (list : List Piece) (plan : Plan) : Type 0 where
+  pub index : Index
+  pub is_plan : IsPlan client serial before symbol index plan
+  pub changes : arc_value plan.changes ≡ change ∷ pruned (state_of before symbol) options.prune
+  pub puts : length (puts_seen plan.puts) ≡ new_tiles options.cutting list + 2
+  pub slots : index.slots ≡ laid options.cutting client symbol (next_number (state_of before symbol)) 0 serial list

@@ -1,0 +1,282 @@
+ghost use Rattle.std.specs.Prelude.{◌≡◌, ◌+◌, ◌≤◌, ◌<◌, ◌^◌, suc, [], ◌∷◌, ◌++◌, map, length, IfOk, OnOk, Ok};
+ghost use Rattle.std.specs.Arc.{arc_value};
+ghost use Rattle.std.specs.List.{AllByRecursion};
+ghost use Rattle.index_tree.specs.IndexText.{index_of};
+ghost use Rattle.index_tree.specs.IndexRules.{IsIndex};
+ghost use Rattle.key_kind.specs.Names.{IsName};
+ghost use Rattle.frame_write.specs.Plans.{puts_seen};
+ghost use Rattle.frame_write.specs.Pieces.{begin_of, end_of, size_of, moved};
+ghost use Rattle.frame_write.specs.Placing.{slot_at};
+ghost use Rattle.frame_write.specs.Laying.{behind, fresh_laid, slots_laid, puts_laid, piece_rows, rows_in, MayMove, MayLay};
+ghost use Rattle.frame_write.specs.Layouts.{AddsPiece, IsLaid};
+ghost use Rattle.frame_write.specs.SlotKeys.{first_of, last_of, slots_key};
+
+use crate::pieces::Piece;
+use crate::puts::Prepared;
+use crate::tiles::{Tile, tiles_of};
+use base_types::{Items, Keep, NoMemory};
+use bucket_core::Body;
+use frame_core::{Part, Schema};
+use index_tree::{Index, Slot, build};
+use key_kind::{Key, KeyKind, Name, Symbol};
+use segment_cut::Cutting;
+use std::alloc::Global;
+use std::sync::Arc;
+
+/// Slots of a new index, and the tiles among them that are to be put.
+#[derive(Drop)]
+pub(crate) struct Layout {
+    /// The slots, from row 0 on.
+    pub(crate) slots: Items<Slot>,
+    /// The new tiles under keys of their own, as they are put.
+    pub(crate) puts: Items<Prepared>,
+    /// How many rows the slots have.
+    pub(crate) rows: u64,
+    /// The serial behind the new keys.
+    pub(crate) next: u64,
+}
+
+impl Layout {
+    /// No slots, where the first key gets this serial.
+    fn new(alloc: Global, serial: u64) -> Layout
+        ensures { result ≡ record { slots = []; puts = []; rows = 0; next = serial } }
+    {
+        Layout {
+            slots: Items::new(alloc),
+            puts: Items::new(alloc),
+            rows: 0,
+            next: serial,
+        }
+    }
+
+    /// Adds a new tile of a frame that begins at this row.
+    fn add_tile(
+        &mut self,
+        alloc: Global,
+        client: u32,
+        name: &Name,
+        version: u64,
+        begin: u64,
+        tile: &Tile,
+    ) -> Result<(), NoMemory>
+        requires { tile.now.part.first_row + begin < 2 ^ 64 }
+        ensures slots { OnOk result (self.new.slots ≡ self.old.slots ++ behind begin (slot_at client name.now version self.old.next tile.now) ∷ []) }
+        ensures puts { OnOk result (puts_seen self.new.puts ≡ puts_seen self.old.puts ++ ((slot_at client name.now version self.old.next tile.now).key, arc_value tile.now.body) ∷ []) }
+        ensures rows { OnOk result (self.new.rows ≡ self.old.rows) }
+        ensures next { OnOk result (self.new.next ≡ suc self.old.next) }
+        ensures fits { OnOk result (self.new.next < 2 ^ 64) }
+    {
+        let Some(next) = self.next.checked_add(1) else {
+            return Err(NoMemory);
+        };
+        let key = Key {
+            kind: KeyKind::TableData,
+            name: name.copy(alloc)?,
+            client,
+            serial: self.next,
+            version,
+            first: tile.first,
+            last: tile.last,
+        };
+        self.puts.push(Prepared {
+            key: key.copy(alloc)?,
+            body: Arc::try_clone(&tile.body)?,
+        })?;
+        self.slots.push(Slot {
+            key,
+            part: moved_by(tile.part, begin),
+            first: tile.first,
+            last: tile.last,
+        })?;
+        self.next = next;
+        Ok(())
+    }
+
+    /// Adds the new tiles of a frame of so many rows, which begins behind the rows so far.
+    fn add_fresh(
+        &mut self,
+        alloc: Global,
+        client: u32,
+        name: &Name,
+        version: u64,
+        rows: u64,
+        tiles: &[Tile],
+    ) -> Result<(), NoMemory>
+        requires each { AllByRecursion (λ (tile : Tile). tile.part.first_row ≤ rows) tiles.now }
+        requires few { self.old.rows + rows < 2 ^ 64 }
+        ensures slots { OnOk result (self.new.slots ≡ self.old.slots ++ slots_laid (fresh_laid client name.now version self.old.rows self.old.next tiles.now)) }
+        ensures puts { OnOk result (puts_seen self.new.puts ≡ puts_seen self.old.puts ++ puts_laid (fresh_laid client name.now version self.old.rows self.old.next tiles.now)) }
+        ensures rows { OnOk result (self.new.rows ≡ self.old.rows + rows) }
+        ensures next { OnOk result (self.new.next ≡ self.old.next + length tiles.now) }
+        ensures fits { OnOk result (self.old.next < 2 ^ 64 → self.new.next < 2 ^ 64) }
+    {
+        let begin = self.rows;
+        for tile in tiles {
+            self.add_tile(alloc, client, name, version, begin, tile)?;
+        }
+        self.rows = begin + rows;
+        Ok(())
+    }
+
+    /// Adds the slots of a run, moved so that it begins behind the rows so far.
+    fn add_shared(&mut self, alloc: Global, run: &[Slot]) -> Result<(), NoMemory>
+        requires run { MayMove run.now }
+        requires few { self.old.rows < 2 ^ 32 }
+        ensures slots { OnOk result (self.new.slots ≡ self.old.slots ++ map (moved (begin_of run.now) self.old.rows) run.now) }
+        ensures puts { OnOk result (self.new.puts ≡ self.old.puts) }
+        ensures rows { OnOk result (self.new.rows ≡ self.old.rows + size_of run.now) }
+        ensures next { OnOk result (self.new.next ≡ self.old.next) }
+    {
+        let from = begin_of(run);
+        let to = self.rows;
+        for slot in run {
+            self.slots.push(moved(alloc, from, to, slot)?)?;
+        }
+        self.rows = to + (end_of(run) - from);
+        Ok(())
+    }
+}
+
+/// The part, so many rows further.
+fn moved_by(part: Part, rows: u64) -> Part
+    requires { part.first_row + rows < 2 ^ 64 }
+    ensures { result ≡ record part { first_row = part.first_row + rows } }
+{
+    Part {
+        first_row: part.first_row + rows,
+        ..part
+    }
+}
+
+/// The slot of a run that begins with the row `from`, where the run begins with the row `to` instead.
+fn moved(alloc: Global, from: u64, to: u64, slot: &Slot) -> Result<Slot, NoMemory>
+    requires later { from ≤ slot.now.part.first_row }
+    requires few { slot.now.part.first_row < 2 ^ 32 }
+    requires fits { to < 2 ^ 32 }
+    ensures { IfOk result (λ copy. copy ≡ moved from to slot.now) }
+{
+    let mut copy = slot.copy(alloc)?;
+    copy.part.first_row = (slot.part.first_row - from) + to;
+    Ok(copy)
+}
+
+/// The first row of a run, or 0.
+fn begin_of(run: &[Slot]) -> u64
+    ensures { result ≡ begin_of run.now }
+{
+    match run.first() {
+        Some(slot) => slot.part.first_row,
+        None => 0,
+    }
+}
+
+/// The row behind the last of a run, or 0.
+fn end_of(run: &[Slot]) -> u64
+    requires { MayMove run.now }
+    ensures { result ≡ end_of run.now }
+{
+    match run.last() {
+        Some(slot) => slot.part.first_row + slot.part.rows,
+        None => 0,
+    }
+}
+
+/// Adds the slots of a piece behind those that are there.
+fn add_piece(
+    alloc: Global,
+    client: u32,
+    name: &Name,
+    version: u64,
+    cutting: Cutting,
+    piece: &Piece,
+    layout: &mut Layout,
+) -> Result<(), NoMemory>
+    requires piece { MayLay piece.now }
+    requires few { layout.old.rows + piece_rows piece.now ≤ 2000000 }
+    ensures { OnOk result (AddsPiece client name.now version cutting piece.now layout.old layout.new) }
+{
+    match piece {
+        Piece::Shared(run) => layout.add_shared(alloc, run.items()),
+        Piece::Fresh(frame) => {
+            let tiles = tiles_of(alloc, frame, cutting)?;
+            layout.add_fresh(alloc, client, name, version, frame.rows(), tiles.items())
+        }
+    }
+}
+
+/// The slots of these pieces: fresh ones are cut into tiles of their own, under keys from this serial on, and shared ones are moved.
+pub(crate) fn lay_out(
+    alloc: Global,
+    client: u32,
+    serial: u64,
+    symbol: &Symbol,
+    version: u64,
+    pieces: &[Piece],
+    cutting: Cutting,
+) -> Result<Layout, NoMemory>
+    requires each { AllByRecursion MayLay pieces.now }
+    requires few { rows_in pieces.now ≤ 2000000 }
+    ensures laid { IfOk result (IsLaid client symbol.now version cutting serial pieces.now) }
+    ensures is_name { OnOk result (IsName symbol.now) }
+{
+    let name = symbol.name();
+    let mut layout = Layout::new(alloc, serial);
+    for piece in pieces {
+        add_piece(alloc, client, name, version, cutting, piece, &mut layout)?;
+    }
+    Ok(layout)
+}
+
+/// The index of these slots under its key, which has the stamps of the first and of the last slot.
+pub(crate) fn place_slots(
+    alloc: Global,
+    client: u32,
+    serial: u64,
+    symbol: &Symbol,
+    version: u64,
+    schema: &Schema,
+    rows: u64,
+    slots: Items<Slot>,
+) -> Result<Prepared, NoMemory>
+    requires { IsIndex (record { schema = schema.now; rows = rows; slots = slots }) }
+    ensures key { IfOk result (λ put. put.key ≡ slots_key client symbol.now version serial slots) }
+    ensures body { IfOk result (λ put. index_of (arc_value put.body) ≡ Ok (record { schema = schema.now; rows = rows; slots = slots })) }
+    ensures is_name { OnOk result (IsName symbol.now) }
+{
+    let key = Key {
+        kind: KeyKind::TableIndex,
+        name: symbol.name().copy(alloc)?,
+        client,
+        serial,
+        version,
+        first: first_of(slots.items()),
+        last: last_of(slots.items()),
+    };
+    let index = Index {
+        schema: schema.copy(alloc)?,
+        rows,
+        slots,
+    };
+    let body = Arc::new(alloc, Body::make(build(alloc, &index)?))?;
+    Ok(Prepared { key, body })
+}
+
+/// The stamp of the first row of these slots, or 0.
+fn first_of(slots: &[Slot]) -> i64
+    ensures { result ≡ first_of slots.now }
+{
+    match slots.first() {
+        Some(slot) => slot.first,
+        None => 0,
+    }
+}
+
+/// The stamp of their last row, or 0.
+fn last_of(slots: &[Slot]) -> i64
+    ensures { result ≡ last_of slots.now }
+{
+    match slots.last() {
+        Some(slot) => slot.last,
+        None => 0,
+    }
+}
