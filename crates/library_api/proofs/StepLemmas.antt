@@ -1,7 +1,8 @@
 -- The reply of an arm is the reply of the step.
-use Rattle.std.proofs.Common.{◌≡◌, ℕ, ◌<◌, ℤ, Bool, true, Result, Ok, List, refl, ap, sym, ◌∙◌, subst, Option, Some, map, length, slice_index_or}
+use Rattle.std.proofs.Common.{◌≡◌, ℕ, ℤ, Bool, true, false, Result, Ok, List, refl, ap, sym, ◌∙◌, subst, Option, Some, map}
 use Rattle.std.specs.Prelude.{slice_get, unwrap_or, option_map}
-use Rattle.std.proofs.lemmas.Option.{slice_get-get_or, slice_get-map}
+use Rattle.std.proofs.lemmas.Bool.{true≢false}
+use Rattle.std.proofs.lemmas.Option.{slice_get-map}
 use Rattle.frame_core.specs.declared.raw.RawFrame.{RawFrame}
 use Rattle.frame_core.specs.declared.refusal.Refusal.{Refusal}
 use Rattle.frame_core.specs.Frames.{Frame}
@@ -18,22 +19,22 @@ use Rattle.expr_clause.specs.declared.command.Command.TheVariants as commands
 use Rattle.reply_model.specs.declared.reply.Reply.{Reply}
 use Rattle.reply_model.specs.Answering.{Session, stamp_of}
 use Rattle.reply_model.specs.Windows.{Client}
-use Rattle.reply_model.specs.Standing.{GrowsAlone, IsLaid, LaysOut, LegalAloneSteps}
+use Rattle.reply_model.specs.Standing.{GrowsAlone, is_served, IsLaid, LaysOut, LegalAloneSteps}
 use Rattle.reply_model.proofs.GridCounts.{write_is_laid}
 use Rattle.reply_model.proofs.LaidWrites.{link_with, write_lays_out, makes_none, none_lays_out}
 use Rattle.version_chain.specs.Traces.{GoesOn}
 use Rattle.frame_write.specs.declared.options.Options.{Options}
 use Rattle.library_api.specs.declared.settings.Settings.{Settings}
-use Rattle.library_api.specs.Steps.{IsNamed, client_of, IsLegalIn, IsLegalForAll, IsLegalWithTries, run_cutting, IsStepAlone}
-use Rattle.library_api.specs.Frames.{IsLegalWriteOf, IsWrittenAlone, StandsBehindPuts}
+use Rattle.library_api.specs.Steps.{client_of, IsLegalIn, IsLegalForAll, IsLegalWithTries, run_cutting, is_told_alone, IsStepAlone}
+use Rattle.library_api.specs.Frames.{IsLegalForTable, IsLegalWithStamp, IsWrittenAlone, StandsBehindPuts}
 
 -- how a frame is written by a command of these settings
 abbrev pub options_of : Settings → Option ℤ → Bool → Options
 options_of settings at prune = record { cutting = settings.cutting; tries = settings.tries; at = unwrap_or at settings.moment; prune = prune }
 
 -- the frame of the number that a command names
-frame_there : (frames : List RawFrame) (n : ℕ) (raw : RawFrame) → n < length frames → raw ≡ slice_index_or frames n raw → slice_get (map table_of frames) n ≡ Some (table_of raw)
-frame_there frames n raw below is = slice_get-map table_of frames n ∙ ap (option_map table_of) (slice_get-get_or frames n raw below ∙ ap Some (sym is))
+frame_there : (frames : List RawFrame) (n : ℕ) (raw : RawFrame) → slice_get frames n ≡ Some raw → slice_get (map table_of frames) n ≡ Some (table_of raw)
+frame_there frames n raw got = slice_get-map table_of frames n ∙ ap (option_map table_of) got
 
 module _ (frames : List RawFrame) (settings : Settings) (number limit before now : ℕ) (old new : History) (command : Command) (reply : Reply) where
   -- a reply that is legal for all clients of the number is legal for the library's
@@ -44,23 +45,57 @@ module _ (frames : List RawFrame) (settings : Settings) (number limit before now
   pub tried_command : (c : Command) → command ≡ c → IsLegalWithTries limit number settings.tries before now old new c reply → IsLegalIn (client_of frames settings number limit) before now old new command reply
   tried_command c is legal = subst (λ c. IsLegalIn (client_of frames settings number limit) before now old new c reply) (sym is) (legal (client_of frames settings number limit).session refl refl)
 
-  pub write_command : (symbol : Name) (n : ℕ) (at : Option ℤ) (prune : Bool) (options : Options) (raw : RawFrame) → command ≡ commands.Write symbol n at prune → options ≡ options_of settings at prune
-      → IsNamed (length frames) command → raw ≡ slice_index_or frames n raw
-      → IsLegalWriteOf limit number options.tries symbol (table_of raw) options.at options.prune before now old new reply → IsLegalIn (client_of frames settings number limit) before now old new command reply
-  write_command symbol n at prune options raw is chosen named got legal =
-      let here : IsLegalWriteOf limit number settings.tries symbol (table_of raw) (unwrap_or at settings.moment) prune before now old new reply =
-      subst (λ o. IsLegalWriteOf limit number o.tries symbol (table_of raw) o.at o.prune before now old new reply) chosen legal in
+  -- so is one that is legal for all sessions that bring the frame of its number
+  pub table_command : (make : Options → ℕ → Option ℤ → Command) (n : ℕ) (at : Option ℤ) (prune : Bool) (options : Options) (raw : RawFrame) → command ≡ make (options_of settings at prune) n at
+      → options ≡ options_of settings at prune → slice_get frames n ≡ Some raw
+      → IsLegalForTable limit number options.tries (table_of raw) options.at (make options) before now old new reply → IsLegalIn (client_of frames settings number limit) before now old new command reply
+  table_command make n at prune options raw is chosen got legal =
+      let here : IsLegalForTable limit number settings.tries (table_of raw) (unwrap_or at settings.moment) (make (options_of settings at prune)) before now old new reply =
+      subst (λ o. IsLegalForTable limit number o.tries (table_of raw) o.at (make o) before now old new reply) chosen legal in
       subst (λ c. IsLegalIn (client_of frames settings number limit) before now old new c reply) (sym is)
-      (here (client_of frames settings number limit).session n at (record { client_is = refl; tries_are = refl; table_is = frame_there frames n raw (subst (IsNamed (length frames)) is named) got; stamp_is = refl }))
+      (here (client_of frames settings number limit).session n at (record { client_is = refl; tries_are = refl; table_is = frame_there frames n raw got; stamp_is = refl }))
+
+  -- and one that is legal for all sessions that give it its stamp
+  pub stamped_command : (make : Options → Option ℤ → Command) (at : Option ℤ) (prune : Bool) (options : Options) → command ≡ make (options_of settings at prune) at → options ≡ options_of settings at prune
+      → IsLegalWithStamp limit number options.tries options.at (make options) before now old new reply → IsLegalIn (client_of frames settings number limit) before now old new command reply
+  stamped_command make at prune options is chosen legal =
+      let here : IsLegalWithStamp limit number settings.tries (unwrap_or at settings.moment) (make (options_of settings at prune)) before now old new reply =
+      subst (λ o. IsLegalWithStamp limit number o.tries o.at (make o) before now old new reply) chosen legal in
+      subst (λ c. IsLegalIn (client_of frames settings number limit) before now old new c reply) (sym is)
+      (here (client_of frames settings number limit).session at (record { client_is = refl; tries_are = refl; stamp_is = refl }))
 
 -- ---- one client alone
+
+-- what is told of one client alone is shown
+told-served : (c : Command) → is_told_alone c ≡ true → is_served c ≡ true
+told-served (commands.Write symbol frame at prune) e = refl
+told-served (commands.Append symbol frame at prune) e = refl
+told-served (commands.Update symbol frame range upsert at prune) e = refl
+told-served (commands.DeleteRange symbol range at prune) e = refl
+told-served (commands.Stage symbol frame) e = e
+told-served (commands.Finalize symbol append sorted at prune) e = e
+told-served (commands.Discard symbol) e = e
+told-served (commands.Delete symbol versions) e = e
+told-served (commands.Prune symbol) e = e
+told-served (commands.Reclaim symbol) e = e
+told-served (commands.Versions symbol) e = e
+told-served (commands.Keys symbol) e = e
+told-served (commands.Snapshot snap picks) e = e
+told-served (commands.DeleteSnapshot snap) e = e
+told-served commands.Symbols e = e
+told-served commands.Snapshots e = e
+told-served (commands.Read symbol as_of range columns) e = e
+
+-- nothing is told of a command that shares row blocks
+pub told-not : (command c : Command) → command ≡ c → is_told_alone c ≡ false → is_told_alone command ≡ true → ⊥
+told-not command c is untold told = true≢false (sym told ∙ (ap is_told_alone is ∙ untold))
 
 -- a legal step without events of others is one of a run alone
 pub step_alone : LegalAloneSteps → (client : Client) (settings : Settings) (before now : ℕ) (sole : Bool) (old new : History) (command : Command) (reply : Reply)
     → GoesOn client.session.client sole old new → IsLegalIn client before now old new command reply
-    → (GrowsAlone client.session.client old new → LaysOut (run_cutting settings.cutting) client.session command reply old new) → IsStepAlone settings client old new command reply
-step_alone theorem client settings before now sole old new command reply grown legal lays lawful own served whole =
-    theorem old new (run_cutting settings.cutting) client command reply true (grown.lawful lawful) own (legal true (λ rose. refl)) served whole (lays own)
+    → (is_told_alone command ≡ true → GrowsAlone client.session.client old new → LaysOut (run_cutting settings.cutting) client.session command reply old new) → IsStepAlone settings client old new command reply
+step_alone theorem client settings before now sole old new command reply grown legal lays lawful own told whole =
+    theorem old new (run_cutting settings.cutting) client command reply true (grown.lawful lawful) own (legal true (λ rose. refl)) (told-served command told) whole (lays told own)
 
 -- what is said of the one command is said of the other
 lays_as : (settings : Settings) (s : Session) (old new : History) (command c : Command) (reply : Reply) → command ≡ c → LaysOut (run_cutting settings.cutting) s c reply old new → LaysOut (run_cutting settings.cutting) s command reply old new
@@ -72,13 +107,13 @@ none_lays settings s old new command c reply is none = lays_as settings s old ne
 
 -- how the write is laid out
 pub write_lays : (frames : List RawFrame) (settings : Settings) (number limit : ℕ) (old new : History) (command : Command) (reply : Reply) (symbol : Name) (n : ℕ) (at : Option ℤ) (prune : Bool) (options : Options) (raw : RawFrame)
-    → command ≡ commands.Write symbol n at prune → options ≡ options_of settings at prune → IsNamed (length frames) command → raw ≡ slice_index_or frames n raw
+    → command ≡ commands.Write symbol n at prune → options ≡ options_of settings at prune → slice_get frames n ≡ Some raw
     → StandsBehindPuts symbol (table_of raw) options.cutting old new reply → LaysOut (run_cutting settings.cutting) (client_of frames settings number limit).session command reply old new
-write_lays frames settings number limit old new command reply symbol n at prune options raw is chosen named got stands =
+write_lays frames settings number limit old new command reply symbol n at prune options raw is chosen got stands =
     lays_as settings (client_of frames settings number limit).session old new command (commands.Write symbol n at prune) reply is
     (write_lays_out (run_cutting settings.cutting) (client_of frames settings number limit).session symbol n at prune reply old new (λ whole brought went.
       of_grid whole (subst (λ o. StandsBehindPuts symbol (table_of raw) o.cutting old new reply) chosen stands whole
-      (made whole (frame_of_table (table_of raw)) (sym (ap (option_map frame_of_table) (frame_there frames n raw (subst (IsNamed (length frames)) is named) got)) ∙ brought)) went)))
+      (made whole (frame_of_table (table_of raw)) (sym (ap (option_map frame_of_table) (frame_there frames n raw got)) ∙ brought)) went)))
   where
     made : (whole : Frame) (r : Result Frame Refusal) → Some r ≡ Some (Ok whole) → r ≡ Ok whole
     made whole r e = cc

@@ -1,6 +1,6 @@
--- The replies of a write of raw columns are legal.
+-- The replies of commands that make a version are legal.
 use Rattle.std.proofs.Common.{◌≡◌, ℕ, ℤ, Bool, true, List, [], refl, sym, ap, ◌∙◌, subst, inl, Option, Some, None, Result, Ok, Err, length, arith}
-use Rattle.std.specs.Prelude.{option_map, slice_get}
+use Rattle.std.specs.Prelude.{option_map, IfOk}
 use Rattle.frame_core.specs.declared.refusal.Extent.{Extent}
 use Rattle.frame_core.specs.declared.refusal.Refusal.{Refusal}
 use Rattle.frame_core.specs.declared.refusal.Refusal.TheVariants as refusals
@@ -10,22 +10,27 @@ use Rattle.frame_core.specs.Frames.{Frame}
 use Rattle.frame_core.specs.Limits.{refuse_large}
 use Rattle.frame_core.specs.RawFrames.{Table, frame_of_table, table_frame, table_too_large, bad_column, bad_row, unless}
 use Rattle.key_kind.specs.Names.{Name}
-use Rattle.bucket_core.specs.History.{History, history_at}
+use Rattle.frame_core.specs.Ranges.{Range}
+use Rattle.bucket_core.specs.History.{History}
 use Rattle.bucket_core.specs.declared.event.Change.TheVariants as changes
-use Rattle.store_model.specs.Library.{state_of}
 use Rattle.version_chain.proofs.Walked.{looks_none}
+use Rattle.expr_clause.specs.declared.command.Command.{Command}
 use Rattle.expr_clause.specs.declared.command.Command.TheVariants as commands
 use Rattle.reply_model.specs.declared.outcome.Outcome.TheVariants as outcomes
-use Rattle.reply_model.specs.Answering.{Session, Answer, ◌then◌, answered, committed, stamp_of}
-use Rattle.reply_model.specs.Legal.{IsLegalOutcome}
+use Rattle.reply_model.specs.declared.reply.Reply.{Reply}
+use Rattle.reply_model.specs.Answering.{Session, Answer, ◌then◌, answered, refused, committed, stamp_of, frame_of, with_frame}
+use Rattle.reply_model.specs.CommitAnswers.{append_answer, update_answer}
+use Rattle.reply_model.specs.Windows.{Window, Client, library_at}
+use Rattle.reply_model.specs.Rows.{IsAnswer}
+use Rattle.reply_model.specs.Legal.{IsLegalRefusal, IsLegalOutcome}
 use Rattle.frame_write.specs.declared.options.Committed.{Committed}
-use Rattle.frame_write.specs.Writes.{StandsAlone, IsGridLinked, reply_to, IsLegalWrite}
-use Rattle.library_api.specs.Steps.{plain_reply, reply_with}
+use Rattle.frame_write.specs.Writes.{Brings, StandsAlone, IsGridLinked, reply_to, IsLegalCall}
+use Rattle.library_api.specs.Steps.{is_carried_out, plain_reply, refusal_reply}
 use Rattle.segment_cut.specs.Cuttings.{Cutting}
 use Rattle.segment_cut.specs.Grids.{parts, grid_of}
 use Rattle.std.proofs.lemmas.Bool.{true≢false}
-use Rattle.library_api.specs.Frames.{BringsTable, IsLegalWriteOf, IsWrittenAlone, StandsBehindPuts}
-use Rattle.library_api.proofs.NoEvents.{served_has_none, legal_without_events}
+use Rattle.library_api.specs.Frames.{BringsTable, IsLegalForTable, IsLegalWithStamp, RefusesTable, IsWrittenAlone, StandsBehindPuts}
+use Rattle.library_api.proofs.NoEvents.{served_has_none, legal_without_events, wants_memory}
 
 -- ---- what a frame is refused for
 
@@ -47,70 +52,107 @@ pub table_refusal : (t : Table) (why : Refusal) → frame_of_table t ≡ Err why
     → (P : Refusal → Type 0) → ((what : Extent) (limit : ℕ) → P (refusals.TooLarge what limit)) → ((n : ℕ) → P (refusals.SchemaDiffers n)) → ((n : ℕ) → P (refusals.Unsorted n)) → P why
 table_refusal t why e = first_refusal (table_too_large t) (bad_column 1 (length t.stamps) [] t.names t.columns) (bad_row 1 t.stamps) (table_frame t) why e
 
-module _ (limit number tries : ℕ) (symbol : Name) (table : Table) (at : ℤ) (prune : Bool) (before now : ℕ) where
+-- ---- commands that bring a frame
+
+-- a command that brings a frame answers as its frame is refused, and such a refusal is legal where it is the answer
+pub record TakesFrame (command : ℕ → Option ℤ → Command) : Type 0 where
+  pub carried : (n : ℕ) (asked : Option ℤ) → is_carried_out (command n asked) ≡ true
+  pub answers : (h : History) (client : Client) (n : ℕ) (asked : Option ℤ) (place : ℕ) (why : Refusal) → frame_of client.session n ≡ Some (Err why) → IsAnswer h client (command n asked) (plain_reply place (outcomes.Refused why))
+  pub large : (h : History) (client : Client) (n : ℕ) (asked : Option ℤ) (reply : Reply) (w : Window) (what : Extent) (most : ℕ) → IsAnswer h client (command n asked) reply → IsLegalRefusal h client (command n asked) reply w (refusals.TooLarge what most)
+  pub differs : (h : History) (client : Client) (n : ℕ) (asked : Option ℤ) (reply : Reply) (w : Window) (column : ℕ) → IsAnswer h client (command n asked) reply → IsLegalRefusal h client (command n asked) reply w (refusals.SchemaDiffers column)
+  pub falls : (h : History) (client : Client) (n : ℕ) (asked : Option ℤ) (reply : Reply) (w : Window) (row : ℕ) → IsAnswer h client (command n asked) reply → IsLegalRefusal h client (command n asked) reply w (refusals.Unsorted row)
+
+-- what goes on with a frame is refused as the frame is
+as_refused : (s : Session) (n : ℕ) (why : Refusal) (next : Frame → Result Answer Refusal) → frame_of s n ≡ Some (Err why) → with_frame s n next ≡ Some (refused why)
+as_refused s n why next e = ap (option_map (λ (frame : Result Frame Refusal). answered (frame then next))) e
+
+pub write_takes : (symbol : Name) (prune : Bool) → TakesFrame (λ n asked. commands.Write symbol n asked prune)
+write_takes symbol prune = record {
+  carried = λ n asked. refl;
+  answers = λ h client n asked place why e. inl (as_refused client.session n why (λ f. Ok (committed ((library_at h place).state symbol) prune (changes.Wrote f (stamp_of client.session asked)))) e, refl);
+  large = λ h client n asked reply w what most is. is;
+  differs = λ h client n asked reply w column is. is;
+  falls = λ h client n asked reply w row is. is;
+}
+
+pub append_takes : (symbol : Name) (prune : Bool) → TakesFrame (λ n asked. commands.Append symbol n asked prune)
+append_takes symbol prune = record {
+  carried = λ n asked. refl;
+  answers = λ h client n asked place why e. inl (as_refused client.session n why (λ f. append_answer ((library_at h place).state symbol) prune (stamp_of client.session asked) f) e, refl);
+  large = λ h client n asked reply w what most is. is;
+  differs = λ h client n asked reply w column is. is;
+  falls = λ h client n asked reply w row is. is;
+}
+
+pub update_takes : (symbol : Name) (range : Option Range) (upsert prune : Bool) → TakesFrame (λ n asked. commands.Update symbol n range upsert asked prune)
+update_takes symbol range upsert prune = record {
+  carried = λ n asked. refl;
+  answers = λ h client n asked place why e. inl (as_refused client.session n why (λ f. update_answer ((library_at h place).state symbol) upsert prune (stamp_of client.session asked) range f) e, refl);
+  large = λ h client n asked reply w what most is. is;
+  differs = λ h client n asked reply w column is. is;
+  falls = λ h client n asked reply w row is. is;
+}
+
+module _ (command : ℕ → Option ℤ → Command) (limit number tries : ℕ) (table : Table) (at : ℤ) (before now : ℕ) where
   -- ---- refused before any call
 
-  module _ (old : History) (place : ℕ) (here : place ≡ length old) where
-    untried : (why : Refusal) → ((s : Session) (n : ℕ) (asked : Option ℤ) (faulted : Bool) → BringsTable s number tries n table asked at
-        → IsLegalOutcome old (record { session = s; limit = limit }) (commands.Write symbol n asked prune) (plain_reply place (outcomes.Refused why)) (record { start = length old; stop = length old; faulted = faulted }) (outcomes.Refused why))
-        → IsLegalWriteOf limit number tries symbol table at prune before now old old (plain_reply place (outcomes.Refused why))
+  module _ (takes : TakesFrame command) (old : History) (place : ℕ) (here : place ≡ length old) where
+    untried : (why : Refusal) → ((client : Client) (w : Window) (n : ℕ) (asked : Option ℤ) → frame_of client.session n ≡ option_map frame_of_table (Some table)
+        → IsLegalRefusal old client (command n asked) (plain_reply place (outcomes.Refused why)) w why)
+        → IsLegalForTable limit number tries table at command before now old old (plain_reply place (outcomes.Refused why))
     untried why clause s n asked brings faulted rose =
-        let has = served_has_none (commands.Write symbol n asked prune) refl in
-        legal_without_events (record { session = s; limit = limit }) (commands.Write symbol n asked prune) (plain_reply place (outcomes.Refused why)) old old faulted has true (looks_none s.client true old)
+        let has = served_has_none (command n asked) (takes.carried n asked) in
+        let w : Window = record { start = length old; stop = length old; faulted = faulted } in
+        legal_without_events (record { session = s; limit = limit }) (command n asked) (plain_reply place (outcomes.Refused why)) old old faulted has true (looks_none s.client true old)
         refl refl refl (record { from = omega (arith, here); to = omega (arith, here) })
-        (λ cut. has.own old s (record { start = length old; stop = length old; faulted = faulted }) (plain_reply place (outcomes.Refused why)))
-        (clause s n asked faulted brings)
+        (λ cut. has.own old s w (plain_reply place (outcomes.Refused why)))
+        (clause (record { session = s; limit = limit }) w n asked (ap (option_map frame_of_table) brings.table_is))
 
-    pub write_wants_memory : IsLegalWriteOf limit number tries symbol table at prune before now old old (plain_reply place (outcomes.Refused refusals.NoMemory))
-    write_wants_memory = untried refusals.NoMemory (λ s n asked faulted brings. tt)
+    wants_room : IsLegalForTable limit number tries table at command before now old old (plain_reply place (outcomes.Refused refusals.NoMemory))
+    wants_room = untried refusals.NoMemory (λ client w n asked brings. tt)
 
-    -- what the library answers to a frame that is refused
-    refused_answer : (why : Refusal) → frame_of_table table ≡ Err why → (s : Session) (n : ℕ) (asked : Option ℤ) → BringsTable s number tries n table asked at → (next : Frame → Result Answer Refusal)
-        → option_map (λ frame. answered (frame then next)) (option_map frame_of_table (slice_get s.frames n)) ≡ Some (record { outcome = outcomes.Refused why; marks = [] })
-    refused_answer why refuses s n asked brings next =
-        ap (λ o. option_map (λ frame. answered (frame then next)) (option_map frame_of_table o)) brings.table_is ∙ ap (λ r. Some (answered (r then next))) refuses
-
-    abbrev next : Session → Option ℤ → Frame → Result Answer Refusal
-    next s asked f = Ok (committed (state_of (history_at old place) symbol) prune (changes.Wrote f (stamp_of s asked)))
-
-    pub write_refused_legal : (why : Refusal) → frame_of_table table ≡ Err why → IsLegalWriteOf limit number tries symbol table at prune before now old old (plain_reply place (outcomes.Refused why))
-    write_refused_legal why refuses =
-        table_refusal table why refuses (λ r. frame_of_table table ≡ Err r → IsLegalWriteOf limit number tries symbol table at prune before now old old (plain_reply place (outcomes.Refused r)))
-        (λ what limit e. untried (refusals.TooLarge what limit) (λ s n asked faulted brings. inl (refused_answer (refusals.TooLarge what limit) e s n asked brings (next s asked), refl)))
-        (λ column e. untried (refusals.SchemaDiffers column) (λ s n asked faulted brings. inl (refused_answer (refusals.SchemaDiffers column) e s n asked brings (next s asked), refl)))
-        (λ row e. untried (refusals.Unsorted row) (λ s n asked faulted brings. inl (refused_answer (refusals.Unsorted row) e s n asked brings (next s asked), refl)))
+    refused_frame : (why : Refusal) → frame_of_table table ≡ Err why → IsLegalForTable limit number tries table at command before now old old (plain_reply place (outcomes.Refused why))
+    refused_frame why refuses =
+        table_refusal table why refuses (λ r. frame_of_table table ≡ Err r → IsLegalForTable limit number tries table at command before now old old (plain_reply place (outcomes.Refused r)))
+        (λ what most e. untried (refusals.TooLarge what most) (λ client w n asked brings.
+        takes.large old client n asked (plain_reply place (outcomes.Refused (refusals.TooLarge what most))) w what most (takes.answers old client n asked place (refusals.TooLarge what most) (brings ∙ ap Some e))))
+        (λ column e. untried (refusals.SchemaDiffers column) (λ client w n asked brings.
+        takes.differs old client n asked (plain_reply place (outcomes.Refused (refusals.SchemaDiffers column))) w column (takes.answers old client n asked place (refusals.SchemaDiffers column) (brings ∙ ap Some e))))
+        (λ row e. untried (refusals.Unsorted row) (λ client w n asked brings.
+        takes.falls old client n asked (plain_reply place (outcomes.Refused (refusals.Unsorted row))) w row (takes.answers old client n asked place (refusals.Unsorted row) (brings ∙ ap Some e))))
         refuses
 
     -- what the making of the frame answers
-    pub write_unmade_legal : (why : Refusal) → Answers (Err why) (frame_of_table table) → IsLegalWriteOf limit number tries symbol table at prune before now old old (plain_reply place (outcomes.Refused why))
-    write_unmade_legal refusals.NoMemory e = write_wants_memory
-    write_unmade_legal refusals.StoreFault e = write_refused_legal refusals.StoreFault e
-    write_unmade_legal refusals.NoSuchSymbol e = write_refused_legal refusals.NoSuchSymbol e
-    write_unmade_legal (refusals.NoSuchVersion asked) e = write_refused_legal (refusals.NoSuchVersion asked) e
-    write_unmade_legal (refusals.VersionGone version) e = write_refused_legal (refusals.VersionGone version) e
-    write_unmade_legal (refusals.Moved at) e = write_refused_legal (refusals.Moved at) e
-    write_unmade_legal (refusals.Unsorted row) e = write_refused_legal (refusals.Unsorted row) e
-    write_unmade_legal (refusals.SchemaDiffers column) e = write_refused_legal (refusals.SchemaDiffers column) e
-    write_unmade_legal (refusals.AppendBefore last first) e = write_refused_legal (refusals.AppendBefore last first) e
-    write_unmade_legal (refusals.OutsideRange row) e = write_refused_legal (refusals.OutsideRange row) e
-    write_unmade_legal refusals.EmptyUpdate e = write_refused_legal refusals.EmptyUpdate e
-    write_unmade_legal (refusals.NoSuchColumn clause position) e = write_refused_legal (refusals.NoSuchColumn clause position) e
-    write_unmade_legal (refusals.TypeMismatch clause) e = write_refused_legal (refusals.TypeMismatch clause) e
-    write_unmade_legal (refusals.Overflow clause row) e = write_refused_legal (refusals.Overflow clause row) e
-    write_unmade_legal (refusals.GroupOverflow clause group) e = write_refused_legal (refusals.GroupOverflow clause group) e
-    write_unmade_legal (refusals.NotTimeIndexed clause) e = write_refused_legal (refusals.NotTimeIndexed clause) e
-    write_unmade_legal refusals.SnapshotExists e = write_refused_legal refusals.SnapshotExists e
-    write_unmade_legal refusals.NoSuchSnapshot e = write_refused_legal refusals.NoSuchSnapshot e
-    write_unmade_legal refusals.NoStaged e = write_refused_legal refusals.NoStaged e
-    write_unmade_legal (refusals.StagedOverlap piece) e = write_refused_legal (refusals.StagedOverlap piece) e
-    write_unmade_legal (refusals.Spent count) e = write_refused_legal (refusals.Spent count) e
-    write_unmade_legal (refusals.TooLarge what most) e = write_refused_legal (refusals.TooLarge what most) e
+    unmade : (why : Refusal) → Answers (Err why) (frame_of_table table) → IsLegalForTable limit number tries table at command before now old old (plain_reply place (outcomes.Refused why))
+    unmade refusals.NoMemory e = wants_room
+    unmade refusals.StoreFault e = refused_frame refusals.StoreFault e
+    unmade refusals.NoSuchSymbol e = refused_frame refusals.NoSuchSymbol e
+    unmade (refusals.NoSuchVersion asked) e = refused_frame (refusals.NoSuchVersion asked) e
+    unmade (refusals.VersionGone version) e = refused_frame (refusals.VersionGone version) e
+    unmade (refusals.Moved at) e = refused_frame (refusals.Moved at) e
+    unmade (refusals.Unsorted row) e = refused_frame (refusals.Unsorted row) e
+    unmade (refusals.SchemaDiffers column) e = refused_frame (refusals.SchemaDiffers column) e
+    unmade (refusals.AppendBefore last first) e = refused_frame (refusals.AppendBefore last first) e
+    unmade (refusals.OutsideRange row) e = refused_frame (refusals.OutsideRange row) e
+    unmade refusals.EmptyUpdate e = refused_frame refusals.EmptyUpdate e
+    unmade (refusals.NoSuchColumn clause position) e = refused_frame (refusals.NoSuchColumn clause position) e
+    unmade (refusals.TypeMismatch clause) e = refused_frame (refusals.TypeMismatch clause) e
+    unmade (refusals.Overflow clause row) e = refused_frame (refusals.Overflow clause row) e
+    unmade (refusals.GroupOverflow clause group) e = refused_frame (refusals.GroupOverflow clause group) e
+    unmade (refusals.NotTimeIndexed clause) e = refused_frame (refusals.NotTimeIndexed clause) e
+    unmade refusals.SnapshotExists e = refused_frame refusals.SnapshotExists e
+    unmade refusals.NoSuchSnapshot e = refused_frame refusals.NoSuchSnapshot e
+    unmade refusals.NoStaged e = refused_frame refusals.NoStaged e
+    unmade (refusals.StagedOverlap piece) e = refused_frame (refusals.StagedOverlap piece) e
+    unmade (refusals.Spent count) e = refused_frame (refusals.Spent count) e
+    unmade (refusals.TooLarge what most) e = refused_frame (refusals.TooLarge what most) e
 
   -- ---- tried
 
-  pub write_tried_legal : (old new : History) (frame : Frame) (result : Result Committed Refused) → frame_of_table table ≡ Ok frame
-      → IsLegalWrite limit number tries symbol frame at prune before now old new result → IsLegalWriteOf limit number tries symbol table at prune before now old new (reply_to result)
-  write_tried_legal old new frame result is legal s n asked brings faulted rose =
+  pub tried_legal : (old new : History) (frame : Frame) (result : Result Committed Refused) → frame_of_table table ≡ Ok frame
+      → ((s : Session) (n : ℕ) (asked : Option ℤ) → Brings s number tries n frame asked at → IsLegalCall s (command n asked) limit before now old new result)
+      → IsLegalForTable limit number tries table at command before now old new (reply_to result)
+  tried_legal old new frame result is legal s n asked brings faulted rose =
       legal s n asked (record {
         client_is = brings.client_is;
         tries_are = brings.tries_are;
@@ -118,15 +160,27 @@ module _ (limit number tries : ℕ) (symbol : Name) (table : Table) (at : ℤ) (
         stamp_is = brings.stamp_is;
       }) faulted rose
 
+-- a refusal before any call
+pub unmade_legal : (command : ℕ → Option ℤ → Command) → TakesFrame command → (limit number tries : ℕ) (table : Table) (at : ℤ) (faults : ℕ) (old : History) (place : ℕ) (refused : Refused) → place ≡ length old → RefusesTable table place refused
+    → IsLegalForTable limit number tries table at command faults faults old old (refusal_reply refused)
+unmade_legal command takes limit number tries table at faults old place refused here is =
+    unmade command limit number tries table at faults faults takes old refused.place (is.place_is ∙ here) refused.why is.why
+
+-- a command without a frame wants memory
+pub stamp_wants_memory : (command : Option ℤ → Command) → ((asked : Option ℤ) → is_carried_out (command asked) ≡ true) → (limit number tries : ℕ) (at : ℤ) (faults : ℕ) (old : History) (place : ℕ) → place ≡ length old
+    → IsLegalWithStamp limit number tries at command faults faults old old (plain_reply place (outcomes.Refused refusals.NoMemory))
+stamp_wants_memory command carried limit number tries at faults old place here s asked runs = wants_memory (record { session = s; limit = limit }) (command asked) (carried asked) faults faults old place here
+
 -- ---- the place, where nobody else makes events
 
 same_frame : (a b : Frame) → ◌≡◌ {A = Result Frame Refusal} (Ok a) (Ok b) → a ≡ b
 same_frame a b e = cc
 
-pub refused_stands : (symbol : Name) (table : Table) (cutting : Cutting) (old new : History) (place : ℕ) (why : Refusal) → StandsBehindPuts symbol table cutting old new (plain_reply place (outcomes.Refused why))
-refused_stands symbol table cutting old new place why whole is done = absurd (true≢false done)
+pub refused_stands : (symbol : Name) (table : Table) (cutting : Cutting) (old new : History) (refused : Refused) → StandsBehindPuts symbol table cutting old new (refusal_reply refused)
+refused_stands symbol table cutting old new refused whole is done = absurd (true≢false done)
 
-pub done_stands : (symbol : Name) (table : Table) (cutting : Cutting) (old new : History) (frame : Frame) (done : Committed) (commits : List ℕ) → frame_of_table table ≡ Ok frame
-    → StandsAlone (length (parts (grid_of frame cutting))) old done → IsGridLinked new symbol frame cutting → StandsBehindPuts symbol table cutting old new (reply_with done.place commits (outcomes.Committed done.version))
-done_stands symbol table cutting old new frame done commits made stands linked whole is went =
+pub result_stands : (symbol : Name) (table : Table) (cutting : Cutting) (old new : History) (frame : Frame) (result : Result Committed Refused) → frame_of_table table ≡ Ok frame
+    → IfOk result (StandsAlone (length (parts (grid_of frame cutting))) old) → IfOk result (λ done. IsGridLinked new symbol frame cutting) → StandsBehindPuts symbol table cutting old new (reply_to result)
+result_stands symbol table cutting old new frame (Ok done) made stands linked whole is went =
     subst (λ f. IsWrittenAlone symbol f cutting old new done.place) (same_frame frame whole (sym made ∙ is)) (record { stands = omega (arith, stands); linked = linked })
+result_stands symbol table cutting old new frame (Err refused) made stands linked whole is went = refused_stands symbol table cutting old new refused whole is went

@@ -6,7 +6,8 @@
 --     IsLegalIn           a reply is legal for the window that a step added
 --     IsLegalForAll       it is legal whatever else the client's session brings
 --     IsLegalWithTries    it is legal whatever the session brings beside its tries
---     run_cutting, IsStepAlone      where nobody else makes events a step is that of one client alone
+--     run_cutting         the cutting of the settings
+--     is_told_alone, IsStepAlone      where nobody else makes events a step is that of one client alone, for the commands of which that is told
 use Rattle.std.specs.Prelude.{◌≡◌, ℕ, ◌<◌, Bool, true, false, List, [], map, length, Option, Some, None, IfSome}
 use Rattle.base_types.specs.Faults.{Rose}
 use Rattle.frame_core.specs.declared.raw.RawFrame.{RawFrame}
@@ -32,8 +33,12 @@ use Rattle.library_api.specs.declared.settings.Settings.{Settings}
 -- a command that a step carries out
 abbrev pub is_carried_out : Command → Bool
 is_carried_out (commands.Write symbol frame at prune) = true
+is_carried_out (commands.Append symbol frame at prune) = true
+is_carried_out (commands.Update symbol frame range upsert at prune) = true
+is_carried_out (commands.DeleteRange symbol range at prune) = true
 is_carried_out (commands.Delete symbol versions) = true
 is_carried_out (commands.Prune symbol) = true
+is_carried_out (commands.Reclaim symbol) = true
 is_carried_out (commands.Versions symbol) = true
 is_carried_out (commands.Keys symbol) = true
 is_carried_out (commands.Read symbol as_of range columns) = true
@@ -91,8 +96,16 @@ IsLegalWithTries limit number tries before now old new command reply =
 abbrev pub run_cutting : Sizes → Cutting
 run_cutting c = record { rows = c.rows; columns = c.cols }
 
+-- the commands of which a step tells what one client alone gets: not those that share row blocks of the base, since how their versions are laid
+-- out is not told
+abbrev pub is_told_alone : Command → Bool
+is_told_alone (commands.Append symbol frame at prune) = false
+is_told_alone (commands.Update symbol frame range upsert at prune) = false
+is_told_alone (commands.DeleteRange symbol range at prune) = false
+is_told_alone command = is_served command
+
 -- behind a lawful history, and where nobody else makes events, the reply is the one that a run of this client alone gives, and the run then
--- stands as the new history: for the commands of which this is shown, want of memory, failures and a full store aside
+-- stands as the new history: for the commands of which this is told, want of memory, failures and a full store aside
 abbrev pub IsStepAlone : Settings → Client → History → History → Command → Reply → Type 0
 IsStepAlone settings client old new command reply =
-    IsLawful old → GrowsAlone client.session.client old new → is_served command ≡ true → is_cut reply.outcome ≡ false → IsStep (run_cutting settings.cutting) client.session command reply old new
+    IsLawful old → GrowsAlone client.session.client old new → is_told_alone command ≡ true → is_cut reply.outcome ≡ false → IsStep (run_cutting settings.cutting) client.session command reply old new

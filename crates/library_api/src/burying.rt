@@ -7,10 +7,9 @@ ghost use Rattle.version_chain.specs.Traces.{GoesOn};
 ghost use Rattle.library_api.specs.Steps.{reply_with, IsLegalWithTries};
 
 use crate::commit_place::CommitPlace;
-use crate::reply::{plain, refusal, with_commits};
+use crate::reply::{out_of_memory, plain, refusal, with_commits};
 use bucket_core::Bucket;
 use expr_clause::Command;
-use frame_core::{Refusal, Refused};
 use key_kind::Symbol;
 use prune_rule::{Buried, delete_versions};
 use reply_model::{Outcome, Reply};
@@ -82,15 +81,5 @@ fn buried(alloc: Global, commit: CommitPlace, done: &Buried, outcome: Outcome) -
     match done.commit {
         Some(place) => with_commits(alloc, done.place, commit.named(place), outcome),
         None => plain(alloc, done.place, outcome),
-    }
-}
-
-/// Want of memory, at a place.
-fn out_of_memory(place: u64) -> Refused
-    ensures { result ≡ record { place = place; why = Refusal.NoMemory } }
-{
-    Refused {
-        place,
-        why: Refusal::NoMemory,
     }
 }

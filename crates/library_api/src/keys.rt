@@ -62,7 +62,7 @@ fn counted(keys: &[Key]) -> Outcome
 }
 
 /// How many of these keys are of a kind.
-fn of_kind(keys: &[Key], kind: KeyKind) -> u64
+pub(crate) fn of_kind(keys: &[Key], kind: KeyKind) -> u64
     ensures { result ≡ count_by (λ k. same_kind k.kind kind) keys.now }
 {
     keys.iter().filter(|key| key.kind == kind).count() as u64

@@ -1,16 +1,20 @@
 //! The library of one client: each command of a client is carried out by one step.
 #![tactic(auto)]
 
+mod appending;
 mod burying;
 mod commit_place;
 mod keys;
 mod library;
+mod preparing;
 mod reading;
+mod reclaiming;
 mod reply;
 mod settings;
 mod step;
 #[cfg(test)]
 mod tests;
+mod updating;
 mod versions;
 mod writing;
 

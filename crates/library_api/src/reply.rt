@@ -4,7 +4,7 @@ ghost use Rattle.std.specs.Prelude.{◌≡◌};
 ghost use Rattle.library_api.specs.Steps.{reply_with, plain_reply, refusal_reply};
 
 use base_types::Items;
-use frame_core::Refused;
+use frame_core::{Refusal, Refused};
 use reply_model::{Outcome, Reply};
 use std::alloc::Global;
 
@@ -38,4 +38,14 @@ pub(crate) fn refusal(alloc: Global, refused: Refused) -> Reply
     ensures { result ≡ refusal_reply refused }
 {
     plain(alloc, refused.place, Outcome::Refused { why: refused.why })
+}
+
+/// Want of memory, at a place.
+pub(crate) fn out_of_memory(place: u64) -> Refused
+    ensures { result ≡ record { place = place; why = Refusal.NoMemory } }
+{
+    Refused {
+        place,
+        why: Refusal::NoMemory,
+    }
 }

@@ -1,16 +1,19 @@
 //! One command, by its kind.
 
-ghost use Rattle.std.specs.Prelude.{◌≡◌, true, length, option_copied};
+ghost use Rattle.std.specs.Prelude.{◌≡◌, ◌<◌, true, Some, length, slice_get, option_copied};
 ghost use Rattle.bucket_core.specs.Calls.{IsSteady};
 ghost use Rattle.version_chain.specs.Traces.{GoesOn};
 ghost use Rattle.reply_model.specs.Standing.{GrowsAlone, LaysOut};
 ghost use Rattle.library_api.specs.Libraries.{AreSettings};
-ghost use Rattle.library_api.specs.Steps.{is_carried_out, IsNamed, client_of, IsLegalIn, run_cutting};
+ghost use Rattle.library_api.specs.Steps.{is_carried_out, is_told_alone, IsNamed, client_of, IsLegalIn, run_cutting};
 
+use crate::appending::append;
 use crate::burying::{delete, prune};
 use crate::keys::keys;
 use crate::reading::read;
+use crate::reclaiming::reclaim;
 use crate::settings::Settings;
+use crate::updating::{delete_range, update};
 use crate::versions::versions;
 use crate::writing::write;
 use base_types::Items;
@@ -38,7 +41,7 @@ pub(crate) fn perform<R: Wait, B: Bucket<StoreLaw>>(
     ensures grown { GoesOn (B.number bucket.old) (B.sole bucket.old) (B.seen bucket.old) (B.seen bucket.new) }
     ensures legal { IsLegalIn (client_of frames.now settings (B.number bucket.old) (B.limit bucket.old)) (B.faults bucket.old) (B.faults bucket.new) (B.seen bucket.old) (B.seen bucket.new) command.now result }
     // Where nobody else makes events, it is known how a write is laid out.
-    ensures lays { GrowsAlone (B.number bucket.old) (B.seen bucket.old) (B.seen bucket.new) → LaysOut (run_cutting settings.cutting) (client_of frames.now settings (B.number bucket.old) (B.limit bucket.old)).session command.now result (B.seen bucket.old) (B.seen bucket.new) }
+    ensures lays { is_told_alone command.now ≡ true → GrowsAlone (B.number bucket.old) (B.seen bucket.old) (B.seen bucket.new) → LaysOut (run_cutting settings.cutting) (client_of frames.now settings (B.number bucket.old) (B.limit bucket.old)).session command.now result (B.seen bucket.old) (B.seen bucket.new) }
 {
     match command {
         Command::Write {
@@ -48,14 +51,39 @@ pub(crate) fn perform<R: Wait, B: Bucket<StoreLaw>>(
             prune,
         } => {
             let options = settings.options(*at, *prune);
-            write(
-                rt,
-                alloc,
-                bucket,
-                symbol,
-                &frames[*frame as usize],
-                &options,
-            )
+            let raw = frame_at(frames, *frame);
+            write(rt, alloc, bucket, symbol, raw, &options)
+        }
+        Command::Append {
+            symbol,
+            frame,
+            at,
+            prune,
+        } => {
+            let options = settings.options(*at, *prune);
+            let raw = frame_at(frames, *frame);
+            append(rt, alloc, bucket, symbol, raw, &options)
+        }
+        Command::Update {
+            symbol,
+            frame,
+            range,
+            upsert,
+            at,
+            prune,
+        } => {
+            let options = settings.options(*at, *prune);
+            let raw = frame_at(frames, *frame);
+            update(rt, alloc, bucket, symbol, raw, *range, *upsert, &options)
+        }
+        Command::DeleteRange {
+            symbol,
+            range,
+            at,
+            prune,
+        } => {
+            let options = settings.options(*at, *prune);
+            delete_range(rt, alloc, bucket, symbol, *range, &options)
         }
         Command::Read {
             symbol,
@@ -69,6 +97,7 @@ pub(crate) fn perform<R: Wait, B: Bucket<StoreLaw>>(
             delete(rt, alloc, bucket, symbol, lent(versions), settings.tries)
         }
         Command::Prune { symbol } => prune(rt, alloc, bucket, symbol, settings.tries),
+        Command::Reclaim { symbol } => reclaim(rt, alloc, bucket, symbol, settings.tries),
         _ => unreachable!(),
     }
 }
@@ -80,12 +109,24 @@ pub fn is_carried_out(command: &Command) -> bool
     matches!(
         command,
         Command::Write { .. }
+            | Command::Append { .. }
+            | Command::Update { .. }
+            | Command::DeleteRange { .. }
             | Command::Delete { .. }
             | Command::Prune { .. }
+            | Command::Reclaim { .. }
             | Command::Versions { .. }
             | Command::Keys { .. }
             | Command::Read { .. }
     )
+}
+
+/// The frame of this number, counted from 0.
+fn frame_at(frames: &[RawFrame], number: u64) -> &RawFrame
+    requires { number < length frames.now }
+    ensures { slice_get frames.now number ≡ Some result.now }
+{
+    &frames[number as usize]
 }
 
 /// The items, lent.

@@ -5,16 +5,16 @@ ghost use Rattle.frame_core.specs.RawFrames.{table_of};
 ghost use Rattle.bucket_core.specs.Calls.{IsSteady};
 ghost use Rattle.version_chain.specs.Traces.{GoesOn};
 ghost use Rattle.reply_model.specs.Standing.{GrowsAlone};
-ghost use Rattle.library_api.specs.Frames.{IsLegalWriteOf, StandsBehindPuts};
+ghost use Rattle.library_api.specs.Frames.{IsLegalForTable, StandsBehindPuts};
 
-use crate::commit_place::CommitPlace;
-use crate::reply::{refusal, with_commits};
-use base_types::NoMemory;
+use crate::preparing::{committed, prepare};
+use crate::reply::refusal;
 use bucket_core::Bucket;
-use frame_core::{Frame, RawFrame, Refusal, Refused};
+use expr_clause::Command;
+use frame_core::RawFrame;
 use frame_write::{Options, write_link};
 use key_kind::Symbol;
-use reply_model::{Outcome, Reply};
+use reply_model::Reply;
 use std::alloc::Global;
 use std::sync::Wait;
 use version_chain::StoreLaw;
@@ -33,33 +33,15 @@ pub(crate) fn write<R: Wait, B: Bucket<StoreLaw>>(
     requires few_tries { options.now.tries ≤ 1000 }
     ensures steady { IsSteady B.number B.limit B.faults B.sole bucket.old bucket.new }
     ensures grown { GoesOn (B.number bucket.old) (B.sole bucket.old) (B.seen bucket.old) (B.seen bucket.new) }
-    ensures legal { IsLegalWriteOf (B.limit bucket.old) (B.number bucket.old) options.now.tries symbol.now (table_of raw.now) options.now.at options.now.prune (B.faults bucket.old) (B.faults bucket.new) (B.seen bucket.old) (B.seen bucket.new) result }
+    ensures legal { IsLegalForTable (B.limit bucket.old) (B.number bucket.old) options.now.tries (table_of raw.now) options.now.at (λ n asked. Command.Write symbol.now n asked options.now.prune) (B.faults bucket.old) (B.faults bucket.new) (B.seen bucket.old) (B.seen bucket.new) result }
     // Where nobody else makes events, the place and the tiles are known.
     ensures lays { GrowsAlone (B.number bucket.old) (B.seen bucket.old) (B.seen bucket.new) → StandsBehindPuts symbol.now (table_of raw.now) options.now.cutting (B.seen bucket.old) (B.seen bucket.new) result }
 {
-    let place = bucket.place();
-    let frame = match Frame::make(alloc, raw) {
-        Ok(frame) => frame,
-        Err(why) => return refusal(alloc, Refused { place, why }),
-    };
-    let Ok(commit) = CommitPlace::new(alloc) else {
-        return refusal(
-            alloc,
-            Refused {
-                place,
-                why: Refusal::NoMemory,
-            },
-        );
-    };
-    match write_link(rt, alloc, bucket, symbol, &frame, options) {
-        Ok(done) => with_commits(
-            alloc,
-            done.place,
-            commit.named(done.place),
-            Outcome::Committed {
-                version: done.version,
-            },
-        ),
+    match prepare(alloc, bucket.place(), raw) {
+        Ok(prepared) => {
+            let done = write_link(rt, alloc, bucket, symbol, &prepared.frame, options);
+            committed(alloc, prepared.commit, done)
+        }
         Err(refused) => refusal(alloc, refused),
     }
 }

@@ -6,3 +6,4 @@ pub mod TurnLemmas
 pub mod WindowLemmas
 pub mod SeenLemmas
 pub mod LegalBurials
+pub mod ReclaimLemmas

@@ -1,3 +1,4 @@
 pub mod Burials
 pub mod Tries
 pub mod Replies
+pub mod Reclaims

@@ -1,0 +1,10 @@
+//! Appends and updates: a new version of a symbol that shares the tiles of its newest live version.
+#![tactic(auto)]
+
+mod appending;
+mod updating;
+
+pub use appending::append;
+pub use base_types::NoMemory;
+pub use frame_write::{Committed, Options};
+pub use updating::{delete_range, update};
