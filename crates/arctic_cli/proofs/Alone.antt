@@ -20,10 +20,8 @@ use Rattle.arctic_cli.specs.declared.stop.Stop.{Stop}
 use Rattle.arctic_cli.specs.Program.{Shelf, Job, Run, run_of, wants_memory, replies_status, run_from, run_alone, prepared}
 use Rattle.arctic_cli.specs.Causes.{Prepares}
 use Rattle.arctic_cli.specs.Performing.{AreUncut, AreServed}
-use Rattle.arctic_cli.specs.Endings.{Start, client_of, Performs, IsDue, Due, AllWritten, RunEnds, Ends, IsUnhindered, IsRun}
+use Rattle.arctic_cli.specs.Endings.{Start, client_of, Performs, IsDue, Due, AllWritten, RunEnds, Ends, HasServed, IsUnhindered, IsRun}
 use Rattle.arctic_cli.proofs.Told.{prepares-told}
-use Rattle.arctic_cli.proofs.Served.{found-served}
-use Rattle.program_edge.specs.Shelves.{Held}
 
 -- ---- replies that are not cut
 
@@ -128,10 +126,6 @@ plan-exact are_sole start (Err s) run moment told after status new reading empty
     some : Text → Option Text
     some t = Some t
 
--- the commands of what was prepared
-prepared-served : (holds : Held) (f0 f1 : ℕ) (words : List Text) (job : Job) → Prepares holds f0 f1 words (Ok job) → AreServed job.commands
-prepared-served holds f0 f1 words job p = subst (λ (x : Job). AreServed x.commands) (sym p.job_is) (found-served p.found.bytes p.script p.found.script_is)
-
 due-exact : (are_sole : RunsAreSole) (start : Start) (f0 f1 g0 g1 : ℕ) (held : Shelf) (told : Text) (moment : ℤ) (w0 w1 : Option Text) (status : ℕ) (new : History) → IsUnhindered start f0 f1 g0 g1 held told moment w0 new → (due : Due start f0 f1 new) →
     RunEnds due.run g0 g1 w0 w1 status → (status ≡ 6) ⊎ IsRun (run_alone moment held start.words) told w1 status
 due-exact are_sole start f0 f1 g0 g1 held told moment w0 w1 status new u due (inr (inl p)) = absurd (u.output_works p.1)
@@ -139,7 +133,7 @@ due-exact are_sole start f0 f1 g0 g1 held told moment w0 w1 status new u due (in
 due-exact are_sole start f0 f1 g0 g1 held told moment w0 w1 status new u due (inl w) =
     let made : prepared held start.words ≡ due.plan = prepares-told held f0 f1 start.words due.plan u.shelf_works (subst (λ h. Prepares h f0 f1 start.words due.plan) u.tells due.prepares) in
     subst (λ (x : Result Job Stop). (status ≡ 6) ⊎ IsRun (run_from moment x) told w1 status) (sym made)
-    (plan-exact are_sole start due.plan due.run moment told w1 status new u.reading u.empty u.first u.room (λ job is. prepared-served start.holds f0 f1 start.words job (subst (λ (x : Result Job Stop). Prepares start.holds f0 f1 start.words x) is due.prepares)) due.is_due (subst (λ (o : Option Text). AllWritten due.run o w1 status) u.written w))
+    (plan-exact are_sole start due.plan due.run moment told w1 status new u.reading u.empty u.first u.room (λ job is. subst (λ (x : Result Job Stop). HasServed x) (made ∙ is) u.served) due.is_due (subst (λ (o : Option Text). AllWritten due.run o w1 status) u.written w))
 
 -- where nothing hinders it, the run is that of one client alone, or memory was wanted
 pub exact : (are_sole : RunsAreSole) (start : Start) (f0 f1 g0 g1 : ℕ) (held : Shelf) (told : Text) (moment : ℤ) (w0 w1 : Option Text) (status : ℕ) (new : History) → IsUnhindered start f0 f1 g0 g1 held told moment w0 new →

@@ -9,5 +9,4 @@ pub mod Performing
 pub mod Running
 pub mod Ended
 pub mod Told
-pub mod Served
 pub mod Alone

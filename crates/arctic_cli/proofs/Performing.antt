@@ -13,7 +13,7 @@ use Rattle.expr_clause.specs.declared.command.Command.TheVariants as commands
 use Rattle.reply_model.specs.declared.reply.Reply.{Reply}
 use Rattle.reply_model.specs.Windows.{Window, Client, is_cut}
 use Rattle.reply_model.specs.Blocks.{Cutting}
-use Rattle.reply_model.specs.Standing.{GrowsAlone, is_served, IsStep, RunsGrow}
+use Rattle.reply_model.specs.Standing.{GrowsAlone, IsStep, RunsGrow}
 use Rattle.store_model.specs.Law.{IsLawful}
 use Rattle.reply_model.specs.Legal.{IsLegalSeen, IsLegalReply, LegalFrom}
 use Rattle.reply_model.specs.Runs.{Talk, Covers, AllCovered, is_covered, end_of}
@@ -21,7 +21,7 @@ use Rattle.reply_model.proofs.Later.{history_at_later}
 use Rattle.reply_model.proofs.Covering.{event_at_later}
 use Rattle.reply_model.proofs.AloneWindows.{AreBy, own_at}
 use Rattle.version_chain.specs.Traces.{GoesOn}
-use Rattle.library_api.specs.Steps.{is_carried_out, IsNamed, client_of, IsLegalIn}
+use Rattle.library_api.specs.Steps.{is_carried_out, is_told_alone, IsNamed, client_of, IsLegalIn}
 use Rattle.library_api.specs.declared.settings.Settings.{Settings}
 use Rattle.frame_core.specs.declared.raw.RawFrame.{RawFrame}
 use Rattle.script_lang.specs.Scripts.{IsLoaded}
@@ -153,7 +153,7 @@ added mid new = record { start = length mid; stop = length new; faulted = false 
 
 -- one command more, whose events were added to the history
 one_more : (cutting : Cutting) (grow : RunsGrow) (client : Client) (cs : List Command) (rs : List Reply) (c : Command) (r : Reply) (old mid new : History) → IsCarriedOut cutting client cs rs old mid → GoesOn client.session.client true mid new →
-    IsLegalReply new client c r (added mid new) → (IsLawful mid → is_served c ≡ true → is_cut r.outcome ≡ false → IsStep cutting client.session c r mid new) → IsCarriedOut cutting client (cs ++ c ∷ []) (rs ++ r ∷ []) old new
+    IsLegalReply new client c r (added mid new) → (IsLawful mid → is_told_alone c ≡ true → is_cut r.outcome ≡ false → IsStep cutting client.session c r mid new) → IsCarriedOut cutting client (cs ++ c ∷ []) (rs ++ r ∷ []) old new
 one_more cutting grow client cs rs c r old mid new x g legal stands = record {
   more = g.more ++ x.more;
   goes_on = g.is ∙ (ap (λ (h : History). g.more ++ h) x.goes_on ∙ sym (append_assoc g.more x.more old));
@@ -190,7 +190,7 @@ same_client frames s t m n k l e f g = ap (λ (x : Settings). client_of frames x
 
 -- one command more, unless a call of the store failed
 pub step_on : (cutting : Cutting) (grow : RunsGrow) (client : Client) (cs : List Command) (rs : List Reply) (c : Command) (r : Reply) (old mid new : History) (f0 f1 f2 : ℕ) (sole : Bool) → sole ≡ true → f0 ≤ f1 → f1 ≤ f2 →
-    IsCarriedOut cutting client cs rs old mid ⊎ Rose f0 f1 → GoesOn client.session.client sole mid new → IsLegalIn client f1 f2 mid new c r → (IsLawful mid → GrowsAlone client.session.client mid new → is_served c ≡ true → is_cut r.outcome ≡ false → IsStep cutting client.session c r mid new) → IsCarriedOut cutting client (cs ++ c ∷ []) (rs ++ r ∷ []) old new ⊎ Rose f0 f2
+    IsCarriedOut cutting client cs rs old mid ⊎ Rose f0 f1 → GoesOn client.session.client sole mid new → IsLegalIn client f1 f2 mid new c r → (IsLawful mid → GrowsAlone client.session.client mid new → is_told_alone c ≡ true → is_cut r.outcome ≡ false → IsStep cutting client.session c r mid new) → IsCarriedOut cutting client (cs ++ c ∷ []) (rs ++ r ∷ []) old new ⊎ Rose f0 f2
 step_on cutting grow client cs rs c r old mid new f0 f1 f2 sole alone le more (inr rose) g legal stands = let later : Rose f0 f2 = omega (arith, rose, more) in inr later
 step_on cutting grow client cs rs c r old mid new f0 f1 f2 sole alone le more (inl x) g legal stands = of (nat_le (min (f1 + 1) (2 ^ 64 - 1)) f2) refl
   where
@@ -205,7 +205,7 @@ step_on cutting grow client cs rs c r old mid new f0 f1 f2 sole alone le more (i
 
 -- the commands up to the next place
 pub step_at : (cutting : Cutting) (grow : RunsGrow) (client : Client) (list : List Command) (i : ℕ) (rs : List Reply) (c : Command) (r : Reply) (old mid new : History) (f0 f1 f2 : ℕ) (sole : Bool) → i < length list → c ≡ get_or list i c → sole ≡ true → f0 ≤ f1 → f1 ≤ f2 →
-    IsCarriedOut cutting client (take i list) rs old mid ⊎ Rose f0 f1 → GoesOn client.session.client sole mid new → IsLegalIn client f1 f2 mid new c r → (IsLawful mid → GrowsAlone client.session.client mid new → is_served c ≡ true → is_cut r.outcome ≡ false → IsStep cutting client.session c r mid new) → IsCarriedOut cutting client (take (i + 1) list) (rs ++ r ∷ []) old new ⊎ Rose f0 f2
+    IsCarriedOut cutting client (take i list) rs old mid ⊎ Rose f0 f1 → GoesOn client.session.client sole mid new → IsLegalIn client f1 f2 mid new c r → (IsLawful mid → GrowsAlone client.session.client mid new → is_told_alone c ≡ true → is_cut r.outcome ≡ false → IsStep cutting client.session c r mid new) → IsCarriedOut cutting client (take (i + 1) list) (rs ++ r ∷ []) old new ⊎ Rose f0 f2
 step_at cutting grow client list i rs c r old mid new f0 f1 f2 sole lt is alone le more x g legal stands =
     let next : take (i + 1) list ≡ take i list ++ c ∷ [] = take_more list i c lt ∙ ap (λ (d : Command). take i list ++ d ∷ []) (sym is) in
     subst (λ (cs : List Command). IsCarriedOut cutting client cs (rs ++ r ∷ []) old new ⊎ Rose f0 f2) (sym next) (step_on cutting grow client (take i list) rs c r old mid new f0 f1 f2 sole alone le more x g legal stands)

@@ -6,9 +6,9 @@
 --     AllWritten, RunEnds     how the lines of a run came to be written, or not
 --     JobEnds, Ends           the endings of a job, and all endings
 --     IsTranscript, StopsByUsage, StopsByScript, StopsByFetch, StopsByPut, WantsMemory, StopsByFile      the ending of each status
---     IsUnhindered            nothing hinders a run of one client alone
+--     HasServed, IsUnhindered      nothing hinders a run of one client alone
 --     IsRun                   exactly the status and the output of a run
-use Rattle.std.specs.Prelude.{◌≡◌, ◌⊎◌, ◌<◌, ◌≤◌, ℕ, ℤ, List, [], ◌++◌, length, take, Option, Some, None, Result, Ok, Err}
+use Rattle.std.specs.Prelude.{◌≡◌, ◌⊎◌, ⊤, ◌<◌, ◌≤◌, ℕ, ℤ, List, [], ◌++◌, length, take, Option, Some, None, Result, Ok, Err}
 use Rattle.std.specs.List.{concat}
 use Rattle.base_types.specs.Faults.{Rose}
 use Rattle.frame_core.specs.Texts.{Text}
@@ -22,9 +22,9 @@ use Rattle.program_edge.specs.declared.sink.SinkErr.TheVariants as sinks
 use Rattle.arctic_cli.specs.declared.stop.Stop.{Stop}
 use Rattle.arctic_cli.specs.declared.stop.Stop.TheVariants as stops
 use Rattle.arctic_cli.specs.CommandLine.{plain_words_of, first_set}
-use Rattle.arctic_cli.specs.Program.{Shelf, Job, stop_line, Run, run_of, stopped}
+use Rattle.arctic_cli.specs.Program.{Shelf, Job, stop_line, Run, run_of, stopped, prepared}
 use Rattle.arctic_cli.specs.Causes.{IsBadScript, IsUnreadable, IsBadFile, IsPrepared, Prepares}
-use Rattle.arctic_cli.specs.Performing.{IsCarriedOut}
+use Rattle.arctic_cli.specs.Performing.{AreServed, IsCarriedOut}
 
 -- ---- the output
 
@@ -158,8 +158,13 @@ WantsMemory start shelf_faults shelf_now before after new =
 
 -- ---- completeness
 
+-- the commands of the job, if there is one, are those of which it is told what one client alone gets
+abbrev pub HasServed : Result Job Stop → Type 0
+HasServed (Ok job) = AreServed job.commands
+HasServed (Err stop) = ⊤
+
 -- nothing hinders a run of one client alone: shelf, output and clock tell what they hold; the store is empty and of client 1; neither
--- shelf nor output failed; the limit was not reached; and what is shown of one client alone is shown of each command
+-- shelf nor output failed; the limit was not reached; and no command is one of which it is not told what one client alone gets
 pub record IsUnhindered (start : Start) (shelf_faults shelf_now faults now : ℕ) (held : Shelf) (told : Text) (moment : ℤ) (before : Option Text) (new : History) : Type 0 where
   pub tells : start.holds ≡ Some held
   pub written : before ≡ Some told
@@ -169,6 +174,7 @@ pub record IsUnhindered (start : Start) (shelf_faults shelf_now faults now : ℕ
   pub shelf_works : Rose shelf_faults shelf_now → ⊥
   pub output_works : Rose faults now → ⊥
   pub room : length new < start.limit
+  pub served : HasServed (prepared held start.words)
 
 -- the status and the output are those of the run, if there is one
 abbrev pub IsRun : Option Run → Text → Option Text → ℕ → Type 0

@@ -12,7 +12,8 @@ use Rattle.reply_model.specs.declared.reply.Reply.{Reply}
 use Rattle.reply_model.specs.Windows.{Window, Client, is_cut}
 use Rattle.reply_model.specs.Runs.{Talk, IsLegalTalk, HasNoFault, AllCovered}
 use Rattle.reply_model.specs.Blocks.{Cutting}
-use Rattle.reply_model.specs.Standing.{is_served, RunsAlone}
+use Rattle.reply_model.specs.Standing.{RunsAlone}
+use Rattle.library_api.specs.Steps.{is_told_alone}
 use Rattle.arctic_cli.specs.Jobs.{IsPlaced}
 
 -- the library carries out the commands, and the frames that they name are among so many
@@ -23,9 +24,9 @@ AreNamed count = AllByRecursion (IsPlaced count)
 abbrev pub talk_of : Client → List Command → List Reply → List Window → Talk
 talk_of client commands replies windows = record { client = client; commands = commands; replies = replies; windows = windows }
 
--- what is shown of one client alone is shown of each of these commands
+-- a step of each of these commands tells what one client alone gets: none is an append, an update, a delete of a range or a reclaim
 abbrev pub AreServed : List Command → Type 0
-AreServed = AllByRecursion (λ c. is_served c ≡ true)
+AreServed = AllByRecursion (λ c. is_told_alone c ≡ true)
 
 -- none of the replies is want of memory, a failure or a full store
 abbrev pub AreUncut : List Reply → Type 0

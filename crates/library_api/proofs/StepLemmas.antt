@@ -112,8 +112,8 @@ pub write_lays : (frames : List RawFrame) (settings : Settings) (number limit : 
 write_lays frames settings number limit old new command reply symbol n at prune options raw is chosen got stands =
     lays_as settings (client_of frames settings number limit).session old new command (commands.Write symbol n at prune) reply is
     (write_lays_out (run_cutting settings.cutting) (client_of frames settings number limit).session symbol n at prune reply old new (λ whole brought went.
-      of_grid whole (subst (λ o. StandsBehindPuts symbol (table_of raw) o.cutting old new reply) chosen stands whole
-      (made whole (frame_of_table (table_of raw)) (sym (ap (option_map frame_of_table) (frame_there frames n raw got)) ∙ brought)) went)))
+    of_grid whole (subst (λ o. StandsBehindPuts symbol (table_of raw) o.cutting old new reply) chosen stands whole
+    (made whole (frame_of_table (table_of raw)) (sym (ap (option_map frame_of_table) (frame_there frames n raw got)) ∙ brought)) went)))
   where
     made : (whole : Frame) (r : Result Frame Refusal) → Some r ≡ Some (Ok whole) → r ≡ Ok whole
     made whole r e = cc
