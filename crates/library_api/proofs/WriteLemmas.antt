@@ -1,5 +1,5 @@
 -- The replies of commands that make a version are legal.
-use Rattle.std.proofs.Common.{◌≡◌, ℕ, ℤ, Bool, true, List, [], refl, sym, ap, ◌∙◌, subst, inl, Option, Some, None, Result, Ok, Err, length, arith}
+use Rattle.std.proofs.Common.{◌≡◌, ℕ, ℤ, Bool, true, [], refl, sym, ap, ◌∙◌, subst, inl, Option, Some, None, Result, Ok, Err, length, arith}
 use Rattle.std.specs.Prelude.{option_map, IfOk}
 use Rattle.frame_core.specs.declared.refusal.Extent.{Extent}
 use Rattle.frame_core.specs.declared.refusal.Refusal.{Refusal}
@@ -22,14 +22,14 @@ use Rattle.reply_model.specs.Answering.{Session, Answer, ◌then◌, answered, r
 use Rattle.reply_model.specs.CommitAnswers.{append_answer, update_answer}
 use Rattle.reply_model.specs.Windows.{Window, Client, library_at}
 use Rattle.reply_model.specs.Rows.{IsAnswer}
-use Rattle.reply_model.specs.Legal.{IsLegalRefusal, IsLegalOutcome}
+use Rattle.reply_model.specs.Legal.{IsLegalRefusal}
 use Rattle.frame_write.specs.declared.options.Committed.{Committed}
 use Rattle.frame_write.specs.Writes.{Brings, StandsAlone, IsGridLinked, reply_to, IsLegalCall}
 use Rattle.library_api.specs.Steps.{is_carried_out, plain_reply, refusal_reply}
 use Rattle.segment_cut.specs.Cuttings.{Cutting}
 use Rattle.segment_cut.specs.Grids.{parts, grid_of}
 use Rattle.std.proofs.lemmas.Bool.{true≢false}
-use Rattle.library_api.specs.Frames.{BringsTable, IsLegalForTable, IsLegalWithStamp, RefusesTable, IsWrittenAlone, StandsBehindPuts}
+use Rattle.library_api.specs.Frames.{IsLegalForTable, IsLegalWithStamp, RefusesTable, IsWrittenAlone, StandsBehindPuts}
 use Rattle.library_api.proofs.NoEvents.{served_has_none, legal_without_events, wants_memory}
 
 -- ---- what a frame is refused for
