@@ -9,8 +9,6 @@ mod reading;
 mod reply;
 mod settings;
 mod step;
-#[cfg(test)]
-mod tests;
 mod versions;
 mod writing;
 

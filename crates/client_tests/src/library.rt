@@ -1,9 +1,9 @@
-use crate::{Library, Settings};
 use base_types::Items;
 use bucket_core::{Bucket, Flaky, PlainBucket, When};
 use expr_clause::{AsOf, Command};
 use frame_core::{Asked, ColName, Column, Range, RawFrame, Refusal};
 use key_kind::Symbol;
+use library_api::{Library, Settings};
 use reply_model::{Outcome, Reply};
 use segment_cut::Cutting;
 use std::alloc::Global;
@@ -11,19 +11,31 @@ use std::sync::Wait;
 use std::test::Fail;
 use version_chain::StoreLaw;
 
+fn symbol(alloc: Global) -> Result<Symbol, Fail> {
+    Ok(Symbol::make(alloc, "S")?)
+}
+
+fn names(alloc: Global) -> Result<Items<ColName>, Fail> {
+    let mut names = Items::new(alloc);
+    names.push(ColName::make(alloc, "price")?)?;
+    names.push(ColName::make(alloc, "size")?)?;
+    Ok(names)
+}
+
+fn columns(alloc: Global) -> Result<Items<Column>, Fail> {
+    let mut columns = Items::new(alloc);
+    columns.push(Column::Ints(Items::from_slice(alloc, &[100, 101, 102, 99, 105])?))?;
+    columns.push(Column::Ints(Items::from_slice(alloc, &[5, 7, 1, 3, 2])?))?;
+    Ok(columns)
+}
+
 // The columns price and size of five rows, whose stamps are 1, 2, 2, 4 and 9.
 fn five_rows(alloc: Global) -> Result<RawFrame, Fail> {
-    let mut raw = RawFrame {
+    Ok(RawFrame {
         stamps: Items::from_slice(alloc, &[1, 2, 2, 4, 9])?,
-        names: Items::new(alloc),
-        columns: Items::new(alloc),
-    };
-    raw.names.push(ColName::make(alloc, "price")?)?;
-    raw.columns.push(Column::Ints(Items::from_slice(alloc, &[100, 101, 102, 99, 105])?))?;
-    raw.names.push(ColName::make(alloc, "size")?)?;
-    raw.columns
-        .push(Column::Ints(Items::from_slice(alloc, &[5, 7, 1, 3, 2])?))?;
-    Ok(raw)
+        names: names(alloc)?,
+        columns: columns(alloc)?,
+    })
 }
 
 // The library of client 1 over a bucket, with one try and the moment 70.
@@ -54,7 +66,7 @@ fn write<R: Wait, B: Bucket<StoreLaw>>(
     let mut frames = Items::new(alloc);
     frames.push(five_rows(alloc)?)?;
     let command = Command::Write {
-        symbol: Symbol::make(alloc, "S")?,
+        symbol: symbol(alloc)?,
         frame: 0,
         at,
         prune: false,
@@ -70,10 +82,22 @@ fn read<R: Wait, B: Bucket<StoreLaw>>(
     as_of: AsOf,
 ) -> Result<Reply, Fail> {
     let command = Command::Read {
-        symbol: Symbol::make(alloc, "S")?,
+        symbol: symbol(alloc)?,
         as_of,
         range: Range::make(None, None).unwrap(),
         columns: None,
+    };
+    Ok(library.step(rt, alloc, &command, &[]))
+}
+
+// What it answers to a question for the number of keys.
+fn keys<R: Wait, B: Bucket<StoreLaw>>(
+    rt: &R,
+    alloc: Global,
+    library: &mut Library<B>,
+) -> Result<Reply, Fail> {
+    let command = Command::Keys {
+        symbol: symbol(alloc)?,
     };
     Ok(library.step(rt, alloc, &command, &[]))
 }
@@ -95,45 +119,69 @@ fn refused(reply: &Reply) -> Option<(u64, Refusal)> {
     }
 }
 
+// The place, the version and the number of rows that a read gives.
+fn read_version<R: Wait, B: Bucket<StoreLaw>>(
+    rt: &R,
+    alloc: Global,
+    library: &mut Library<B>,
+    as_of: AsOf,
+) -> Result<Option<(u64, u64, u64)>, Fail> {
+    Ok(version(&read(rt, alloc, library, as_of)?))
+}
+
+// Whether a read is refused at this place, since there is no version that is asked so.
+fn lacks_version<R: Wait, B: Bucket<StoreLaw>>(
+    rt: &R,
+    alloc: Global,
+    library: &mut Library<B>,
+    as_of: AsOf,
+    asked: Asked,
+    place: u64,
+) -> Result<bool, Fail> {
+    let reply = read(rt, alloc, library, as_of)?;
+    Ok(refused(&reply) == Some((place, Refusal::NoSuchVersion { asked })))
+}
+
+// How many events a store has.
+fn length(store: &PlainBucket<StoreLaw>) -> usize {
+    store.events().len()
+}
+
 #[test]
 fn what_was_written_is_read(rt: HostRuntime) -> Result<(), Fail> {
     let alloc = rt.alloc();
     let mut library = library(store(alloc, 1_000)?);
     assert!(rt; version(&write(&rt, alloc, &mut library, Some(50))?) == Some((4, 0, 0)));
-    assert!(rt; version(&read(&rt, alloc, &mut library, AsOf::Back(1))?) == Some((4, 0, 5)));
-    assert!(rt; library.into_bucket().events().len() == 4);
+    assert!(rt; read_version(&rt, alloc, &mut library, AsOf::Back(1))? == Some((4, 0, 5)));
+    assert!(rt; length(&library.into_bucket()) == 4);
     Ok(())
+}
+
+// The library after two writes, at the moments 50 and 60.
+fn written_twice<R: Wait>(rt: &R, alloc: Global) -> Result<Library<PlainBucket<StoreLaw>>, Fail> {
+    let mut library = library(store(alloc, 1_000)?);
+    write(rt, alloc, &mut library, Some(50))?;
+    write(rt, alloc, &mut library, Some(60))?;
+    Ok(library)
 }
 
 #[test]
 fn a_read_takes_the_version_that_is_asked(rt: HostRuntime) -> Result<(), Fail> {
     let alloc = rt.alloc();
-    let mut library = library(store(alloc, 1_000)?);
-    write(&rt, alloc, &mut library, Some(50))?;
-    write(&rt, alloc, &mut library, Some(60))?;
-    assert!(rt; version(&read(&rt, alloc, &mut library, AsOf::Back(1))?) == Some((8, 1, 5)));
-    assert!(rt; version(&read(&rt, alloc, &mut library, AsOf::Back(2))?) == Some((8, 0, 5)));
-    assert!(rt; version(&read(&rt, alloc, &mut library, AsOf::Moment(55))?) == Some((8, 0, 5)));
-    let none = read(&rt, alloc, &mut library, AsOf::Number(7))?;
-    assert!(rt;
-        refused(&none)
-            == Some((
-                8,
-                Refusal::NoSuchVersion {
-                    asked: Asked::Number(7)
-                }
-            ))
-    );
-    let early = read(&rt, alloc, &mut library, AsOf::Moment(49))?;
-    assert!(rt;
-        refused(&early)
-            == Some((
-                8,
-                Refusal::NoSuchVersion {
-                    asked: Asked::Moment(49)
-                }
-            ))
-    );
+    let mut library = written_twice(&rt, alloc)?;
+    assert!(rt; read_version(&rt, alloc, &mut library, AsOf::Back(1))? == Some((8, 1, 5)));
+    assert!(rt; read_version(&rt, alloc, &mut library, AsOf::Back(2))? == Some((8, 0, 5)));
+    assert!(rt; read_version(&rt, alloc, &mut library, AsOf::Moment(55))? == Some((8, 0, 5)));
+    Ok(())
+}
+
+#[test]
+fn a_version_that_is_not_there_is_refused_as_it_was_asked(rt: HostRuntime) -> Result<(), Fail> {
+    let alloc = rt.alloc();
+    let mut library = written_twice(&rt, alloc)?;
+    let (number, moment) = (Asked::Number(7), Asked::Moment(49));
+    assert!(rt; lacks_version(&rt, alloc, &mut library, AsOf::Number(7), number, 8)?);
+    assert!(rt; lacks_version(&rt, alloc, &mut library, AsOf::Moment(49), moment, 8)?);
     Ok(())
 }
 
@@ -142,17 +190,9 @@ fn the_moment_of_the_session_is_the_stamp_where_none_is_given(rt: HostRuntime) -
     let alloc = rt.alloc();
     let mut library = library(store(alloc, 1_000)?);
     write(&rt, alloc, &mut library, None)?;
-    assert!(rt; version(&read(&rt, alloc, &mut library, AsOf::Moment(70))?) == Some((4, 0, 5)));
-    let early = read(&rt, alloc, &mut library, AsOf::Moment(69))?;
-    assert!(rt;
-        refused(&early)
-            == Some((
-                4,
-                Refusal::NoSuchVersion {
-                    asked: Asked::Moment(69)
-                }
-            ))
-    );
+    assert!(rt; read_version(&rt, alloc, &mut library, AsOf::Moment(70))? == Some((4, 0, 5)));
+    let early = Asked::Moment(69);
+    assert!(rt; lacks_version(&rt, alloc, &mut library, AsOf::Moment(69), early, 4)?);
     Ok(())
 }
 
@@ -165,19 +205,21 @@ fn a_full_store_refuses_a_write(rt: HostRuntime) -> Result<(), Fail> {
     Ok(())
 }
 
+// A store whose fifth call fails after its effect.
+fn flaky(alloc: Global) -> Result<Flaky<PlainBucket<StoreLaw>>, Fail> {
+    let mut fails = Items::new(alloc);
+    fails.push((5, When::After))?;
+    Ok(Flaky::make(store(alloc, 1_000)?, fails))
+}
+
 #[test]
 fn a_commit_whose_answer_was_lost_stands(rt: HostRuntime) -> Result<(), Fail> {
     let alloc = rt.alloc();
-    let mut fails = Items::new(alloc);
-    fails.push((5, When::After))?;
-    let mut library = library(Flaky::make(store(alloc, 1_000)?, fails));
+    let mut library = library(flaky(alloc)?);
     let lost = write(&rt, alloc, &mut library, Some(50))?;
     assert!(rt; refused(&lost) == Some((3, Refusal::StoreFault)));
-    assert!(rt; version(&read(&rt, alloc, &mut library, AsOf::Back(1))?) == Some((4, 0, 5)));
-    let command = Command::Keys {
-        symbol: Symbol::make(alloc, "S")?,
-    };
-    let keys = library.step(&rt, alloc, &command, &[]);
+    assert!(rt; read_version(&rt, alloc, &mut library, AsOf::Back(1))? == Some((4, 0, 5)));
+    let keys = keys(&rt, alloc, &mut library)?;
     assert!(rt;
         matches!(
             keys.outcome,
