@@ -11,8 +11,6 @@ mod judging;
 mod pieces;
 mod planning;
 mod sizes;
-#[cfg(test)]
-mod tests;
 mod wish;
 
 pub use appending::append;

@@ -15,8 +15,6 @@ mod gated;
 mod head;
 mod law;
 mod plain;
-#[cfg(test)]
-mod tests;
 
 pub use answer::{Dropped, Found, Listed, StoreErr};
 pub use base_types::{Items, Keep, NoMemory};

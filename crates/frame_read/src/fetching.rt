@@ -3,17 +3,14 @@
 ghost use Rattle.std.specs.Prelude.{◌≡◌, ◌<◌, true, Some, length, option_copied, IfOk, IfErr};
 ghost use Rattle.std.specs.List.{list_any, AllZip, AllByRecursion};
 ghost use Rattle.frame_core.specs.Texts.{same_text};
-ghost use Rattle.frame_core.specs.Refusals.{Answers};
 ghost use Rattle.frame_core.specs.Schemas.{Head, AreColumns};
-ghost use Rattle.frame_core.specs.Frames.{Frame as Table};
-ghost use Rattle.frame_core.specs.Selecting.{then_map, at_places};
+ghost use Rattle.frame_core.specs.Selecting.{at_places};
 ghost use Rattle.index_tree.specs.Covering.{covers, places_where};
 ghost use Rattle.bucket_core.specs.Laws.{Looks};
 ghost use Rattle.bucket_core.specs.Calls.{IsSteady};
 ghost use Rattle.store_model.specs.Law.{IsClaimed};
 ghost use Rattle.store_model.specs.Links.{links};
 ghost use Rattle.store_model.specs.Holders.{has_index};
-ghost use Rattle.reply_model.specs.ReadAnswers.{select_columns};
 ghost use Rattle.frame_read.specs.Fetches.{RefusesGet, IsTargetIndex};
 ghost use Rattle.frame_read.specs.TileSets.{is_asked, places_asked, IsAskedSchema, RefusesColumns, IsGot, IsFetched, RefusesFetch};
 

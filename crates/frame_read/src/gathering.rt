@@ -1,13 +1,11 @@
 //! The cells and the stamps that tiles have in a range, each row once.
 
-ghost use Rattle.std.specs.Prelude.{◌≡◌, ◌≤◌, ◌-◌, ◌++◌, not, [], length, map, drop, count_by, slice_range, Some, IfOk, OnOk};
+ghost use Rattle.std.specs.Prelude.{◌≡◌, ◌≤◌, ◌-◌, ◌++◌, length, map, slice_range, Some, IfOk, OnOk};
 ghost use Rattle.std.specs.List.{AllByRecursion, AllZip};
 ghost use Rattle.std.specs.List.Sorted.{IsPermutation, IsNonDecreasingBy};
-ghost use Rattle.frame_core.specs.Ranges.{IsRange, is_below, is_above};
 ghost use Rattle.frame_core.specs.Schemas.{Head};
-ghost use Rattle.frame_core.specs.Frames.{IsFrame, NeverFall, type_at};
+ghost use Rattle.frame_core.specs.Frames.{IsFrame, type_at};
 ghost use Rattle.frame_core.specs.Columns.{column_type, column_cells, cells_of};
-ghost use Rattle.frame_core.specs.Selecting.{place_of};
 ghost use Rattle.segment_cut.specs.Tiles.{Tile};
 ghost use Rattle.frame_read.specs.Gathers.{fresh, reach, cells_gathered, stamps_gathered, HasType, IsOpened};
 

@@ -9,8 +9,6 @@ mod laws;
 mod objects;
 mod resolving;
 mod target;
-#[cfg(test)]
-mod tests;
 mod tiles;
 mod versions;
 

@@ -14,8 +14,6 @@ mod pieces;
 mod placing;
 mod plan;
 mod puts;
-#[cfg(test)]
-mod tests;
 mod tiles;
 mod write;
 

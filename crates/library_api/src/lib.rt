@@ -12,8 +12,6 @@ mod reclaiming;
 mod reply;
 mod settings;
 mod step;
-#[cfg(test)]
-mod tests;
 mod versions;
 mod writing;
 

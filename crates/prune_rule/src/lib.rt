@@ -10,8 +10,6 @@ mod parting;
 mod piece_keys;
 mod reaching;
 mod reclaiming;
-#[cfg(test)]
-mod tests;
 
 pub use base_types::NoMemory;
 pub use burying::{Buried, delete_versions, prune};

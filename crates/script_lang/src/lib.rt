@@ -15,8 +15,6 @@ mod plain_file;
 mod plain_word;
 mod rows;
 mod script;
-#[cfg(test)]
-mod tests;
 
 pub use base_types::{Items, NoMemory, Text};
 pub use expr_clause::{AsOf, Command};

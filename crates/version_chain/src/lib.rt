@@ -14,8 +14,6 @@ mod marks;
 mod pieces;
 mod snapshots;
 mod state;
-#[cfg(test)]
-mod tests;
 mod walking;
 
 pub use base_types::NoMemory;

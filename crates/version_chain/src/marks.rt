@@ -1,7 +1,7 @@
 ghost use Rattle.std.specs.Prelude.{◌≡◌, ◌++◌, true, None, OnOk, nat_lt, option_map};
 ghost use Rattle.std.specs.Option.{option_map_or};
 ghost use Rattle.byte_fields.specs.Readers.{Gives};
-ghost use Rattle.store_model.specs.ChainText.{mark_text, start, form_behind, form_at, link_at, tomb_at, hold_at, release_at, discard_at, mark_at, marks_at, tomb_of};
+ghost use Rattle.store_model.specs.ChainText.{mark_text, start, form_behind, form_at, link_at, tomb_at, hold_at, discard_at, mark_at, marks_at, tomb_of};
 ghost use Rattle.version_chain.specs.Entries.{IsLink, IsMark, FitsRow, FitsMark};
 ghost use Rattle.version_chain.specs.Reads.{Reads, form_of};
 

@@ -1,6 +1,5 @@
 ghost use Rattle.std.specs.Prelude.{◌≡◌, ◌++◌, None, length, flat_map, option_map, option_copied, IfOk, IfErr, OnOk, Ok};
 ghost use Rattle.std.specs.List.{AllByRecursion};
-ghost use Rattle.key_kind.specs.Names.{IsName};
 ghost use Rattle.key_kind.specs.KeyText.{name_text, name_at};
 ghost use Rattle.store_model.specs.ChainText.{snap_row_text, snap_rows_at, snap_text, snap_of};
 ghost use Rattle.version_chain.specs.SnapBodies.{IsSnapRow, IsSnap, FitsSnapRow, FitsSnap};
