@@ -70,7 +70,7 @@ good_append st prune at frame =
     good_then (may_append (base_of st) frame) _ (good_may_append (base_of st) frame)
     (λ f. good_then (joined_within (λ old new. old ++ new) (base_of st) f) _ (good_joined (λ old new. old ++ new) (base_of st) f) (λ g. good_ok _))
 
-good_range : (asked : Option Range) (frame : Frame) → IsGood (update_range asked frame)
+pub good_range : (asked : Option Range) (frame : Frame) → IsGood (update_range asked frame)
 good_range (Some range) frame = good_unless _ refusals.OutsideRange (Ok range) (λ row. refl) (good_ok range)
 good_range None frame = good_then _ _ (good_or _ refusals.EmptyUpdate refl) (λ first. good_ok _)
 

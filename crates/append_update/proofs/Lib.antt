@@ -26,3 +26,9 @@ pub mod PlanLemmas
 pub mod LoopLemmas
 pub mod ReplyLemmas
 pub mod WholeBase
+pub mod LaterLemmas
+pub mod EdgeLemmas
+pub mod CountLemmas
+pub mod ReplacedSizes
+pub mod ReplacePlans
+pub mod OutsideLemmas

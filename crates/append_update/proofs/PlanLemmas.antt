@@ -53,7 +53,7 @@ large_anyway r c o a x e = first_three (nat_lt 2000000 r) (nat_lt 4096 c) (nat_l
 pub same_limits : (r s m n c d : ℕ) (o : Option (Extent × ℕ)) → r ≡ s → m ≡ n → c ≡ d → o ≡ too_large (r + m) c 0 0 → too_large (s + n) d 0 0 ≡ o
 same_limits r s m n c d o rs mn cd is = sym (is ∙ rw (rs, mn, cd) refl)
 
-texts_only : (r c o a : ℕ) → r ≤ 2000000 → c ≤ 4096 → r * c ≤ 8000000 → o ≤ 65535 → 67108864 < a → too_large r c o a ≡ Some (extents.TextBytes, 67108864)
+pub texts_only : (r c o a : ℕ) → r ≤ 2000000 → c ≤ 4096 → r * c ≤ 8000000 → o ≤ 65535 → 67108864 < a → too_large r c o a ≡ Some (extents.TextBytes, 67108864)
 texts_only r c o a rs cs cells one all = grind arith
 
 -- ---- behind the base
@@ -157,7 +157,7 @@ none_some x e = cc
 some_same : {X : Type 0} (x y : X) → Some x ≡ Some y → x ≡ y
 some_same x y e = cc
 
-inside_range : (range : Range) (frame : Frame) → outside 1 range frame.rows ≡ None → update_range (Some range) frame ≡ Ok range
+pub inside_range : (range : Range) (frame : Frame) → outside 1 range frame.rows ≡ None → update_range (Some range) frame ≡ Ok range
 inside_range range frame e = rw e refl
 
 has_reference_is : (h : History) (symbol : Name) (state : SymbolState) → IsStateOf h symbol state → (state_of h symbol).has_reference ≡ is_some state.was

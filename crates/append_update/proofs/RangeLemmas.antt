@@ -15,10 +15,10 @@ use Rattle.append_update.proofs.ListLemmas.{FallsOff}
 
 -- ---- stamps and ends of a range
 
-le_trans : (a b c : ℤ) → a ≤ℤ b → b ≤ℤ c → a ≤ℤ c
+pub le_trans : (a b c : ℤ) → a ≤ℤ b → b ≤ℤ c → a ≤ℤ c
 le_trans a b c ab bc = grind (arith, ints)
 
-le_refl : (a : ℤ) → a ≤ℤ a
+pub le_refl : (a : ℤ) → a ≤ℤ a
 le_refl a = grind (arith, ints)
 
 -- what lies at or below a stamp below the range lies below it
@@ -59,7 +59,7 @@ pub rising-slice : (rows : List Row) (from to : ℕ) → NeverFall (stamps_of ro
 rising-slice rows from to rising = rising-take (to - from) (drop from rows) (rising-drop from rows rising)
 
 -- all lie at or below the last
-up_to_last : (r : Row) (rows : List Row) (last : ℤ) → NeverFall (stamps_of (r ∷ rows)) → last_stamp (r ∷ rows) ≡ Some last → r.stamp ≤ℤ last
+pub up_to_last : (r : Row) (rows : List Row) (last : ℤ) → NeverFall (stamps_of (r ∷ rows)) → last_stamp (r ∷ rows) ≡ Some last → r.stamp ≤ℤ last
 up_to_last r [] last rising e = let same : r.stamp ≡ last = cc in subst (λ t. r.stamp ≤ℤ t) same (le_refl r.stamp)
 up_to_last r (s ∷ rows) last rising e = le_trans r.stamp s.stamp last rising.0 (up_to_last s rows last rising.1 e)
 

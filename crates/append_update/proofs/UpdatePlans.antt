@@ -28,18 +28,18 @@ module _ (base : Frame) (index : Index) (of : IsIndexOf base index) (range : Ran
   abbrev columns : ℕ
   columns = length index.schema.columns
 
-  cut_below : IsRun columns (slice_range index.slots cuts.below cuts.begun)
+  pub cut_below : IsRun columns (slice_range index.slots cuts.below cuts.begun)
   cut_below =
       subst (λ n. IsRun columns (slice_range index.slots n cuts.begun)) (sym divides.below)
       (subst (λ n. IsRun columns (slice_range index.slots (passing (λ (s : Slot). is_below range s.last) index.slots) n)) (sym divides.begun) (run_cut_below base index of range))
 
-  cut_above : IsRun columns (slice_range index.slots cuts.ended cuts.reached)
+  pub cut_above : IsRun columns (slice_range index.slots cuts.ended cuts.reached)
   cut_above =
       subst (λ n. IsRun columns (slice_range index.slots n cuts.reached)) (sym divides.ended)
       (subst (λ n. IsRun columns (slice_range index.slots (passing (λ (s : Slot). not (is_above range s.last)) index.slots) n)) (sym divides.reached) (run_cut_above base index of range))
 
   -- the rows of a run of the base's slots may be written
-  run_storable : (from to : ℕ) → IsRun columns (slice_range index.slots from to) → IsStorable (record base { rows = rows_of_slots base (slice_range index.slots from to) })
+  pub run_storable : (from to : ℕ) → IsRun columns (slice_range index.slots from to) → IsStorable (record base { rows = rows_of_slots base (slice_range index.slots from to) })
   run_storable from to run =
       let slots : List Slot = slice_range index.slots from to in
       subst (λ (rows : List Row). IsStorable (record base { rows = rows }))

@@ -1,16 +1,18 @@
 -- The pieces of an append and of an update.
 --     fresh               a piece of new rows, if there are any
 --     appended, replaced  the base's slots with a frame behind them, and with a frame in place of the rows in a range
---     AreEdges            what is left of the row blocks that a range cuts
-use Rattle.std.specs.Prelude.{◌≡◌, List, [], ◌∷◌, ◌++◌, take, drop, slice_range, Option, Some, None}
+--     AreEdges, left_rows      what is left of the row blocks that a range cuts; how many rows those are
+--     Replaces            the index of a frame, where a range divides its slots, and the edges
+use Rattle.std.specs.Prelude.{◌≡◌, ℕ, List, [], ◌∷◌, ◌++◌, take, drop, slice_range, length, Option, Some, None}
 use Rattle.frame_core.specs.Ranges.{Range}
 use Rattle.frame_core.specs.Frames.{Row, Frame, rows_below, rows_above}
 use Rattle.index_tree.specs.declared.index.Slot.{Slot}
+use Rattle.index_tree.specs.declared.index.Index.{Index}
 use Rattle.append_update.specs.declared.cuts.Cuts.{Cuts}
 use Rattle.append_update.specs.declared.pieces.Edges.{Edges}
 use Rattle.frame_write.specs.declared.pieces.Piece.{Piece}
 use Rattle.frame_write.specs.declared.pieces.Piece.TheVariants as pieces
-use Rattle.append_update.specs.Bases.{rows_of_slots}
+use Rattle.append_update.specs.Bases.{IsIndexOf, Divides, rows_of_slots}
 
 -- a piece of these rows, if there are any
 abbrev pub fresh : Option Frame → List Piece
@@ -35,3 +37,14 @@ IsLeft base rows (Some frame) = frame ≡ record base { rows = rows }
 pub record AreEdges (base : Frame) (range : Range) (slots : List Slot) (cuts : Cuts) (edges : Edges) : Type 0 where
   pub below : IsLeft base (rows_below range (rows_of_slots base (slice_range slots cuts.below cuts.begun))) edges.below
   pub above : IsLeft base (rows_above range (rows_of_slots base (slice_range slots cuts.ended cuts.reached))) edges.above
+
+-- how many rows are left
+abbrev pub left_rows : Option Frame → ℕ
+left_rows None = 0
+left_rows (Some frame) = length frame.rows
+
+-- the index is the frame's, and the range cuts its slots so
+pub record Replaces (base : Frame) (range : Range) (index : Index) (cuts : Cuts) (edges : Edges) : Type 0 where
+  pub index_of : IsIndexOf base index
+  pub divides : Divides range index.slots cuts
+  pub are : AreEdges base range index.slots cuts edges

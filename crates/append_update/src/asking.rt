@@ -1,17 +1,17 @@
 //! The plan of what is asked, over a walked state.
 
-ghost use Rattle.std.specs.Prelude.{◌≡◌, ◌<◌, ◌+◌, ◌↔◌, false, is_some, IsTrue, IfOk, IfErr, IfSome};
+ghost use Rattle.std.specs.Prelude.{◌≡◌, ◌<◌, ◌+◌, ◌↔◌, Bool, [], Some, None, false, is_some, IsTrue, IfOk, IfErr, IfSome};
 ghost use Rattle.std.specs.List.{list_any};
-ghost use Rattle.frame_core.specs.declared.refusal.Extent.TheVariants.{TextBytes};
 ghost use Rattle.frame_core.specs.Ranges.{IsRange};
-ghost use Rattle.frame_core.specs.Limits.{IsStorable, refuse_large};
+ghost use Rattle.frame_core.specs.Schemas.{AreColumns};
+ghost use Rattle.frame_core.specs.Limits.{IsStorable};
 ghost use Rattle.bucket_core.specs.History.{history_at};
 ghost use Rattle.bucket_core.specs.Laws.{Looks};
 ghost use Rattle.bucket_core.specs.Calls.{IsSteady};
 ghost use Rattle.store_model.specs.Law.{IsClaimed};
 ghost use Rattle.version_chain.specs.Marking.{own_refers};
 ghost use Rattle.version_chain.specs.States.{IsStateAt};
-ghost use Rattle.reply_model.specs.CommitAnswers.{append_answer};
+ghost use Rattle.reply_model.specs.CommitAnswers.{append_answer, update_answer, outside};
 ghost use Rattle.append_update.specs.Asking.{answer_to, IsWish, IsPlanOf, IsAlone, why_missing};
 ghost use Rattle.append_update.specs.Looking.{RefusesBase, RefusesPlan};
 ghost use Rattle.append_update.specs.Newest.{IsBaseAt};
@@ -19,21 +19,20 @@ ghost use Rattle.append_update.specs.Sizes.{text_total, kept_rows};
 
 use crate::base::{Base, base_of, out_of_memory};
 use crate::blocks::block_frame;
-use crate::judging::judge_append;
-use crate::planning::{plan_alone, plan_append};
-use crate::sizes::{has_texts, kept_text_bytes, text_bytes};
+use crate::cuts::Cuts;
+use crate::edges::edges_of;
+use crate::judging::{first_difference, judge_append};
+use crate::planning::{plan_alone, plan_append, plan_update};
+use crate::sizes::{TEXT_LIMIT, has_texts, kept_text_bytes, replaced_too_large, text_bytes, too_many_texts};
 use crate::wish::Wish;
 use base_types::{Keep, NoMemory};
 use bucket_core::{Bucket, Change};
-use frame_core::{Asked, Extent, Frame, Range, Refusal, Refused};
+use frame_core::{Asked, Frame, FrameMaker, Range, Refusal, Refused, Schema};
 use frame_write::{LinkPlan, Options};
 use key_kind::Symbol;
 use std::alloc::Global;
 use std::sync::Wait;
 use version_chain::{StoreLaw, SymbolState};
-
-/// The most bytes that all texts of a frame may have.
-const TEXT_LIMIT: u64 = 67_108_864;
 
 /// The plan of what is asked over a walked state, or why there is none. It may wait for the store.
 ///
@@ -109,7 +108,7 @@ fn plan_without(alloc: Global, wish: &Wish<'_>, at: i64) -> Result<Option<LinkPl
     }
 }
 
-/// The plan over the newest live version. No call asks for other rows in place of its rows yet.
+/// The plan over the newest live version.
 fn plan_over<R: Wait, B: Bucket<StoreLaw>>(
     rt: &R,
     alloc: Global,
@@ -128,8 +127,12 @@ fn plan_over<R: Wait, B: Bucket<StoreLaw>>(
 {
     match *wish {
         Wish::Append(frame) => append_over(rt, alloc, bucket, symbol, base, frame, options),
-        Wish::Replace { .. } => Err(out_of_memory(bucket.place())),
-        Wish::Clear(_) => Err(out_of_memory(bucket.place())),
+        Wish::Replace {
+            frame,
+            range,
+            upsert: _,
+        } => replace_over(rt, alloc, bucket, symbol, base, frame, range, options),
+        Wish::Clear(range) => clear_over(rt, alloc, bucket, symbol, base, range, options),
     }
 }
 
@@ -168,21 +171,83 @@ fn append_over<R: Wait, B: Bucket<StoreLaw>>(
     }
 }
 
+/// The plan of no rows in place of those of the newest live version in a range.
+fn clear_over<R: Wait, B: Bucket<StoreLaw>>(
+    rt: &R,
+    alloc: Global,
+    bucket: &mut B,
+    symbol: &Symbol,
+    base: &Base,
+    range: Range,
+    options: &Options,
+) -> Result<LinkPlan, Refused>
+    requires base { IsBaseAt (B.number bucket.old) (B.seen bucket.old) symbol.now base.now }
+    requires order { IsRange range }
+    ensures looks { Looks IsClaimed (B.number bucket.old) (B.sole bucket.old) (B.seen bucket.old) (B.seen bucket.new) }
+    ensures steady { IsSteady B.number B.limit B.faults B.sole bucket.old bucket.new }
+    ensures plan { (b : IsBaseAt (B.number bucket.old) (B.seen bucket.old) symbol.now base.now) → IfOk result (IsPlanOf b.before symbol.now options.now (λ st. update_answer st false options.now.prune options.now.at (Some range) (record b.version.frame { rows = [] }))) }
+    ensures refused { (b : IsBaseAt (B.number bucket.old) (B.seen bucket.old) symbol.now base.now) → IfErr result (RefusesPlan (B.number bucket.old) symbol.now (λ st. update_answer st false options.now.prune options.now.at (Some range) (record b.version.frame { rows = [] })) b.before (B.faults bucket.old) (B.faults bucket.new) (B.seen bucket.old) (B.seen bucket.new)) }
+{
+    match no_rows(alloc, &base.index.schema) {
+        Ok(frame) => replace_over(rt, alloc, bucket, symbol, base, &frame, range, options),
+        Err(_) => Err(out_of_memory(bucket.place())),
+    }
+}
+
+/// The frame of these columns without rows.
+fn no_rows(alloc: Global, schema: &Schema) -> Result<Frame, NoMemory>
+    requires columns { AreColumns schema.now.columns }
+    ensures { IfOk result (λ made. made ≡ record { schema = schema.now; rows = [] }) }
+{
+    Ok(FrameMaker::make(alloc, schema)?.done())
+}
+
+/// The plan of the frame's rows in place of those of the newest live version in a range.
+fn replace_over<R: Wait, B: Bucket<StoreLaw>>(
+    rt: &R,
+    alloc: Global,
+    bucket: &mut B,
+    symbol: &Symbol,
+    base: &Base,
+    frame: &Frame,
+    range: Range,
+    options: &Options,
+) -> Result<LinkPlan, Refused>
+    requires base { IsBaseAt (B.number bucket.old) (B.seen bucket.old) symbol.now base.now }
+    requires storable { IsStorable frame.now }
+    requires order { IsRange range }
+    requires inside { outside 1 range frame.now.rows ≡ None }
+    ensures looks { Looks IsClaimed (B.number bucket.old) (B.sole bucket.old) (B.seen bucket.old) (B.seen bucket.new) }
+    ensures steady { IsSteady B.number B.limit B.faults B.sole bucket.old bucket.new }
+    ensures plan { (b : IsBaseAt (B.number bucket.old) (B.seen bucket.old) symbol.now base.now) (upsert : Bool) → IfOk result (IsPlanOf b.before symbol.now options.now (λ st. update_answer st upsert options.now.prune options.now.at (Some range) frame.now)) }
+    ensures refused { (b : IsBaseAt (B.number bucket.old) (B.seen bucket.old) symbol.now base.now) (upsert : Bool) → IfErr result (RefusesPlan (B.number bucket.old) symbol.now (λ st. update_answer st upsert options.now.prune options.now.at (Some range) frame.now) b.before (B.faults bucket.old) (B.faults bucket.new) (B.seen bucket.old) (B.seen bucket.new)) }
+{
+    let place = base.target.place;
+    if let Some(column) = first_difference(&base.index.schema, frame.schema()) {
+        let why = Refusal::SchemaDiffers { column };
+        return Err(Refused { place, why });
+    }
+    let many = exceeds_texts(rt, alloc, bucket, symbol, base, frame, Some(range))?;
+    let cuts = Cuts::of(base.index.slots.items(), range);
+    let edges = match edges_of(rt, alloc, bucket, symbol, base, range, cuts) {
+        Ok(edges) => edges,
+        Err(refused) => return Err(refused),
+    };
+    if let Some(why) = replaced_too_large(&base.index, cuts, &edges, frame, many) {
+        return Err(Refused { place, why });
+    }
+    let at = stamp_of(options);
+    match plan_update(alloc, &base.index, cuts, edges, frame, range, at) {
+        Ok(plan) => Ok(plan),
+        Err(_) => Err(out_of_memory(bucket.place())),
+    }
+}
+
 /// The stamp of the new version.
 fn stamp_of(options: &Options) -> i64
     ensures { result ≡ options.now.at }
 {
     options.at
-}
-
-/// The refusal of too many bytes of text.
-fn too_many_texts() -> Refusal
-    ensures { result ≡ refuse_large (TextBytes, 67108864) }
-{
-    Refusal::TooLarge {
-        what: Extent::TextBytes,
-        limit: TEXT_LIMIT,
-    }
 }
 
 /// Whether the texts of a frame, and of those rows of the base that lie outside a range, or of all, have too many bytes.

@@ -98,7 +98,7 @@ fn run_frame(
 }
 
 /// The first row of a run of slots.
-fn first_row(slots: &[Slot]) -> u64
+pub(crate) fn first_row(slots: &[Slot]) -> u64
     ensures { result ≡ begin_of slots.now }
 {
     match slots.first() {

@@ -68,7 +68,7 @@ fn beginning_by(slots: &[Slot], range: Range) -> usize
 }
 
 /// Whether a stamp lies below the range.
-fn below(range: Range, stamp: i64) -> bool
+pub(crate) fn below(range: Range, stamp: i64) -> bool
     ensures { result ≡ is_below range stamp }
 {
     match range.from() {
@@ -78,7 +78,7 @@ fn below(range: Range, stamp: i64) -> bool
 }
 
 /// Whether a stamp lies above the range.
-fn above(range: Range, stamp: i64) -> bool
+pub(crate) fn above(range: Range, stamp: i64) -> bool
     ensures { result ≡ is_above range stamp }
 {
     match range.to() {

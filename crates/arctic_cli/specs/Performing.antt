@@ -24,7 +24,7 @@ AreNamed count = AllByRecursion (IsPlaced count)
 abbrev pub talk_of : Client → List Command → List Reply → List Window → Talk
 talk_of client commands replies windows = record { client = client; commands = commands; replies = replies; windows = windows }
 
--- a step of each of these commands tells what one client alone gets: none is an append or a reclaim
+-- a step of each of these commands tells what one client alone gets: none is an append, an update, a delete of a range or a reclaim
 abbrev pub AreServed : List Command → Type 0
 AreServed = AllByRecursion (λ c. is_told_alone c ≡ true)
 

@@ -212,7 +212,7 @@ pub fn run<R: Wait, F: Shelf, S: Sink, C: Clock>(
     ensures client { ⟦<PlainBucket<StoreLaw> as Bucket<StoreLaw>>⟧.number result.bucket ≡ ⟦<PlainBucket<StoreLaw> as Bucket<StoreLaw>>⟧.number bucket }
     ensures limit { ⟦<PlainBucket<StoreLaw> as Bucket<StoreLaw>>⟧.limit result.bucket ≡ ⟦<PlainBucket<StoreLaw> as Bucket<StoreLaw>>⟧.limit bucket }
 
-    // Where nothing hinders one client alone, and no command is an append or a reclaim, there is no other
+    // Where nothing hinders one client alone, and no command is an append, an update, a delete of a range or a reclaim, there is no other
     // answer than this run, or want of memory.
     ensures complete { (held : Files) (told : Text) (moment : ℤ) → IsUnhindered (start_of (map string_bytes words.now) (F.holds shelf.old) (C.reading clock.old) (⟦<PlainBucket<StoreLaw> as Bucket<StoreLaw>>⟧.limit bucket) (⟦<PlainBucket<StoreLaw> as Bucket<StoreLaw>>⟧.number bucket) (⟦<PlainBucket<StoreLaw> as Bucket<StoreLaw>>⟧.seen bucket)) (F.faults shelf.old) (F.faults shelf.new) (S.faults out.old) (S.faults out.new) held told moment (S.written out.old) (⟦<PlainBucket<StoreLaw> as Bucket<StoreLaw>>⟧.seen result.bucket) → (result.status ≡ 6) ⊎ IsRun (run_alone moment held (map string_bytes words.now)) told (S.written out.new) result.status }
 {

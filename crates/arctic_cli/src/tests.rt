@@ -214,6 +214,20 @@ fn ran_files<R: Wait>(
     ran(rt, alloc, words, shelf, Vec::new(alloc))
 }
 
+/// The status of `run day.arc --rows 2` over the files six, mid and e, and what it printed.
+fn ran_six<R: Wait>(rt: &R, alloc: Global, script: &str) -> Result<(u8, MemorySink), Fail> {
+    let files = [
+        ("day.arc", script),
+        (
+            "six.csv",
+            "time,price\n10,1\n20,2\n30,3\n40,4\n50,5\n60,6\n",
+        ),
+        ("mid.csv", "time,price\n25,7\n35,8\n"),
+        ("e.csv", "time,price\n"),
+    ];
+    ran_files(rt, alloc, &["run", "day.arc", "--rows", "2"], &files)
+}
+
 #[test]
 fn an_append_is_refused_where_it_does_not_go_on(rt: HostRuntime) -> Result<(), Fail> {
     let alloc = rt.alloc();
@@ -256,18 +270,60 @@ fn a_reclaim_keeps_the_tiles_that_an_append_shares(rt: HostRuntime) -> Result<()
 }
 
 #[test]
-fn a_reclaim_drops_what_no_live_version_has(rt: HostRuntime) -> Result<(), Fail> {
+fn an_update_shares_the_blocks_outside_its_range(rt: HostRuntime) -> Result<(), Fail> {
     let alloc = rt.alloc();
-    let script = "load t t.csv int,int\nfirst\nwrite S t\nwrite S t prune\nreclaim S\nkeys S\n";
-    let (status, out) = ran_files(
-        &rt,
-        alloc,
-        &["run", "day.arc"],
-        &[("day.arc", script), ("t.csv", TABLE)],
-    )?;
+    let script =
+        "load six six.csv int\nload mid mid.csv int\nfirst\nwrite S six\nupdate S mid\nread S\nkeys S\n";
+    let (status, out) = ran_six(&rt, alloc, script)?;
     assert_eq!(rt; status, 0);
     let wanted =
-        "first.1 @4 ok v0\nfirst.2 @8 ok v1\nfirst.3 @8 ok freed data=1 index=1 staged=0\nfirst.4 @10 ok data=1 index=1 version=2 ref=1 staged=0\nend @10\n";
+        "first.1 @6 ok v0\nfirst.2 @11 ok v1\nfirst.3 @11 ok v1 rows=7\ntime,price\n10,1\n20,2\n25,7\n35,8\n40,4\n50,5\n60,6\nfirst.4 @11 ok data=5 index=2 version=2 ref=1 staged=0\nend @11\n";
+    assert_eq!(rt; out.bytes(), wanted.as_bytes());
+    Ok(())
+}
+
+#[test]
+fn an_update_by_no_rows_clears_its_range(rt: HostRuntime) -> Result<(), Fail> {
+    let alloc = rt.alloc();
+    let script =
+        "load six six.csv int\nload e e.csv int\nfirst\nwrite S six\nupdate S e range=30..50\nread S\nupdate S e\n";
+    let (status, out) = ran_six(&rt, alloc, script)?;
+    assert_eq!(rt; status, 1);
+    let wanted =
+        "first.1 @6 ok v0\nfirst.2 @10 ok v1\nfirst.3 @10 ok v1 rows=3\ntime,price\n10,1\n20,2\n60,6\nfirst.4 @10 err 11 EmptyUpdate\nend @10\n";
+    assert_eq!(rt; out.bytes(), wanted.as_bytes());
+    Ok(())
+}
+
+#[test]
+fn a_reclaim_drops_what_no_live_version_shares(rt: HostRuntime) -> Result<(), Fail> {
+    let alloc = rt.alloc();
+    let script =
+        "load six six.csv int\nload mid mid.csv int\nfirst\nwrite S six\nupdate S mid\nprune S\nreclaim S\nkeys S\nread S\n";
+    let (status, out) = ran_six(&rt, alloc, script)?;
+    assert_eq!(rt; status, 0);
+    let wanted =
+        "first.1 @6 ok v0\nfirst.2 @11 ok v1\nfirst.3 @13 ok pruned versions=1\nfirst.4 @13 ok freed data=1 index=1 staged=0\nfirst.5 @15 ok data=4 index=1 version=3 ref=1 staged=0\nfirst.6 @15 ok v1 rows=7\ntime,price\n10,1\n20,2\n25,7\n35,8\n40,4\n50,5\n60,6\nend @15\n";
+    assert_eq!(rt; out.bytes(), wanted.as_bytes());
+    Ok(())
+}
+
+#[test]
+fn appends_and_updates_are_refused_with_their_causes(rt: HostRuntime) -> Result<(), Fail> {
+    let alloc = rt.alloc();
+    let script =
+        "load t t.csv int,int\nload u u.csv int,int\nload w w.csv int,int\nload z z.csv int,int\nfirst\nwrite S t\nupdate S u range=2..10\nupdate X u\nupdate X u upsert\nappend S w\ndelete_range S range=2..4\nread S\nwrite S z\n";
+    let files = [
+        ("day.arc", script),
+        ("t.csv", TABLE),
+        ("u.csv", "time,price,size\n3,1,1\n12,2,2\n"),
+        ("w.csv", "time,price,qty\n9,1,1\n"),
+        ("z.csv", "time,price,size\n5,1,1\n4,1,1\n"),
+    ];
+    let (status, out) = ran_files(&rt, alloc, &["run", "day.arc"], &files)?;
+    assert_eq!(rt; status, 1);
+    let wanted =
+        "first.1 @4 ok v0\nfirst.2 @4 err 10 OutsideRange row=2\nfirst.3 @4 err 3 NoSuchSymbol\nfirst.4 @8 ok v0\nfirst.5 @8 err 8 SchemaDiffers column=2\nfirst.6 @13 ok v1\nfirst.7 @13 ok v1 rows=2\ntime,price,size\n1,100,5\n9,105,2\nfirst.8 @13 err 7 Unsorted row=2\nend @13\n";
     assert_eq!(rt; out.bytes(), wanted.as_bytes());
     Ok(())
 }

@@ -26,7 +26,7 @@ use Rattle.version_chain.specs.Traces.{GoesOn}
 use Rattle.frame_write.specs.declared.options.Options.{Options}
 use Rattle.library_api.specs.declared.settings.Settings.{Settings}
 use Rattle.library_api.specs.Steps.{client_of, IsLegalIn, IsLegalForAll, IsLegalWithTries, run_cutting, is_told_alone, IsStepAlone}
-use Rattle.library_api.specs.Frames.{IsLegalForTable, IsWrittenAlone, StandsBehindPuts}
+use Rattle.library_api.specs.Frames.{IsLegalForTable, IsLegalWithStamp, IsWrittenAlone, StandsBehindPuts}
 
 -- how a frame is written by a command of these settings
 abbrev pub options_of : Settings → Option ℤ → Bool → Options
@@ -54,6 +54,15 @@ module _ (frames : List RawFrame) (settings : Settings) (number limit before now
       subst (λ o. IsLegalForTable limit number o.tries (table_of raw) o.at (make o) before now old new reply) chosen legal in
       subst (λ c. IsLegalIn (client_of frames settings number limit) before now old new c reply) (sym is)
       (here (client_of frames settings number limit).session n at (record { client_is = refl; tries_are = refl; table_is = frame_there frames n raw got; stamp_is = refl }))
+
+  -- and one that is legal for all sessions that give it its stamp
+  pub stamped_command : (make : Options → Option ℤ → Command) (at : Option ℤ) (prune : Bool) (options : Options) → command ≡ make (options_of settings at prune) at → options ≡ options_of settings at prune
+      → IsLegalWithStamp limit number options.tries options.at (make options) before now old new reply → IsLegalIn (client_of frames settings number limit) before now old new command reply
+  stamped_command make at prune options is chosen legal =
+      let here : IsLegalWithStamp limit number settings.tries (unwrap_or at settings.moment) (make (options_of settings at prune)) before now old new reply =
+      subst (λ o. IsLegalWithStamp limit number o.tries o.at (make o) before now old new reply) chosen legal in
+      subst (λ c. IsLegalIn (client_of frames settings number limit) before now old new c reply) (sym is)
+      (here (client_of frames settings number limit).session at (record { client_is = refl; tries_are = refl; stamp_is = refl }))
 
 -- ---- one client alone
 

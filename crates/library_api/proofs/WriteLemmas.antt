@@ -10,6 +10,7 @@ use Rattle.frame_core.specs.Frames.{Frame}
 use Rattle.frame_core.specs.Limits.{refuse_large}
 use Rattle.frame_core.specs.RawFrames.{Table, frame_of_table, table_frame, table_too_large, bad_column, bad_row, unless}
 use Rattle.key_kind.specs.Names.{Name}
+use Rattle.frame_core.specs.Ranges.{Range}
 use Rattle.bucket_core.specs.History.{History}
 use Rattle.bucket_core.specs.declared.event.Change.TheVariants as changes
 use Rattle.version_chain.proofs.Walked.{looks_none}
@@ -18,7 +19,7 @@ use Rattle.expr_clause.specs.declared.command.Command.TheVariants as commands
 use Rattle.reply_model.specs.declared.outcome.Outcome.TheVariants as outcomes
 use Rattle.reply_model.specs.declared.reply.Reply.{Reply}
 use Rattle.reply_model.specs.Answering.{Session, Answer, ◌then◌, answered, refused, committed, stamp_of, frame_of, with_frame}
-use Rattle.reply_model.specs.CommitAnswers.{append_answer}
+use Rattle.reply_model.specs.CommitAnswers.{append_answer, update_answer}
 use Rattle.reply_model.specs.Windows.{Window, Client, library_at}
 use Rattle.reply_model.specs.Rows.{IsAnswer}
 use Rattle.reply_model.specs.Legal.{IsLegalRefusal}
@@ -28,7 +29,7 @@ use Rattle.library_api.specs.Steps.{is_carried_out, plain_reply, refusal_reply}
 use Rattle.segment_cut.specs.Cuttings.{Cutting}
 use Rattle.segment_cut.specs.Grids.{parts, grid_of}
 use Rattle.std.proofs.lemmas.Bool.{true≢false}
-use Rattle.library_api.specs.Frames.{IsLegalForTable, RefusesTable, IsWrittenAlone, StandsBehindPuts}
+use Rattle.library_api.specs.Frames.{IsLegalForTable, IsLegalWithStamp, RefusesTable, IsWrittenAlone, StandsBehindPuts}
 use Rattle.library_api.proofs.NoEvents.{served_has_none, legal_without_events, wants_memory}
 
 -- ---- what a frame is refused for
@@ -78,6 +79,15 @@ pub append_takes : (symbol : Name) (prune : Bool) → TakesFrame (λ n asked. co
 append_takes symbol prune = record {
   carried = λ n asked. refl;
   answers = λ h client n asked place why e. inl (as_refused client.session n why (λ f. append_answer ((library_at h place).state symbol) prune (stamp_of client.session asked) f) e, refl);
+  large = λ h client n asked reply w what most is. is;
+  differs = λ h client n asked reply w column is. is;
+  falls = λ h client n asked reply w row is. is;
+}
+
+pub update_takes : (symbol : Name) (range : Option Range) (upsert prune : Bool) → TakesFrame (λ n asked. commands.Update symbol n range upsert asked prune)
+update_takes symbol range upsert prune = record {
+  carried = λ n asked. refl;
+  answers = λ h client n asked place why e. inl (as_refused client.session n why (λ f. update_answer ((library_at h place).state symbol) upsert prune (stamp_of client.session asked) range f) e, refl);
   large = λ h client n asked reply w what most is. is;
   differs = λ h client n asked reply w column is. is;
   falls = λ h client n asked reply w row is. is;
@@ -155,6 +165,11 @@ pub unmade_legal : (command : ℕ → Option ℤ → Command) → TakesFrame com
     → IsLegalForTable limit number tries table at command faults faults old old (refusal_reply refused)
 unmade_legal command takes limit number tries table at faults old place refused here is =
     unmade command limit number tries table at faults faults takes old refused.place (is.place_is ∙ here) refused.why is.why
+
+-- a command without a frame wants memory
+pub stamp_wants_memory : (command : Option ℤ → Command) → ((asked : Option ℤ) → is_carried_out (command asked) ≡ true) → (limit number tries : ℕ) (at : ℤ) (faults : ℕ) (old : History) (place : ℕ) → place ≡ length old
+    → IsLegalWithStamp limit number tries at command faults faults old old (plain_reply place (outcomes.Refused refusals.NoMemory))
+stamp_wants_memory command carried limit number tries at faults old place here s asked runs = wants_memory (record { session = s; limit = limit }) (command asked) (carried asked) faults faults old place here
 
 -- ---- the place, where nobody else makes events
 

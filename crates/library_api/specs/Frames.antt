@@ -1,6 +1,7 @@
 -- What the steps that make a version answer.
 --     BringsTable         a session that brings raw columns as one of its frames, with its client, tries and stamp
 --     IsLegalForTable     the reply of a command that names such a frame is legal for each such session
+--     IsLegalWithStamp    the reply of a command without a frame is legal for each session that gives it a stamp
 --     RefusesTable        raw columns are refused before any call
 --     IsWrittenAlone, StandsBehindPuts      the commit of a write, if nobody else makes events
 use Rattle.std.specs.Prelude.{◌≡◌, ℕ, ◌+◌, ℤ, false, length, slice_get, Option, Some, Ok, Err}
@@ -17,6 +18,7 @@ use Rattle.reply_model.specs.declared.reply.Reply.{Reply}
 use Rattle.reply_model.specs.Answering.{Session, stamp_of}
 use Rattle.reply_model.specs.Windows.{is_refused}
 use Rattle.frame_write.specs.Writes.{IsGridLinked}
+use Rattle.append_update.specs.Replies.{Runs}
 use Rattle.library_api.specs.Steps.{IsLegalIn}
 
 -- a session of this client, with so many tries, whose frame n is this table; a command of it that asks for this stamp has that one
@@ -30,6 +32,11 @@ pub record BringsTable (s : Session) (client tries n : ℕ) (table : Table) (ask
 abbrev pub IsLegalForTable : ℕ → ℕ → ℕ → Table → ℤ → (ℕ → Option ℤ → Command) → ℕ → ℕ → History → History → Reply → Type 0
 IsLegalForTable limit client tries table at command before now old new reply =
     (s : Session) (n : ℕ) (asked : Option ℤ) → BringsTable s client tries n table asked at → IsLegalIn (record { session = s; limit = limit }) before now old new (command n asked) reply
+
+-- for each session of the client that gives the command this stamp its reply is legal
+abbrev pub IsLegalWithStamp : ℕ → ℕ → ℕ → ℤ → (Option ℤ → Command) → ℕ → ℕ → History → History → Reply → Type 0
+IsLegalWithStamp limit client tries at command before now old new reply =
+    (s : Session) (asked : Option ℤ) → Runs s client tries asked at → IsLegalIn (record { session = s; limit = limit }) before now old new (command asked) reply
 
 -- a refusal at this place: that of the table's frame, or want of memory
 pub record RefusesTable (table : Table) (place : ℕ) (refused : Refused) : Type 0 where

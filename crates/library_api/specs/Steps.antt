@@ -34,6 +34,8 @@ use Rattle.library_api.specs.declared.settings.Settings.{Settings}
 abbrev pub is_carried_out : Command → Bool
 is_carried_out (commands.Write symbol frame at prune) = true
 is_carried_out (commands.Append symbol frame at prune) = true
+is_carried_out (commands.Update symbol frame range upsert at prune) = true
+is_carried_out (commands.DeleteRange symbol range at prune) = true
 is_carried_out (commands.Delete symbol versions) = true
 is_carried_out (commands.Prune symbol) = true
 is_carried_out (commands.Reclaim symbol) = true

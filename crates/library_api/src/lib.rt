@@ -12,6 +12,7 @@ mod reclaiming;
 mod reply;
 mod settings;
 mod step;
+mod updating;
 mod versions;
 mod writing;
 

@@ -13,6 +13,7 @@ use crate::keys::keys;
 use crate::reading::read;
 use crate::reclaiming::reclaim;
 use crate::settings::Settings;
+use crate::updating::{delete_range, update};
 use crate::versions::versions;
 use crate::writing::write;
 use base_types::Items;
@@ -63,6 +64,27 @@ pub(crate) fn perform<R: Wait, B: Bucket<StoreLaw>>(
             let raw = frame_at(frames, *frame);
             append(rt, alloc, bucket, symbol, raw, &options)
         }
+        Command::Update {
+            symbol,
+            frame,
+            range,
+            upsert,
+            at,
+            prune,
+        } => {
+            let options = settings.options(*at, *prune);
+            let raw = frame_at(frames, *frame);
+            update(rt, alloc, bucket, symbol, raw, *range, *upsert, &options)
+        }
+        Command::DeleteRange {
+            symbol,
+            range,
+            at,
+            prune,
+        } => {
+            let options = settings.options(*at, *prune);
+            delete_range(rt, alloc, bucket, symbol, *range, &options)
+        }
         Command::Read {
             symbol,
             as_of,
@@ -88,6 +110,8 @@ pub fn is_carried_out(command: &Command) -> bool
         command,
         Command::Write { .. }
             | Command::Append { .. }
+            | Command::Update { .. }
+            | Command::DeleteRange { .. }
             | Command::Delete { .. }
             | Command::Prune { .. }
             | Command::Reclaim { .. }

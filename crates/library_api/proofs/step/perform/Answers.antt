@@ -1,7 +1,7 @@
 use Rattle.std.proofs.Common.{option_copied, refl, sym, ap, ◌∙◌}
 use Rattle.expr_clause.specs.declared.command.Command.TheVariants as commands
 use Rattle.library_api.specs.Steps.{client_of}
-use Rattle.library_api.proofs.StepLemmas.{any_command, tried_command, table_command, told-not, none_lays, write_lays}
+use Rattle.library_api.proofs.StepLemmas.{any_command, tried_command, table_command, stamped_command, told-not, none_lays, write_lays}
 use Rattle.library_api.proofs.step.perform.Goals as goal
 
 pub returns-in-Write-clause-legal : goal.returns-in-Write-clause-legal
@@ -16,8 +16,26 @@ returns-in-Append-clause-legal g c =
     (g.B.Bucket.seen c.args.bucket.now) (g.B.Bucket.seen c.append.new.bucket) c.args.command.now c.append.result
     (λ o n asked. commands.Append c.in-Append.symbol n asked o.prune) c.in-Append.frame c.in-Append.at c.in-Append.prune c.options-options-in-Append.result c.frame_at-raw-in-Append.result.now c.in-Append.is c.options-options-in-Append.ensures c.frame_at-raw-in-Append.ensures c.append.ensures.legal
 
+pub returns-in-Update-clause-legal : goal.returns-in-Update-clause-legal
+returns-in-Update-clause-legal g c =
+    table_command c.args.frames.now c.args.settings (g.B.Bucket.number c.args.bucket.now) (g.B.Bucket.limit c.args.bucket.now) (g.B.Bucket.faults c.args.bucket.now) (g.B.Bucket.faults c.update.new.bucket)
+    (g.B.Bucket.seen c.args.bucket.now) (g.B.Bucket.seen c.update.new.bucket) c.args.command.now c.update.result
+    (λ o n asked. commands.Update c.in-Update.symbol n c.in-Update.range c.in-Update.upsert asked o.prune) c.in-Update.frame c.in-Update.at c.in-Update.prune c.options-options-in-Update.result c.frame_at-raw-in-Update.result.now c.in-Update.is c.options-options-in-Update.ensures c.frame_at-raw-in-Update.ensures c.update.ensures.legal
+
+pub returns-in-DeleteRange-clause-legal : goal.returns-in-DeleteRange-clause-legal
+returns-in-DeleteRange-clause-legal g c =
+    stamped_command c.args.frames.now c.args.settings (g.B.Bucket.number c.args.bucket.now) (g.B.Bucket.limit c.args.bucket.now) (g.B.Bucket.faults c.args.bucket.now) (g.B.Bucket.faults c.delete_range.new.bucket)
+    (g.B.Bucket.seen c.args.bucket.now) (g.B.Bucket.seen c.delete_range.new.bucket) c.args.command.now c.delete_range.result
+    (λ o asked. commands.DeleteRange c.in-DeleteRange.symbol c.in-DeleteRange.range asked o.prune) c.in-DeleteRange.at c.in-DeleteRange.prune c.options-options-in-DeleteRange.result c.in-DeleteRange.is c.options-options-in-DeleteRange.ensures c.delete_range.ensures.legal
+
 pub returns-in-Append-clause-lays : goal.returns-in-Append-clause-lays
 returns-in-Append-clause-lays g c told grows = absurd (told-not c.args.command.now (commands.Append c.in-Append.symbol c.in-Append.frame c.in-Append.at c.in-Append.prune) c.in-Append.is refl told)
+
+pub returns-in-Update-clause-lays : goal.returns-in-Update-clause-lays
+returns-in-Update-clause-lays g c told grows = absurd (told-not c.args.command.now (commands.Update c.in-Update.symbol c.in-Update.frame c.in-Update.range c.in-Update.upsert c.in-Update.at c.in-Update.prune) c.in-Update.is refl told)
+
+pub returns-in-DeleteRange-clause-lays : goal.returns-in-DeleteRange-clause-lays
+returns-in-DeleteRange-clause-lays g c told grows = absurd (told-not c.args.command.now (commands.DeleteRange c.in-DeleteRange.symbol c.in-DeleteRange.range c.in-DeleteRange.at c.in-DeleteRange.prune) c.in-DeleteRange.is refl told)
 
 pub returns-in-Reclaim-clause-legal : goal.returns-in-Reclaim-clause-legal
 returns-in-Reclaim-clause-legal g c =

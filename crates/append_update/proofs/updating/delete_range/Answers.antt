@@ -1,0 +1,17 @@
+use Rattle.std.proofs.Common.{sym, ap}
+use Rattle.frame_write.proofs.ReplyLemmas.{goes_on}
+use Rattle.append_update.specs.declared.wish.Wish.TheVariants as wishes
+use Rattle.append_update.specs.Asking.{IsAnswered, Declines, Wants}
+use Rattle.append_update.proofs.ReplyLemmas.{delete_is_legal}
+use Rattle.append_update.proofs.updating.delete_range.Goals as goal
+
+pub returns-clause-grown : goal.returns-clause-grown
+returns-clause-grown g c =
+    let wish = wishes.Clear c.ordered-range.result in
+    goes_on (g.B.Bucket.number c.args.bucket.now) (g.B.Bucket.sole c.args.bucket.now) c.args.symbol.now (IsAnswered c.args.symbol.now wish c.args.options.now) (Declines c.args.symbol.now wish c.args.options.now) (Wants c.args.symbol.now wish c.args.options.now)
+    _ _ _ _ _ _ _ c.try_all.ensures.did
+
+pub returns-clause-legal : goal.returns-clause-legal
+returns-clause-legal g c =
+    delete_is_legal (g.B.Bucket.number c.args.bucket.now) (g.B.Bucket.sole c.args.bucket.now) c.args.symbol.now c.args.range (wishes.Clear c.ordered-range.result) c.args.options.now (g.B.Bucket.limit c.args.bucket.now) _ _ _ _ _
+    (ap (λ r. wishes.Clear r) c.ordered-range.ensures.same) c.try_all.ensures.did

@@ -1,0 +1,37 @@
+use Rattle.std.proofs.Common.{ℕ, ℤ, Option, subst, sym}
+use Rattle.frame_core.specs.RawFrames.{table_of}
+use Rattle.bucket_core.specs.History.{History}
+use Rattle.version_chain.proofs.Walked.{looks_none}
+use Rattle.expr_clause.specs.declared.command.Command.{Command}
+use Rattle.expr_clause.specs.declared.command.Command.TheVariants as commands
+use Rattle.library_api.specs.Frames.{IsLegalForTable}
+use Rattle.library_api.proofs.NoEvents.{looks_go_on}
+use Rattle.library_api.proofs.WriteLemmas.{update_takes, unmade_legal, tried_legal}
+use Rattle.library_api.proofs.updating.update.Goals as goal
+
+pub returns-in-Ok-clause-legal : goal.returns-in-Ok-clause-legal
+returns-in-Ok-clause-legal g c =
+    let limit : ℕ = g.B.Bucket.limit c.args.bucket.now in
+    let number : ℕ = g.B.Bucket.number c.args.bucket.now in
+    let before : ℕ = g.B.Bucket.faults c.args.bucket.now in
+    let now : ℕ = g.B.Bucket.faults c.update-done.new.bucket in
+    let old : History = g.B.Bucket.seen c.args.bucket.now in
+    let new : History = g.B.Bucket.seen c.update-done.new.bucket in
+    let options = c.args.options.now in
+    let command : ℕ → Option ℤ → Command = λ n asked. commands.Update c.args.symbol.now n c.args.range c.args.upsert asked options.prune in
+    subst (IsLegalForTable limit number options.tries (table_of c.args.raw.now) options.at command before now old new) (sym c.committed.ensures)
+    (tried_legal command limit number options.tries (table_of c.args.raw.now) options.at before now old new c.in-Ok.prepared.frame c.update-done.result c.in-Ok.ensures.frame c.update-done.ensures.legal)
+
+pub returns-in-Err-clause-grown : goal.returns-in-Err-clause-grown
+returns-in-Err-clause-grown g c = looks_go_on _ _ _ _ (looks_none (g.B.Bucket.number c.args.bucket.now) (g.B.Bucket.sole c.args.bucket.now) (g.B.Bucket.seen c.args.bucket.now))
+
+pub returns-in-Err-clause-legal : goal.returns-in-Err-clause-legal
+returns-in-Err-clause-legal g c =
+    let limit : ℕ = g.B.Bucket.limit c.args.bucket.now in
+    let number : ℕ = g.B.Bucket.number c.args.bucket.now in
+    let faults : ℕ = g.B.Bucket.faults c.args.bucket.now in
+    let old : History = g.B.Bucket.seen c.args.bucket.now in
+    let options = c.args.options.now in
+    let command : ℕ → Option ℤ → Command = λ n asked. commands.Update c.args.symbol.now n c.args.range c.args.upsert asked options.prune in
+    subst (IsLegalForTable limit number options.tries (table_of c.args.raw.now) options.at command faults faults old old) (sym c.refusal.ensures)
+    (unmade_legal command (update_takes c.args.symbol.now c.args.range c.args.upsert options.prune) limit number options.tries (table_of c.args.raw.now) options.at faults old c.place.result c.in-Err.refused c.place.ensures c.in-Err.ensures.refused)
