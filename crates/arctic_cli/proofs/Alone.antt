@@ -1,5 +1,5 @@
 -- Where nothing hinders a run of one client alone, it is that of the fold.
-use Rattle.std.proofs.Common.{◌≡◌, ℕ, ℤ, ◌<◌, ◌⊎◌, Bool, true, false, cond, List, [], ◌∷◌, ◌++◌, length, Option, Some, Result, Ok, Err, refl, sym, ap, ◌∙◌, subst, inl, inr, arith}
+use Rattle.std.proofs.Common.{◌≡◌, ℕ, ℤ, ◌<◌, ◌⊎◌, suc, Bool, true, false, cond, List, [], ◌∷◌, ◌++◌, length, Option, Some, Result, Ok, Err, refl, sym, ap, ◌∙◌, subst, inl, inr, arith}
 use Rattle.std.specs.Prelude.{◌||◌, option_map}
 use Rattle.std.specs.List.{AllByRecursion, concat, list_any}
 use Rattle.std.proofs.lemmas.Bool.{true≢false}
@@ -12,16 +12,21 @@ use Rattle.reply_model.specs.declared.outcome.Outcome.TheVariants as outcomes
 use Rattle.reply_model.specs.declared.reply.Reply.{Reply}
 use Rattle.reply_model.specs.Windows.{Window, Client, is_cut, is_refused}
 use Rattle.reply_model.specs.Legal.{IsLegalOutcome, LegalFrom}
+use Rattle.reply_model.specs.Runs.{Talk, end_of, latest_end}
 use Rattle.reply_model.specs.Sole.{SoleRun, sole}
 use Rattle.reply_model.specs.Standing.{RunsAlone, RunsAreSole}
 use Rattle.store_model.specs.Law.{IsLawful}
 use Rattle.program_edge.specs.Clocks.{IsReading}
 use Rattle.arctic_cli.specs.declared.stop.Stop.{Stop}
-use Rattle.arctic_cli.specs.Program.{Shelf, Job, Run, run_of, wants_memory, replies_status, run_from, run_alone, prepared}
+use Rattle.client_sessions.specs.declared.parts.PartReplies.{PartReplies}
+use Rattle.client_sessions.specs.Sessions.{AreUncut, AreServed}
+use Rattle.client_sessions.specs.Blocks.{AreTalksOf}
+use Rattle.arctic_cli.specs.Program.{Shelf, Job, Run, run_of, wants_memory, some_outcome, some_reply, replies_status, one_block, replies_alone, run_from, run_alone, prepared}
 use Rattle.arctic_cli.specs.Causes.{Prepares}
-use Rattle.arctic_cli.specs.Performing.{AreUncut, AreServed}
 use Rattle.arctic_cli.specs.Endings.{Start, client_of, Performs, IsDue, Due, AllWritten, RunEnds, Ends, HasServed, IsUnhindered, IsRun}
 use Rattle.arctic_cli.proofs.Told.{prepares-told}
+use Rattle.arctic_cli.proofs.SoleRuns.{sole-parts}
+use Rattle.script_lang.specs.Fronts.{◌>>=◌}
 
 -- ---- replies that are not cut
 
@@ -84,12 +89,28 @@ all-uncut h client from [] (r ∷ rs) ws l calm memory below = absurd l
 all-uncut h client from (c ∷ cs) [] ws l calm memory below = absurd l
 all-uncut h client from (c ∷ cs) (r ∷ rs) [] l calm memory below = absurd l
 
+-- there is a reply for each command
+legal-length : (h : History) (client : Client) (from : ℕ) (cs : List Command) (rs : List Reply) (ws : List Window) → LegalFrom h client from cs rs ws → length rs ≡ length cs
+legal-length h client from [] [] [] l = refl
+legal-length h client from (c ∷ cs) (r ∷ rs) (w ∷ ws) l = ap suc (legal-length h client w.stop cs rs ws l.2)
+legal-length h client from [] [] (w ∷ ws) l = absurd l
+legal-length h client from [] (r ∷ rs) ws l = absurd l
+legal-length h client from (c ∷ cs) [] ws l = absurd l
+legal-length h client from (c ∷ cs) (r ∷ rs) [] l = absurd l
+
+-- without blocks there are no replies of blocks
+no-blocks : (client : ℕ → Client) (blocks : List (List Command)) (replies : List (List Reply)) (talks : List Talk) → AreTalksOf client blocks replies talks → blocks ≡ [] → replies ≡ []
+no-blocks client [] [] talks are none = refl
+no-blocks client [] (r ∷ replies) [] are none = absurd are
+no-blocks client [] (r ∷ replies) (t ∷ talks) are none = absurd are
+no-blocks client (b ∷ blocks) replies talks are none = absurd cc
+
 -- ---- the run
 
--- a run of a job
+-- a run of a job without blocks
 job-exact : (are_sole : RunsAreSole) (start : Start) (job : Job) (run : Run) (moment : ℤ) (told : Text) (after : Option Text) (status : ℕ) (new : History) → start.reading ≡ Some moment → start.history ≡ [] → start.client ≡ 1 → length new < start.limit →
-    AreServed job.commands → Performs start job run new → AllWritten run (Some told) after status → (status ≡ 6) ⊎ IsRun (run_from moment (Ok job)) told after status
-job-exact are_sole start job run moment told after status new reading empty first below served p w = of (list_any (λ (r : Reply). wants_memory r.outcome) p.replies) refl
+    job.parts.blocks ≡ [] → AreServed job.parts.first → AreServed job.parts.last → Performs start job run new → AllWritten run (Some told) after status → (status ≡ 6) ⊎ IsRun (run_from moment (Ok job)) told after status
+job-exact are_sole start job run moment told after status new reading empty one below none first_served last_served p w = of (some_reply wants_memory p.replies) refl
   where
     same : p.moment ≡ moment
     same = subst (λ o. IsReading o p.moment) reading p.told
@@ -97,30 +118,58 @@ job-exact are_sole start job run moment told after status new reading empty firs
     status_is : status ≡ replies_status p.replies
     status_is = w.status_is ∙ ap (λ (r : Run). r.status) p.run_is
 
-    uncut : list_any (λ (r : Reply). wants_memory r.outcome) p.replies ≡ false → AreUncut p.replies
-    uncut none = all-uncut new (client_of start job p.moment) (length start.history) job.commands p.replies p.carried_out.windows p.carried_out.legal p.carried_out.no_fault none below
+    front : some_reply wants_memory p.replies ≡ false → some_outcome wants_memory p.replies.first ≡ false
+    front calm = or-first (some_outcome wants_memory p.replies.first) (list_any (some_outcome wants_memory) p.replies.blocks)
+        (or-first (some_outcome wants_memory p.replies.first || list_any (some_outcome wants_memory) p.replies.blocks) (some_outcome wants_memory p.replies.last) calm)
 
-    is_sole : list_any (λ (r : Reply). wants_memory r.outcome) p.replies ≡ false → sole job.cutting job.frames p.moment job.commands [] [] ≡ Some (record { first = p.replies; block = []; last = []; events = length new })
-    is_sole none = are_sole job.cutting (client_of start job p.moment).session job.commands p.replies new first
-        (subst (λ (h : History). RunsAlone job.cutting (client_of start job p.moment).session job.commands p.replies h new) empty
-        (p.carried_out.alone (subst (λ (h : History). IsLawful h) (sym empty) tt) served (uncut none)))
+    back : some_reply wants_memory p.replies ≡ false → some_outcome wants_memory p.replies.last ≡ false
+    back calm = or-second (some_outcome wants_memory p.replies.first || list_any (some_outcome wants_memory) p.replies.blocks) (some_outcome wants_memory p.replies.last) calm
 
-    written : IsRun (Some (run_of p.replies (length new))) told after status
-    written = (status_is, w.output ∙ ap (λ (r : Run). some (told ++ concat r.lines)) p.run_is)
-      where
-        some : Text → Option Text
-        some t = Some t
+    first_uncut : some_reply wants_memory p.replies ≡ false → AreUncut p.replies.first
+    first_uncut calm = all-uncut new (client_of start job p.moment start.client) (length start.history) job.parts.first p.replies.first p.ran.first p.ran.legal.first_legal p.ran.legal.no_fault.0 (front calm) below
 
-    of : (b : Bool) → list_any (λ (r : Reply). wants_memory r.outcome) p.replies ≡ b → (status ≡ 6) ⊎ IsRun (run_from moment (Ok job)) told after status
-    of true is = inl (status_is ∙ ap (λ b. cond b 6 (cond (list_any (λ (r : Reply). is_refused r.outcome) p.replies) 1 0)) is)
+    last_uncut : some_reply wants_memory p.replies ≡ false → AreUncut p.replies.last
+    last_uncut calm = all-uncut new (client_of start job p.moment start.client) (latest_end (end_of (length start.history) p.ran.first) p.ran.clients) job.parts.last p.replies.last p.ran.last p.ran.legal.last_legal p.ran.legal.no_fault.1.0 (back calm) below
+
+    lawful : IsLawful start.history
+    lawful = subst (λ (h : History). IsLawful h) (sym empty) tt
+
+    is_sole : some_reply wants_memory p.replies ≡ false → sole job.cutting job.frames p.moment job.parts.first [] job.parts.last ≡ Some (record { first = p.replies.first; block = []; last = p.replies.last; events = length new })
+    is_sole calm = sole-parts are_sole job.cutting (client_of start job p.moment start.client).session job.parts.first job.parts.last p.replies.first p.replies.last p.ran.behind_first new one
+        (legal-length new (client_of start job p.moment start.client) (length start.history) job.parts.first p.replies.first p.ran.first p.ran.legal.first_legal)
+        (subst (λ (h : History). RunsAlone job.cutting (client_of start job p.moment start.client).session job.parts.first p.replies.first h p.ran.behind_first) empty
+        (p.ran.first_alone lawful first_served (first_uncut calm)))
+        (subst (λ (h : History). RunsAlone job.cutting (client_of start job p.moment start.client).session job.parts.last p.replies.last h new) (p.ran.without_blocks none)
+        (p.ran.last_alone lawful last_served (last_uncut calm)))
+
+    -- the replies are those of the run alone
+    told_parts : List (List Reply) → PartReplies
+    told_parts blocks = record { first = p.replies.first; blocks = blocks; last = p.replies.last }
+
+    is_run : Run → Option Run
+    is_run r = Some r
+
+    alone_is : some_reply wants_memory p.replies ≡ false → run_from p.moment (Ok job) ≡ Some run
+    alone_is calm =
+        subst (λ (blocks : List (List Command)). (one_block blocks >>= λ block. option_map (λ (r : SoleRun). run_of job.names (replies_alone blocks r) r.events) (sole job.cutting job.frames p.moment job.parts.first block job.parts.last)) ≡ Some run) (sym none)
+        (ap (option_map (λ (r : SoleRun). run_of job.names (replies_alone [] r) r.events)) (is_sole calm)
+        ∙ ap (λ (blocks : List (List Reply)). is_run (run_of job.names (told_parts blocks) (length new))) (sym (no-blocks (client_of start job p.moment) job.parts.blocks p.replies.blocks p.ran.clients p.ran.clients_are none))
+        ∙ ap is_run (sym p.run_is))
+
+    written : IsRun (Some run) told after status
+    written = (w.status_is, w.output)
+
+    of : (b : Bool) → some_reply wants_memory p.replies ≡ b → (status ≡ 6) ⊎ IsRun (run_from moment (Ok job)) told after status
+    of true is = inl (status_is ∙ ap (λ b. cond b 6 (cond (some_reply is_refused p.replies) 1 0)) is)
     of false is = inr (subst (λ (m : ℤ). IsRun (run_from m (Ok job)) told after status) same
-        (subst (λ o. IsRun (option_map (λ (r : SoleRun). run_of r.first r.events) o) told after status) (sym (is_sole is)) written))
+        (subst (λ (o : Option Run). IsRun o told after status) (sym (alone_is is)) written))
 
 -- all was written
 plan-exact : (are_sole : RunsAreSole) (start : Start) (plan : Result Job Stop) (run : Run) (moment : ℤ) (told : Text) (after : Option Text) (status : ℕ) (new : History) → start.reading ≡ Some moment → start.history ≡ [] → start.client ≡ 1 → length new < start.limit →
-    ((job : Job) → plan ≡ Ok job → AreServed job.commands) → IsDue start plan run new → AllWritten run (Some told) after status → (status ≡ 6) ⊎ IsRun (run_from moment plan) told after status
-plan-exact are_sole start (Ok job) run moment told after status new reading empty first below served due w = job-exact are_sole start job run moment told after status new reading empty first below (served job refl) due w
-plan-exact are_sole start (Err s) run moment told after status new reading empty first below served due w =
+    HasServed plan → IsDue start plan run new → AllWritten run (Some told) after status → (status ≡ 6) ⊎ IsRun (run_from moment plan) told after status
+plan-exact are_sole start (Ok job) run moment told after status new reading empty one below served due w =
+    job-exact are_sole start job run moment told after status new reading empty one below served.0 served.1 served.2 due w
+plan-exact are_sole start (Err s) run moment told after status new reading empty one below served due w =
     inr (w.status_is ∙ ap (λ (r : Run). r.status) due.0, w.output ∙ ap (λ (r : Run). some (told ++ concat r.lines)) due.0)
   where
     some : Text → Option Text
@@ -133,7 +182,7 @@ due-exact are_sole start f0 f1 g0 g1 held told moment w0 w1 status new u due (in
 due-exact are_sole start f0 f1 g0 g1 held told moment w0 w1 status new u due (inl w) =
     let made : prepared held start.words ≡ due.plan = prepares-told held f0 f1 start.words due.plan u.shelf_works (subst (λ h. Prepares h f0 f1 start.words due.plan) u.tells due.prepares) in
     subst (λ (x : Result Job Stop). (status ≡ 6) ⊎ IsRun (run_from moment x) told w1 status) (sym made)
-    (plan-exact are_sole start due.plan due.run moment told w1 status new u.reading u.empty u.first u.room (λ job is. subst (λ (x : Result Job Stop). HasServed x) (made ∙ is) u.served) due.is_due (subst (λ (o : Option Text). AllWritten due.run o w1 status) u.written w))
+    (plan-exact are_sole start due.plan due.run moment told w1 status new u.reading u.empty u.first u.room (subst HasServed made u.served) due.is_due (subst (λ (o : Option Text). AllWritten due.run o w1 status) u.written w))
 
 -- where nothing hinders it, the run is that of one client alone, or memory was wanted
 pub exact : (are_sole : RunsAreSole) (start : Start) (f0 f1 g0 g1 : ℕ) (held : Shelf) (told : Text) (moment : ℤ) (w0 w1 : Option Text) (status : ℕ) (new : History) → IsUnhindered start f0 f1 g0 g1 held told moment w0 new →

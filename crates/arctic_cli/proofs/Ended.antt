@@ -1,21 +1,21 @@
 -- What each status of a run tells.
-use Rattle.std.proofs.Common.{◌≡◌, ℕ, ◌≤◌, ◌⊎◌, Bool, true, false, cond, List, Option, Result, Ok, Err, refl, ap, ◌∙◌, subst, inl, inr, arith}
-use Rattle.std.specs.List.{concat, list_any}
+use Rattle.std.proofs.Common.{◌≡◌, ℕ, ◌≤◌, ◌⊎◌, Bool, true, false, cond, Option, Result, Ok, Err, refl, ap, ◌∙◌, subst, inl, inr, arith}
+use Rattle.std.specs.List.{concat}
 use Rattle.std.proofs.lemmas.List.{append-nil}
 use Rattle.base_types.specs.Faults.{Rose}
 use Rattle.frame_core.specs.Texts.{Text}
 use Rattle.bucket_core.specs.History.{History}
-use Rattle.reply_model.specs.declared.reply.Reply.{Reply}
 use Rattle.reply_model.specs.Windows.{is_refused}
+use Rattle.client_sessions.specs.declared.parts.PartReplies.{PartReplies}
 use Rattle.arctic_cli.specs.declared.stop.Stop.{Stop}
 use Rattle.arctic_cli.specs.declared.stop.Stop.TheVariants as stops
-use Rattle.arctic_cli.specs.Program.{Job, Run, stop_status, stop_line, wants_memory, replies_status}
+use Rattle.arctic_cli.specs.Program.{Job, Run, stop_status, stop_line, wants_memory, some_reply, replies_status}
 use Rattle.arctic_cli.specs.Causes.{StopsBy, Prepares}
 use Rattle.arctic_cli.specs.Endings.{Wrote, Start, IsDue, Due, AllWritten, RunEnds, Ends, IsTranscript, StopsByUsage, StopsByScript, StopsByFetch, StopsByFile, StopsByPut, WantsMemory}
 
 -- the status of replies is 0, 1 or 6
-status-kinds : (replies : List Reply) → (replies_status replies ≤ 1) ⊎ (replies_status replies ≡ 6)
-status-kinds replies = of (list_any (λ (r : Reply). wants_memory r.outcome) replies) (list_any (λ (r : Reply). is_refused r.outcome) replies)
+status-kinds : (replies : PartReplies) → (replies_status replies ≤ 1) ⊎ (replies_status replies ≡ 6)
+status-kinds replies = of (some_reply wants_memory replies) (some_reply is_refused replies)
   where
     of : (m b : Bool) → (cond {A = ℕ} m 6 (cond b 1 0) ≤ 1) ⊎ (◌≡◌ {A = ℕ} (cond m 6 (cond b 1 0)) 6)
     of true b = inr refl

@@ -5,8 +5,9 @@ pub mod Shown
 pub mod Digits
 pub mod WordPairs
 pub mod Loading
-pub mod Performing
+pub mod Ready
 pub mod Running
 pub mod Ended
 pub mod Told
+pub mod SoleRuns
 pub mod Alone

@@ -1,12 +1,14 @@
 -- Loads that are read one after another.
-use Rattle.std.proofs.Common.{◌≡◌, ℕ, ◌+◌, ◌<◌, ◌≤◌, List, [], ◌∷◌, ◌++◌, Err, length, map, get_or, take, drop, refl, sym, ap, ◌∙◌, subst, inl, inr, arith, add-one, drop-cons}
-use Rattle.std.specs.List.{AllZip, AllByRecursion}
+use Rattle.std.proofs.Common.{◌≡◌, ℕ, ◌+◌, ◌<◌, ◌≤◌, List, [], ◌∷◌, ◌++◌, Err, length, map, get_or, take, drop, Result, Ok, refl, sym, ap, ◌∙◌, subst, inl, inr, arith, add-one, drop-cons}
+use Rattle.std.specs.Prelude.{IfOk, IfErr}
+use Rattle.std.specs.List.{AllZip}
 use Rattle.std.proofs.lemmas.List.{take-append-drop, take_more}
 use mathlib.Core.List.{map-append}
 use Rattle.frame_core.specs.RawFrames.{Table, table_of}
 use Rattle.frame_core.specs.declared.raw.RawFrame.{RawFrame}
 use Rattle.frame_core.specs.Texts.{Text}
 use Rattle.program_edge.specs.Shelves.{Held}
+use Rattle.client_sessions.specs.Parts.{Parts}
 use Rattle.script_lang.specs.declared.load.Load.{Load}
 use Rattle.script_lang.specs.declared.script.Script.{Script}
 use Rattle.arctic_cli.specs.declared.stop.Stop.{Stop}
@@ -14,11 +16,13 @@ use Rattle.arctic_cli.specs.declared.stop.Stop.TheVariants as stops
 use Rattle.arctic_cli.specs.declared.stop.Halt.{Halt}
 use Rattle.arctic_cli.specs.declared.stop.Halt.TheVariants as halts
 use Rattle.arctic_cli.specs.CommandLine.{Words}
-use Rattle.arctic_cli.specs.Program.{job_of}
+use Rattle.arctic_cli.specs.declared.prepare.Plan.{Plan}
+use Rattle.arctic_cli.specs.Jobs.{client_names, parts_of}
+use Rattle.arctic_cli.specs.Program.{Job, job_of}
 use Rattle.arctic_cli.specs.declared.words.Options.{Options}
 use Rattle.arctic_cli.specs.Causes.{HeldAs, NotFetched, FindsScript, GivesTable, ReachesLoad, IsPrepared, StopsBy}
 use Rattle.arctic_cli.proofs.Prints.{rose-later}
-use Rattle.arctic_cli.specs.Preparing.{FindsJob, LoadHalts, LoadsHalt, PlanIs}
+use Rattle.arctic_cli.specs.Preparing.{FindsJob, LoadHalts, LoadsHalt, parts_in, PlanIs}
 
 -- one pair more
 pub allzip-push : {A B : Type 0} (R : A → B → Type 0) (xs : List A) (ys : List B) (x : A) (y : B) → AllZip R xs ys → R x y → AllZip R (xs ++ x ∷ []) (ys ++ y ∷ [])
@@ -26,11 +30,6 @@ allzip-push R [] [] x y all r = (r, tt)
 allzip-push R [] (b ∷ ys) x y all r = absurd all
 allzip-push R (a ∷ xs) [] x y all r = absurd all
 allzip-push R (a ∷ xs) (b ∷ ys) x y all r = (all.0, allzip-push R xs ys x y all.1 r)
-
--- one element more
-pub all-push : {A : Type 0} (P : A → Type 0) (xs : List A) (x : A) → AllByRecursion P xs → P x → AllByRecursion P (xs ++ x ∷ [])
-all-push P [] x all p = (p, tt)
-all-push P (a ∷ xs) x all p = (all.0, all-push P xs x all.1 p)
 
 -- a list around the place i
 pub around : {A : Type 0} (xs : List A) (i : ℕ) (d : A) → i < length xs → xs ≡ take i xs ++ get_or xs i d ∷ drop (i + 1) xs
@@ -105,9 +104,13 @@ loads_stop holds before later now words script (halts.Stop s) le found why = of 
 
 -- ---- the job
 
+-- a job of these options, names, parts and frames
+abbrev job_with : Options → List Text → Parts → List Table → Job
+job_with options names parts frames = record { cutting = record { rows = options.cutting.rows; columns = options.cutting.cols }; tries = options.tries; names = names; parts = parts; frames = frames }
+
 -- the job of a script that the words name, of their options and of the raw frames of its loads
-pub prepared_job : (holds : Held) (words : List Text) (script : Script) (options : Options) (frames : List Table) → FindsJob holds words script options → AllZip (GivesTable holds) script.loads frames →
-    IsPrepared holds words (record { cutting = record { rows = options.cutting.rows; columns = options.cutting.cols }; tries = options.tries; commands = script.first; frames = frames })
+prepared_job : (holds : Held) (words : List Text) (script : Script) (options : Options) (frames : List Table) → FindsJob holds words script options → AllZip (GivesTable holds) script.loads frames →
+    IsPrepared holds words (job_with options (client_names script.clients) (parts_of script) frames)
 prepared_job holds words script options frames x loaded = record {
   script = script;
   found = x.found;
@@ -115,3 +118,18 @@ prepared_job holds words script options frames x loaded = record {
   loaded = loaded;
   job_is = sym (ap (λ (s : Words). job_of s script frames) x.says);
 }
+
+-- a plan of the script, of its options and of the raw frames of its loads is the words' plan
+pub prepared_plan : (holds : Held) (before now : ℕ) (words : List Text) (script : Script) (options : Options) (frames : List RawFrame) (result : Result Plan Halt) →
+    FindsJob holds words script options → AllZip (GivesTable holds) script.loads (map table_of frames) →
+    IfOk result (λ plan. plan.options ≡ options) → IfOk result (λ plan. plan.names ≡ client_names script.clients) → IfOk result (λ plan. parts_in plan ≡ parts_of script) →
+    IfOk result (λ plan. plan.frames ≡ frames) → IfErr result (λ halt. halt ≡ halts.NoMemory) → PlanIs holds before now words result
+prepared_plan holds before now words script options frames (Err halt) found loaded o n p f memory = subst (λ (h : Halt). PlanIs holds before now words (Err h)) (sym memory) tt
+prepared_plan holds before now words script options frames (Ok plan) found loaded o n p f memory =
+    let tables : map table_of plan.frames ≡ map table_of frames = ap (map table_of) f in
+    let same : job_with plan.options plan.names (parts_in plan) (map table_of plan.frames) ≡ job_with options (client_names script.clients) (parts_of script) (map table_of frames) =
+    ap (λ (x : Options). job_with x plan.names (parts_in plan) (map table_of plan.frames)) o
+    ∙ ap (λ (x : List Text). job_with options x (parts_in plan) (map table_of plan.frames)) n
+    ∙ ap (λ (x : Parts). job_with options (client_names script.clients) x (map table_of plan.frames)) p
+    ∙ ap (λ (x : List Table). job_with options (client_names script.clients) (parts_of script) x) tables in
+    subst (λ (j : Job). IsPrepared holds words j) (sym same) (prepared_job holds words script options (map table_of frames) found loaded)

@@ -1,5 +1,5 @@
 -- Replies as texts in a row.
-use Rattle.std.proofs.Common.{◌≡◌, true, false, ℕ, zero, suc, ◌+◌, List, [], ◌∷◌, ◌++◌, length, map, Option, Some, refl, sym, ap, ◌∙◌, arith}
+use Rattle.std.proofs.Common.{◌≡◌, true, false, ℕ, zero, suc, ◌+◌, List, [], ◌∷◌, ◌++◌, length, map, Option, Some, refl, sym, ap, ◌∙◌, append_assoc, arith}
 use Rattle.std.specs.Prelude.{◌==◌, slice_get, option_map, codes}
 use Rattle.std.specs.List.{concat, join_with_byte}
 use Rattle.std.proofs.lemmas.Bool.{true≢false, ne_eqb}
@@ -7,7 +7,8 @@ use Rattle.std.proofs.lemmas.List.{append-nil}
 use Rattle.std.proofs.lemmas.List.Folds.{concat-append}
 use Rattle.frame_core.specs.Texts.{Text}
 use Rattle.reply_model.specs.declared.reply.Reply.{Reply}
-use Rattle.arctic_cli.specs.Transcript.{left_text, reply_lines, part_lines, end_line, transcript}
+use Rattle.client_sessions.specs.declared.parts.PartReplies.{PartReplies}
+use Rattle.arctic_cli.specs.Transcript.{left_text, reply_lines, part_lines, clients_lines, end_line, transcript}
 
 -- the value of a place
 pub slice_get-map : {A B : Type 0} (f : A → B) (xs : List A) (i : ℕ) (x : A) → slice_get xs i ≡ Some x → slice_get (map f xs) i ≡ Some (f x)
@@ -62,6 +63,29 @@ left-some (symbol ∷ more) some = refl
 
 -- ---- the transcript
 
--- the text of a transcript is that of the replies and of the end
-pub transcript-text : (told : List Reply) (end : ℕ) → concat (transcript told end) ≡ concat (part_lines (codes "first") 1 told) ++ end_line end
-transcript-text told end = concat-append (part_lines (codes "first") 1 told) (end_line end ∷ []) ∙ ap (λ (t : Text). concat (part_lines (codes "first") 1 told) ++ t) (append-nil (end_line end))
+-- the text of the clients' replies is that of the first client's and of the others'
+clients-text : (name : Text) (names : List Text) (replies : List Reply) (blocks : List (List Reply)) →
+    concat (clients_lines (name ∷ names) (replies ∷ blocks)) ≡ concat (part_lines name 1 replies) ++ concat (clients_lines names blocks)
+clients-text name names replies blocks = concat-append (part_lines name 1 replies) (clients_lines names blocks)
+
+-- the same of lists that have a first client
+pub clients-cons : (names more : List Text) (blocks others : List (List Reply)) (name : Text) (replies : List Reply) → names ≡ name ∷ more → blocks ≡ replies ∷ others →
+    concat (clients_lines names blocks) ≡ concat (part_lines name 1 replies) ++ concat (clients_lines more others)
+clients-cons names more blocks others name replies names_are blocks_are =
+    ap (λ (n : List Text). concat (clients_lines n blocks)) names_are ∙ ap (λ (b : List (List Reply)). concat (clients_lines (name ∷ more) b)) blocks_are ∙ clients-text name more replies others
+
+-- the text of the last replies and of the end
+abbrev pub end_text : List Reply → ℕ → Text
+end_text last end = concat (part_lines (codes "last") 1 last) ++ end_line end
+
+-- the text of a transcript is that of the first replies and of the clients' replies, and that of the last replies and the end
+pub transcript-text : (names : List Text) (r : PartReplies) (end : ℕ) →
+    concat (transcript names r end) ≡ (concat (part_lines (codes "first") 1 r.first) ++ concat (clients_lines names r.blocks)) ++ end_text r.last end
+transcript-text names r end =
+    let first = part_lines (codes "first") 1 r.first in
+    let clients = clients_lines names r.blocks in
+    let last = part_lines (codes "last") 1 r.last in
+    concat-append ((first ++ clients) ++ last) (end_line end ∷ [])
+    ∙ ap (λ (t : Text). concat ((first ++ clients) ++ last) ++ t) (append-nil (end_line end))
+    ∙ ap (λ (t : Text). t ++ end_line end) (concat-append (first ++ clients) last ∙ ap (λ (t : Text). t ++ concat last) (concat-append first clients))
+    ∙ append_assoc (concat first ++ concat clients) (concat last) (end_line end)

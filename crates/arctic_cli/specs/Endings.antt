@@ -13,8 +13,12 @@ use Rattle.std.specs.List.{concat}
 use Rattle.base_types.specs.Faults.{Rose}
 use Rattle.frame_core.specs.Texts.{Text}
 use Rattle.bucket_core.specs.History.{History}
-use Rattle.reply_model.specs.declared.reply.Reply.{Reply}
+use Rattle.bucket_shared.specs.declared.pass.Pass.{Pass}
+use Rattle.bucket_shared.specs.Passes.{seen_of, number_of, limit_of}
 use Rattle.reply_model.specs.Windows.{Client}
+use Rattle.client_sessions.specs.declared.parts.PartReplies.{PartReplies}
+use Rattle.client_sessions.specs.Sessions.{AreServed}
+use Rattle.client_sessions.specs.Parts as sessions
 use Rattle.program_edge.specs.Shelves.{Held}
 use Rattle.program_edge.specs.Clocks.{IsReading}
 use Rattle.program_edge.specs.declared.sink.SinkErr.{SinkErr}
@@ -22,9 +26,8 @@ use Rattle.program_edge.specs.declared.sink.SinkErr.TheVariants as sinks
 use Rattle.arctic_cli.specs.declared.stop.Stop.{Stop}
 use Rattle.arctic_cli.specs.declared.stop.Stop.TheVariants as stops
 use Rattle.arctic_cli.specs.CommandLine.{plain_words_of, first_set}
-use Rattle.arctic_cli.specs.Program.{Shelf, Job, stop_line, Run, run_of, stopped, prepared}
+use Rattle.arctic_cli.specs.Program.{Shelf, Job, prepared, stop_line, Run, run_of, stopped}
 use Rattle.arctic_cli.specs.Causes.{IsBadScript, IsUnreadable, IsBadFile, IsPrepared, Prepares}
-use Rattle.arctic_cli.specs.Performing.{AreServed, IsCarriedOut}
 
 -- ---- the output
 
@@ -50,7 +53,7 @@ Prints written faults old new text result = Printed (written old) (written new) 
 
 -- ---- the whole run
 
--- the words, what the shelf holds, the clock's reading, the store's limit and client, and its history
+-- the words, what the shelf holds, the clock's reading, the store's limit, the pass's client, and the history
 pub record Start : Type 0 where
   pub words : List Text
   pub holds : Held
@@ -59,21 +62,22 @@ pub record Start : Type 0 where
   pub client : ℕ
   pub history : History
 
--- what a run begins with
-abbrev pub start_of : List Text → Held → Option ℤ → ℕ → ℕ → History → Start
-start_of words holds reading limit client history = record { words = words; holds = holds; reading = reading; limit = limit; client = client; history = history }
+-- what a run of these words begins with, over a shelf that holds these files, a clock that reads this moment, and a pass
+abbrev pub start_of : List Text → Held → Option ℤ → Pass → Start
+start_of words holds reading pass = record { words = words; holds = holds; reading = reading; limit = limit_of pass; client = number_of pass; history = seen_of pass }
 
--- the store's client, with the frames and the tries of a job and with a moment
-abbrev pub client_of : Start → Job → ℤ → Client
-client_of start job moment = record { session = record { frames = job.frames; moment = moment; tries = job.tries; client = start.client }; limit = start.limit }
+-- a client of the store, with the frames and the tries of a job and with a moment
+abbrev pub client_of : Start → Job → ℤ → ℕ → Client
+client_of start job moment number = record { session = record { frames = job.frames; moment = moment; tries = job.tries; client = number }; limit = start.limit }
 
--- the commands of a job were carried out at the clock's reading, and the run is that of their replies
+-- the parts of a job were carried out at the clock's reading: there are replies and windows for all commands, legal in the history that
+-- goes on lawfully from the one before, and each added event lies in a window of its own client; and the run is that of the replies
 pub record Performs (start : Start) (job : Job) (run : Run) (new : History) : Type 0 where
   pub moment : ℤ
   pub told : IsReading start.reading moment
-  pub replies : List Reply
-  pub carried_out : IsCarriedOut job.cutting (client_of start job moment) job.commands replies start.history new
-  pub run_is : run ≡ run_of replies (length new)
+  pub replies : PartReplies
+  pub ran : sessions.IsRun job.cutting (client_of start job moment) start.client job.parts replies start.history new
+  pub run_is : run ≡ run_of job.names replies (length new)
 
 -- the run that is due by what was prepared: that of the job, or a stop, which leaves the history as it was
 abbrev pub IsDue : Start → Result Job Stop → Run → History → Type 0
@@ -158,13 +162,14 @@ WantsMemory start shelf_faults shelf_now before after new =
 
 -- ---- completeness
 
--- the commands of the job, if there is one, are those of which it is told what one client alone gets
+-- the job, if there is one, has no block, and of each of its commands it is told what one client alone gets
 abbrev pub HasServed : Result Job Stop → Type 0
-HasServed (Ok job) = AreServed job.commands
+HasServed (Ok job) = (job.parts.blocks ≡ []) × AreServed job.parts.first × AreServed job.parts.last
 HasServed (Err stop) = ⊤
 
--- nothing hinders a run of one client alone: shelf, output and clock tell what they hold; the store is empty and of client 1; neither
--- shelf nor output failed; the limit was not reached; and no command is one of which it is not told what one client alone gets
+-- nothing hinders a run of one client alone: shelf, output and clock tell what they hold; the store is empty and the pass that of client
+-- 1; neither shelf nor output failed; the limit was not reached; there is no block; and no command is one of which it is not told what one
+-- client alone gets
 pub record IsUnhindered (start : Start) (shelf_faults shelf_now faults now : ℕ) (held : Shelf) (told : Text) (moment : ℤ) (before : Option Text) (new : History) : Type 0 where
   pub tells : start.holds ≡ Some held
   pub written : before ≡ Some told

@@ -4,6 +4,5 @@ pub mod Transcript
 pub mod Jobs
 pub mod Program
 pub mod Causes
-pub mod Performing
 pub mod Endings
 pub mod Preparing

@@ -3,12 +3,13 @@
 --     FailsAt, LoadsHalt      the load at which loading halted, before which all are good
 --     ScriptHalts             why there is no script
 --     said, FindsJob          what the words say; the script that they name, and their options
---     job_in, PlanIs          the job of a plan; the plan of the words, or why there is none
+--     parts_in, job_in, PlanIs      the commands of a plan, and its job; the plan of the words, or why there is none
 use Rattle.std.specs.Prelude.{◌≡◌, ℕ, ⊤, List, ◌∷◌, ◌++◌, map, None, Result, Ok, Err}
 use Rattle.std.specs.List.{AllZip}
 use Rattle.frame_core.specs.Texts.{Text}
 use Rattle.frame_core.specs.RawFrames.{Table, table_of}
 use Rattle.program_edge.specs.Shelves.{Held}
+use Rattle.client_sessions.specs.Parts.{Parts}
 use Rattle.script_lang.specs.declared.load.Load.{Load}
 use Rattle.script_lang.specs.declared.script.Script.{Script}
 use Rattle.arctic_cli.specs.declared.stop.Stop.TheVariants as stops
@@ -68,9 +69,13 @@ pub record FindsJob (holds : Held) (words : List Text) (script : Script) (option
   pub found : FindsScript holds words script
   pub says : found.said ≡ said found.said.word options
 
+-- the commands of a plan's parts
+abbrev pub parts_in : Plan → Parts
+parts_in plan = record { first = plan.first; blocks = plan.blocks; last = plan.last }
+
 -- the job of a plan
 abbrev pub job_in : Plan → Job
-job_in plan = record { cutting = record { rows = plan.options.cutting.rows; columns = plan.options.cutting.cols }; tries = plan.options.tries; commands = plan.commands; frames = map table_of plan.frames }
+job_in plan = record { cutting = record { rows = plan.options.cutting.rows; columns = plan.options.cutting.cols }; tries = plan.options.tries; names = plan.names; parts = parts_in plan; frames = map table_of plan.frames }
 
 -- the plan of the words, or why there is none
 abbrev pub PlanIs : Held → ℕ → ℕ → List Text → Result Plan Halt → Type 0

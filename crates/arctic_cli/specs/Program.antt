@@ -5,8 +5,8 @@
 --     prepared                the job of the words, or why the run stops
 --     replies_status          the status of replies
 --     Run, run_of, stopped    a status, and the lines that are put, each by a put of its own
---     run_alone               the run of one client alone, from the empty history
-use Rattle.std.specs.Prelude.{ℕ, ℤ, Bool, true, false, if◌then◌else◌, List, [], ◌∷◌, ◌++◌, Option, Some, None, option_map, Result, Ok, Err, codes}
+--     run_alone               the run of a script with at most one block, from the empty history
+use Rattle.std.specs.Prelude.{ℕ, ℤ, Bool, true, false, ◌||◌, if◌then◌else◌, List, [], ◌∷◌, ◌++◌, Option, Some, None, option_map, Result, Ok, Err, codes}
 use Rattle.std.specs.List.{list_any}
 use Rattle.frame_core.specs.Texts.{Text}
 use Rattle.frame_core.specs.declared.refusal.Refusal.TheVariants as refusals
@@ -18,10 +18,13 @@ use Rattle.reply_model.specs.declared.reply.Reply.{Reply}
 use Rattle.reply_model.specs.Windows.{is_refused}
 use Rattle.reply_model.specs.Blocks.{Cutting}
 use Rattle.reply_model.specs.Sole.{SoleRun, sole}
+use Rattle.client_sessions.specs.declared.parts.PartReplies.{PartReplies}
+use Rattle.client_sessions.specs.Parts.{Parts}
 use Rattle.script_lang.specs.declared.load.Load.{Load}
 use Rattle.script_lang.specs.declared.script.Script.{Script}
+use Rattle.script_lang.specs.Fronts.{◌>>=◌}
 use Rattle.script_lang.specs.PlainFiles.{plain_table_of}
-use Rattle.arctic_cli.specs.Jobs.{script_in}
+use Rattle.arctic_cli.specs.Jobs.{client_names, parts_of, script_in}
 use Rattle.arctic_cli.specs.declared.stop.Stop.{Stop}
 use Rattle.arctic_cli.specs.declared.stop.Stop.TheVariants as stops
 use Rattle.arctic_cli.specs.CommandLine.{Words, plain_words_of, first_set}
@@ -52,16 +55,17 @@ stop_line s = ended (codes "arctic: " ++ stop_text s)
 abbrev pub Shelf : Type 0
 Shelf = Text → Option Text
 
--- how frames are cut, how often a commit is tried, the commands, and the frames that they name, not tested
+-- how frames are cut, how often a commit is tried, the clients' names, the commands of the parts, and the frames that they name, not tested
 pub record Job : Type 0 where
   pub cutting : Cutting
   pub tries : ℕ
-  pub commands : List Command
+  pub names : List Text
+  pub parts : Parts
   pub frames : List Table
 
 -- the job of what the words say, of a script and of the files that it loads
 abbrev pub job_of : Words → Script → List Table → Job
-job_of said script frames = record { cutting = record { rows = said.rows; columns = said.cols }; tries = said.tries; commands = script.first; frames = frames }
+job_of said script frames = record { cutting = record { rows = said.rows; columns = said.cols }; tries = said.tries; names = client_names script.clients; parts = parts_of script; frames = frames }
 
 -- the value, or the stop where there is none
 abbrev pub or_stop : {A : Type 0} → Stop → Option A → Result A Stop
@@ -104,29 +108,47 @@ abbrev pub wants_memory : Outcome → Bool
 wants_memory (outcomes.Refused refusals.NoMemory) = true
 wants_memory _ = false
 
+-- a reply has such an outcome
+abbrev pub some_outcome : (Outcome → Bool) → List Reply → Bool
+some_outcome test replies = list_any (λ (r : Reply). test r.outcome) replies
+
+-- a reply of some part has such an outcome
+abbrev pub some_reply : (Outcome → Bool) → PartReplies → Bool
+some_reply test r = some_outcome test r.first || list_any (some_outcome test) r.blocks || some_outcome test r.last
+
 -- the status of replies: 6 where one is want of memory, else 1 where one is a refusal, else 0
-abbrev pub replies_status : List Reply → ℕ
-replies_status replies =
-    if list_any (λ (r : Reply). wants_memory r.outcome) replies then 6
-    else if list_any (λ (r : Reply). is_refused r.outcome) replies then 1
-    else 0
+abbrev pub replies_status : PartReplies → ℕ
+replies_status replies = if some_reply wants_memory replies then 6 else if some_reply is_refused replies then 1 else 0
 
 -- a status and lines
 pub record Run : Type 0 where
   pub status : ℕ
   pub lines : List Text
 
--- the run of these replies, where the history ends at this place
-abbrev pub run_of : List Reply → ℕ → Run
-run_of replies end = record { status = replies_status replies; lines = transcript replies end }
+-- the run of these replies, of clients of these names, where the history ends at this place
+abbrev pub run_of : List Text → PartReplies → ℕ → Run
+run_of names replies end = record { status = replies_status replies; lines = transcript names replies end }
 
 -- the run of a stop
 abbrev pub stopped : Stop → Run
 stopped s = record { status = stop_status s; lines = stop_line s ∷ [] }
 
--- the run of a job, or of a stop, of client 1 alone from the empty history: there is none where no frame has a command's number
+-- the commands of the one block, or none where there is no block
+abbrev pub one_block : List (List Command) → Option (List Command)
+one_block [] = Some []
+one_block (block ∷ []) = Some block
+one_block (block ∷ next ∷ more) = None
+
+-- the replies of one client after another, for parts of such blocks
+abbrev pub replies_alone : List (List Command) → SoleRun → PartReplies
+replies_alone [] r = record { first = r.first; blocks = []; last = r.last }
+replies_alone (block ∷ more) r = record { first = r.first; blocks = r.block ∷ []; last = r.last }
+
+-- the run of a job, or of a stop, from the empty history, with at most one block: the first and the last commands as client 1 alone, and
+-- between them the block as client 2 alone; there is none where no frame has a command's number
 abbrev pub run_from : ℤ → Result Job Stop → Option Run
-run_from moment (Ok job) = option_map (λ (r : SoleRun). run_of r.first r.events) (sole job.cutting job.frames moment job.commands [] [])
+run_from moment (Ok job) = one_block job.parts.blocks >>= λ block.
+    option_map (λ (r : SoleRun). run_of job.names (replies_alone job.parts.blocks r) r.events) (sole job.cutting job.frames moment job.parts.first block job.parts.last)
 run_from moment (Err s) = Some (stopped s)
 
 -- the whole run over a shelf

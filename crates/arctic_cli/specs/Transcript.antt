@@ -2,7 +2,7 @@
 --     outcome_text            what is said of an outcome on the line of its reply
 --     version_line, symbol_line, lines_after      the lines that follow the line of a reply
 --     reply_line, reply_lines     the line of a reply, and the lines that follow it
---     part_lines, end_line    the lines of a part's replies, and of the end
+--     part_lines, clients_lines, end_line      the lines of a part's replies, of all clients' replies, and of the end
 --     transcript              the lines of all replies, and of the end; each is one put of the sink
 use Rattle.std.specs.Prelude.{ℕ, suc, Bool, if◌then◌else◌, List, [], ◌∷◌, ◌++◌, map, length, Option, Some, None, codes}
 use Rattle.std.specs.List.{flat_map, join_with_byte}
@@ -21,6 +21,7 @@ use Rattle.reply_model.specs.declared.outcome.SymbolRow.{SymbolRow}
 use Rattle.reply_model.specs.declared.outcome.Outcome.{Outcome}
 use Rattle.reply_model.specs.declared.outcome.Outcome.TheVariants as outcomes
 use Rattle.reply_model.specs.declared.reply.Reply.{Reply}
+use Rattle.client_sessions.specs.declared.parts.PartReplies.{PartReplies}
 use Rattle.arctic_cli.specs.FrameText.{ended, frame_lines}
 
 -- ---- parts of lines
@@ -170,10 +171,16 @@ abbrev pub part_lines : Text → ℕ → List Reply → List Text
 part_lines who k [] = []
 part_lines who k (r ∷ replies) = reply_lines who k r ++ part_lines who (suc k) replies
 
+-- the lines of the clients' replies, by their names, in the script's order
+abbrev pub clients_lines : List Text → List (List Reply) → List Text
+clients_lines [] blocks = []
+clients_lines (name ∷ names) [] = []
+clients_lines (name ∷ names) (replies ∷ blocks) = part_lines name 1 replies ++ clients_lines names blocks
+
 -- the line of the end, at this place
 unfoldable pub end_line : ℕ → Text
 end_line end = ended (codes "end " ++ place_text end)
 
--- the lines of a run: its replies in the script's order, and the length of the history in the end
-abbrev pub transcript : List Reply → ℕ → List Text
-transcript first end = part_lines (codes "first") 1 first ++ end_line end ∷ []
+-- the lines of a run, by the clients' names: the replies of its parts in the script's order, and the length of the history in the end
+abbrev pub transcript : List Text → PartReplies → ℕ → List Text
+transcript names r end = part_lines (codes "first") 1 r.first ++ clients_lines names r.blocks ++ part_lines (codes "last") 1 r.last ++ end_line end ∷ []

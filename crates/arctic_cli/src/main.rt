@@ -4,7 +4,6 @@
 mod frame_lines;
 mod line;
 mod outcome_text;
-mod perform;
 mod prepare;
 mod print;
 mod reply_line;
@@ -14,14 +13,15 @@ mod stop;
 mod tests;
 mod words;
 
-use bucket_core::PlainBucket;
+use bucket_core::OpenGate;
+use bucket_shared::Shared;
 use program_edge::{FileShelf, HostClock, OutSink};
 use run::run;
 use std::env;
 use std::process::ExitCode;
 
-/// The number of the program's client.
-const CLIENT: u32 = 1;
+/// The number of the first client, that of the first and the last commands.
+const FIRST_CLIENT: u32 = 1;
 
 /// The program's store takes so many events.
 const LIMIT: u64 = 1 << 40;
@@ -31,7 +31,7 @@ fn main(rt: HostRuntime) -> anyhow::Result<ExitCode> {
     for word in env::args(&rt)?.skip(1) {
         words.push(word)?;
     }
-    let Ok(bucket) = PlainBucket::make(rt.alloc(), CLIENT, LIMIT) else {
+    let Ok(pass) = Shared::make(rt.alloc(), LIMIT, FIRST_CLIENT) else {
         return Ok(ExitCode::from(6));
     };
     let mut shelf = FileShelf::make(&rt);
@@ -44,7 +44,8 @@ fn main(rt: HostRuntime) -> anyhow::Result<ExitCode> {
         &mut shelf,
         &mut out,
         &mut clock,
-        bucket,
+        &OpenGate,
+        pass,
     );
     match out.finish() {
         Ok(()) => Ok(ExitCode::from(ran.status)),

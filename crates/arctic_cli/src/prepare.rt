@@ -3,30 +3,36 @@ ghost use Rattle.std.specs.List.{AllZip, list_all};
 ghost use Rattle.frame_core.specs.RawFrames.{table_of};
 ghost use Rattle.script_lang.specs.Answers.{GivesScript};
 ghost use Rattle.library_api.specs.Steps.{is_carried_out};
-ghost use Rattle.arctic_cli.specs.Jobs.{script_in, ArePlaced};
+ghost use Rattle.arctic_cli.specs.Jobs.{client_names, client_blocks, parts_of, is_carried_client, is_carried_script, script_in, AreReady};
 ghost use Rattle.arctic_cli.specs.CommandLine.{IsTries};
 ghost use Rattle.arctic_cli.specs.Causes.{HeldAs, GivesTable};
-ghost use Rattle.arctic_cli.specs.Preparing.{FetchHalts, LoadHalts, LoadsHalt, ScriptHalts, FindsJob, PlanIs};
-ghost use Rattle.arctic_cli.specs.Performing.{AreNamed};
+ghost use Rattle.arctic_cli.specs.Preparing.{FetchHalts, LoadHalts, LoadsHalt, ScriptHalts, FindsJob, parts_in, PlanIs};
 
 use crate::stop::{Halt, Stop};
 use crate::words::{Options, read_words};
-use base_types::{Items, Keep, Text};
+use base_types::{Items, Keep, NoMemory, Text};
 use expr_clause::Command;
 use frame_core::RawFrame;
 use library_api::is_carried_out;
 use program_edge::{Shelf, ShelfErr};
-use script_lang::{Commands, CsvFault, Load, Script, ScriptFault, read_frame, read_script};
+use script_lang::{
+    ClientPart, ClientParts, Commands, CsvFault, Load, Script, ScriptFault, read_frame, read_script,
+};
 use std::alloc::Global;
 
 /// Raw frames, seen as a list.
 pub type RawFrames = Items<RawFrame>;
 
-/// What a run is to do: how, the commands, and the raw frames that they name by their places.
+/// What a run is to do: how, the commands of the parts, and the raw frames that they name by their places.
 #[derive(Drop)]
 pub struct Plan {
     pub options: Options,
-    pub commands: Commands,
+    pub first: Commands,
+    /// The clients' names, in the script's order.
+    pub names: Items<Text>,
+    /// The commands of each client, in the same order.
+    pub blocks: Items<Commands>,
+    pub last: Commands,
     pub frames: RawFrames,
 }
 
@@ -52,7 +58,7 @@ fn find_script<F: Shelf>(
     shelf: &mut F,
 ) -> Result<(Script, Options), Halt>
     ensures found { IfOk result (λ x. FindsJob (F.holds shelf.old) (map string_bytes words.now) x.0 x.1) }
-    ensures placed { IfOk result (λ x. ArePlaced x.0) }
+    ensures ready { IfOk result (λ x. AreReady (length x.0.loads) (parts_of x.0)) }
     ensures tries { IfOk result (λ x. IsTries x.1.tries) }
     ensures halts { IfErr result (ScriptHalts (F.holds shelf.old) (F.faults shelf.old) (F.faults shelf.new) (map string_bytes words.now)) }
     ensures same { F.holds shelf.new ≡ F.holds shelf.old }
@@ -72,21 +78,64 @@ fn find_script<F: Shelf>(
 /// The script of some bytes, if the library carries out each of its commands.
 fn carried_script(alloc: Global, bytes: &[u8]) -> Result<Script, ScriptFault>
     ensures script { GivesScript (λ script. script) result (script_in bytes.now) }
-    ensures placed { IfOk result ArePlaced }
+    ensures ready { IfOk result (λ script. AreReady (length script.loads) (parts_of script)) }
 {
     let script = read_script(alloc, bytes)?;
-    if all_carried_out(script.first.items()) {
+    if is_carried_script(&script) {
         Ok(script)
     } else {
         Err(ScriptFault::BadScript)
     }
 }
 
+/// Whether the library carries out each command of each part.
+fn is_carried_script(script: &Script) -> bool
+    ensures { result ≡ is_carried_script script.now }
+{
+    all_carried_out(&script.first)
+        && all_clients_carried_out(script.clients.items())
+        && all_carried_out(&script.last)
+}
+
 /// Whether the library carries out each of these commands.
-fn all_carried_out(commands: &[Command]) -> bool
+fn all_carried_out(commands: &Commands) -> bool
+    ensures { result ≡ list_all is_carried_out commands.now }
+{
+    are_carried_out(commands.items())
+}
+
+fn are_carried_out(commands: &[Command]) -> bool
     ensures { result ≡ list_all is_carried_out commands.now }
 {
     commands.iter().all(|command| is_carried_out(command))
+}
+
+/// Whether the library carries out each command of these clients.
+fn all_clients_carried_out(clients: &[ClientPart]) -> bool
+    ensures { result ≡ list_all is_carried_client clients.now }
+{
+    clients
+        .iter()
+        .all(|client| all_carried_out(&client.commands))
+}
+
+/// The names and the commands of clients, in order.
+fn names_and_blocks(
+    alloc: Global,
+    clients: ClientParts,
+) -> Result<(Items<Text>, Items<Commands>), NoMemory>
+    ensures names { IfOk result (λ x. x.0 ≡ client_names clients) }
+    ensures blocks { IfOk result (λ x. x.1 ≡ client_blocks clients) }
+{
+    let mut names = Items::new(alloc);
+    let mut blocks = Items::new(alloc);
+    let mut rest = clients.into_vec();
+    while !rest.is_empty() {
+        let ClientPart { name, commands } = rest.remove(0);
+        names.push(name)?;
+        blocks.push(commands)?;
+    }
+    Ok((names, blocks))
 }
 
 /// The raw frame of a load.
@@ -121,21 +170,42 @@ fn load_frames<F: Shelf>(alloc: Global, shelf: &mut F, loads: &[Load]) -> Result
     Ok(frames)
 }
 
+/// The plan of a script, of its options and of the raw frames of its loads.
+fn plan_of(alloc: Global, options: Options, script: Script, frames: RawFrames) -> Result<Plan, Halt>
+    ensures options { IfOk result (λ plan. plan.options ≡ options) }
+    ensures names { IfOk result (λ plan. plan.names ≡ client_names script.clients) }
+    ensures parts { IfOk result (λ plan. parts_in plan ≡ parts_of script) }
+    ensures frames { IfOk result (λ plan. plan.frames ≡ frames) }
+    ensures memory { IfErr result (λ halt. halt ≡ Halt.NoMemory) }
+{
+    let Script {
+        first,
+        clients,
+        last,
+        ..
+    } = script;
+    let (names, blocks) = names_and_blocks(alloc, clients)?;
+    Ok(Plan {
+        options,
+        first,
+        names,
+        blocks,
+        last,
+        frames,
+    })
+}
+
 /// Reads the words, fetches and reads the script that they name, and then each loaded file in order.
 pub fn prepare<F: Shelf>(alloc: Global, words: &[String], shelf: &mut F) -> Result<Plan, Halt>
     ensures plan { PlanIs (F.holds shelf.old) (F.faults shelf.old) (F.faults shelf.new) (map string_bytes words.now) result }
     ensures tries { IfOk result (λ plan. IsTries plan.options.tries) }
-    ensures placed { IfOk result (λ plan. AreNamed (length plan.frames) plan.commands) }
+    ensures ready { IfOk result (λ plan. AreReady (length plan.frames) (parts_in plan)) }
     ensures same { F.holds shelf.new ≡ F.holds shelf.old }
     ensures never_falls { F.faults shelf.old ≤ F.faults shelf.new }
 {
     let (script, options) = find_script(alloc, words, shelf)?;
     match load_frames(alloc, shelf, script.loads.items()) {
-        Ok(frames) => Ok(Plan {
-            options,
-            commands: script.first,
-            frames,
-        }),
+        Ok(frames) => plan_of(alloc, options, script, frames),
         Err(halt) => Err(halt),
     }
 }

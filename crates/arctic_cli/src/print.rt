@@ -4,7 +4,7 @@ ghost use Rattle.std.specs.Prelude.{◌≡◌, ◌<◌, ◌++◌, ℕ, List, Som
 ghost use Rattle.std.specs.List.{concat};
 ghost use Rattle.frame_core.specs.Frames.{Row};
 ghost use Rattle.arctic_cli.specs.FrameText.{ended, record_text, row_fields, frame_lines};
-ghost use Rattle.arctic_cli.specs.Transcript.{version_line, symbol_line, lines_after, reply_lines, part_lines, transcript};
+ghost use Rattle.arctic_cli.specs.Transcript.{version_line, symbol_line, lines_after, reply_lines, part_lines, clients_lines, end_line, transcript};
 ghost use Rattle.arctic_cli.specs.Program.{stop_text, stop_line};
 ghost use Rattle.arctic_cli.specs.Endings.{Prints};
 
@@ -13,7 +13,8 @@ use crate::line::{push_end, push_text};
 use crate::outcome_text::{symbol_line, version_line};
 use crate::reply_line::{end_line, reply_line};
 use crate::stop::Stop;
-use base_types::NoMemory;
+use base_types::{Items, NoMemory, Text};
+use client_sessions::PartReplies;
 use frame_core::Frame;
 use key_kind::SnapName;
 use program_edge::{Sink, SinkErr};
@@ -149,17 +150,63 @@ fn print_replies<S: Sink>(
     Ok(())
 }
 
-/// Puts the transcript of the replies, where the history ends at this place.
+/// Puts the replies of a part, whose name is that of whoever speaks.
+fn print_part<S: Sink>(
+    alloc: Global,
+    out: &mut S,
+    who: &str,
+    replies: &Items<Reply>,
+) -> Result<(), SinkErr>
+    ensures { Prints S.written S.faults out.old out.new (concat (part_lines who.now 1 replies.now)) result }
+{
+    print_replies(alloc, out, who, replies.items())
+}
+
+/// Puts the last replies and the end, at this place.
+fn print_end<S: Sink>(
+    alloc: Global,
+    out: &mut S,
+    last: &Items<Reply>,
+    end: u64,
+) -> Result<(), SinkErr>
+    ensures { Prints S.written S.faults out.old out.new (concat (part_lines (codes "last") 1 last.now) ++ end_line end) result }
+{
+    print_part(alloc, out, "last", last)?;
+    put_made(out, end_line(alloc, end))
+}
+
+/// Puts the replies of clients of these names, in order.
+fn print_clients<S: Sink>(
+    alloc: Global,
+    out: &mut S,
+    names: &[Text],
+    blocks: &[Items<Reply>],
+) -> Result<(), SinkErr>
+    ensures { Prints S.written S.faults out.old out.new (concat (clients_lines names.now blocks.now)) result }
+{
+    let Some((name, other_names)) = names.split_first() else {
+        return Ok(());
+    };
+    let Some((replies, other_blocks)) = blocks.split_first() else {
+        return Ok(());
+    };
+    print_part(alloc, out, name.text(), replies)?;
+    print_clients(alloc, out, other_names, other_blocks)
+}
+
+/// Puts the transcript of the replies of all parts, of clients of these names, where the history ends at this place.
 pub fn print_transcript<S: Sink>(
     alloc: Global,
     out: &mut S,
-    replies: &[Reply],
+    names: &[Text],
+    replies: &PartReplies,
     end: u64,
 ) -> Result<(), SinkErr>
-    ensures { Prints S.written S.faults out.old out.new (concat (transcript replies.now end)) result }
+    ensures { Prints S.written S.faults out.old out.new (concat (transcript names.now replies.now end)) result }
 {
-    print_replies(alloc, out, "first", replies)?;
-    put_made(out, end_line(alloc, end))
+    print_part(alloc, out, "first", &replies.first)?;
+    print_clients(alloc, out, names, replies.blocks.items())?;
+    print_end(alloc, out, &replies.last, end)
 }
 
 /// Adds that a file of this name cannot be read.

@@ -1,40 +1,45 @@
-ghost use Rattle.std.specs.Prelude.{◌≡◌, ◌≤◌, ◌⊎◌, ℤ, List, Option, IsOk, IsErrOf, length, map, string_bytes};
+ghost use Rattle.std.specs.Prelude.{◌≡◌, ◌≤◌, ◌⊎◌, ℤ, true, List, Option, IsOk, IsErrOf, IfOk, OnErr, length, map, string_bytes};
 ghost use Rattle.std.specs.List.{list_any};
 ghost use Rattle.base_types.specs.Faults.{Rose};
-ghost use Rattle.frame_core.specs.Texts.{Text};
+ghost use Rattle.frame_core.specs.Texts.{Text as Bytes};
+ghost use Rattle.bucket_shared.specs.Passes.{seen_of, number_of, limit_of, sole_of};
 ghost use Rattle.program_edge.specs.Shelves.{Held};
 ghost use Rattle.program_edge.specs.Clocks.{IsReading};
-ghost use Rattle.reply_model.specs.declared.reply.Reply.{Reply as Told};
 ghost use Rattle.reply_model.specs.Windows.{is_refused};
+ghost use Rattle.library_api.specs.Libraries.{AreSettings};
+ghost use Rattle.library_api.specs.Steps.{run_cutting};
+ghost use Rattle.client_sessions.specs.Blocks.{clients_of};
+ghost use Rattle.client_sessions.specs.Parts.{IsRun as IsPartsRun};
 ghost use Rattle.arctic_cli.specs.CommandLine.{IsTries};
-ghost use Rattle.arctic_cli.specs.Program.{Shelf as Files, run_alone, wants_memory, replies_status, run_of, stop_status, stopped};
+ghost use Rattle.arctic_cli.specs.Program.{Shelf as Files, run_alone, wants_memory, some_outcome, replies_status, run_of, stop_status, stopped};
 ghost use Rattle.arctic_cli.specs.Endings.{RunEnds, JobEnds, Ends, start_of, IsTranscript, StopsByUsage, StopsByScript, StopsByFetch, StopsByPut, WantsMemory, StopsByFile, IsUnhindered, IsRun};
-ghost use Rattle.arctic_cli.specs.Performing.{AreNamed};
-ghost use Rattle.arctic_cli.specs.Preparing.{job_in};
+ghost use Rattle.arctic_cli.specs.Jobs.{AreReady};
+ghost use Rattle.arctic_cli.specs.Preparing.{parts_in, job_in};
 
-use crate::perform::perform;
 use crate::prepare::{Plan, prepare};
 use crate::print::{print_stop, print_transcript};
 use crate::stop::{Halt, Stop};
 use crate::words::Options;
-use base_types::NoMemory;
-use bucket_core::{Bucket, PlainBucket};
+use base_types::{Items, NoMemory, Text};
+use bucket_core::{Bucket, Gate};
+use bucket_shared::Pass;
+use client_sessions::{PartReplies, run_parts};
 use frame_core::Refusal;
-use library_api::{Library, Settings};
+use library_api::Settings;
 use program_edge::{Clock, Shelf, Sink, SinkErr};
 use reply_model::{Outcome, Reply, runs_alone_are_sole};
 use std::alloc::Global;
 use std::sync::Wait;
-use version_chain::StoreLaw;
+use std::thread::Threads;
 
 /// The clauses of a read may use so many threads.
 const WORKERS: u32 = 4;
 
-/// What a run leaves: the status, and the store.
+/// What a run leaves: the status, and the pass of its store.
 #[derive(Drop)]
 pub struct Ran {
     pub status: u8,
-    pub bucket: PlainBucket<StoreLaw>,
+    pub pass: Pass,
 }
 
 fn is_refusal(outcome: &Outcome) -> bool
@@ -55,24 +60,58 @@ fn wants_memory(outcome: &Outcome) -> bool
 }
 
 fn some_refused(replies: &[Reply]) -> bool
-    ensures { result ≡ list_any (λ (r : Told). is_refused r.outcome) replies.now }
+    ensures { result ≡ some_outcome is_refused replies.now }
 {
     replies.iter().any(|reply| is_refusal(&reply.outcome))
 }
 
 fn some_want_memory(replies: &[Reply]) -> bool
-    ensures { result ≡ list_any (λ (r : Told). wants_memory r.outcome) replies.now }
+    ensures { result ≡ some_outcome wants_memory replies.now }
 {
     replies.iter().any(|reply| wants_memory(&reply.outcome))
 }
 
+/// Whether a reply of a part is a refusal.
+fn part_refused(replies: &Items<Reply>) -> bool
+    ensures { result ≡ some_outcome is_refused replies.now }
+{
+    some_refused(replies.items())
+}
+
+/// Whether a reply of a part is want of memory.
+fn part_wants_memory(replies: &Items<Reply>) -> bool
+    ensures { result ≡ some_outcome wants_memory replies.now }
+{
+    some_want_memory(replies.items())
+}
+
+fn some_block_refused(blocks: &[Items<Reply>]) -> bool
+    ensures { result ≡ list_any (some_outcome is_refused) blocks.now }
+{
+    blocks.iter().any(|block| part_refused(block))
+}
+
+fn some_block_wants_memory(blocks: &[Items<Reply>]) -> bool
+    ensures { result ≡ list_any (some_outcome wants_memory) blocks.now }
+{
+    blocks.iter().any(|block| part_wants_memory(block))
+}
+
 /// 6 where a reply is want of memory, else 1 where one is a refusal, else 0.
-fn status_of(replies: &[Reply]) -> u8
+fn status_of(replies: &PartReplies) -> u8
     ensures { result ≡ replies_status replies.now }
 {
-    if some_want_memory(replies) {
+    let PartReplies {
+        first,
+        blocks,
+        last,
+    } = replies;
+    if part_wants_memory(first)
+        || some_block_wants_memory(blocks.items())
+        || part_wants_memory(last)
+    {
         6
-    } else if some_refused(replies) {
+    } else if part_refused(first) || some_block_refused(blocks.items()) || part_refused(last) {
         1
     } else {
         0
@@ -92,11 +131,17 @@ fn status_after(printed: Result<(), SinkErr>, status: u8) -> u8
     }
 }
 
-/// Prints the transcript of the replies, where the history ends at this place.
-fn run_replies<S: Sink>(alloc: Global, out: &mut S, replies: &[Reply], end: u64) -> u8
-    ensures { RunEnds (run_of replies.now end) (S.faults out.old) (S.faults out.new) (S.written out.old) (S.written out.new) result }
+/// Prints the transcript of the replies, of clients of these names, where the history ends at this place.
+fn run_replies<S: Sink>(
+    alloc: Global,
+    out: &mut S,
+    names: &[Text],
+    replies: &PartReplies,
+    end: u64,
+) -> u8
+    ensures { RunEnds (run_of names.now replies.now end) (S.faults out.old) (S.faults out.new) (S.written out.old) (S.written out.new) result }
 {
-    let printed = print_transcript(alloc, out, replies, end);
+    let printed = print_transcript(alloc, out, names, replies, end);
     status_after(printed, status_of(replies))
 }
 
@@ -119,20 +164,71 @@ fn run_stop<S: Sink>(alloc: Global, out: &mut S, stop: &Stop) -> u8
     status_after(printed, status_of_stop(stop))
 }
 
-/// Carries out the commands of a plan at a moment, and prints the replies.
-fn run_plan<R: Wait, S: Sink>(
+/// Carries out the parts of a plan over the store of a pass.
+fn carry_out_parts<R: Threads + Wait + Sync, G: Gate>(
+    rt: &R,
+    alloc: Global,
+    gate: &G,
+    pass: Pass,
+    settings: Settings,
+    plan: &Plan,
+) -> (Pass, Result<PartReplies, NoMemory>)
+    requires sole { sole_of pass ≡ true }
+    requires settings { AreSettings settings }
+    requires ready { AreReady (length plan.now.frames) (parts_in plan.now) }
+    ensures ran { IfOk result.1 (λ replies. IsPartsRun (run_cutting settings.cutting) (clients_of plan.now.frames settings (limit_of pass)) (number_of pass) (parts_in plan.now) replies (seen_of pass) (seen_of result.0)) }
+    ensures memory { OnErr result.1 (result.0 ≡ pass) }
+    ensures client { number_of result.0 ≡ number_of pass }
+    ensures limit { limit_of result.0 ≡ limit_of pass }
+    ensures sole { sole_of result.0 ≡ true }
+{
+    run_parts(
+        rt,
+        alloc,
+        pass,
+        gate,
+        settings,
+        plan.frames.items(),
+        plan.first.items(),
+        plan.blocks.items(),
+        plan.last.items(),
+    )
+}
+
+/// Prints the transcript of the replies, where there was memory for them. The status is 6 where there was none.
+fn end_run<S: Sink>(
+    alloc: Global,
+    out: &mut S,
+    names: &[Text],
+    replies: Result<PartReplies, NoMemory>,
+    end: u64,
+) -> u8
+    ensures told { IfOk replies (λ told. RunEnds (run_of names.now told end) (S.faults out.old) (S.faults out.new) (S.written out.old) (S.written out.new) result) }
+    ensures memory { OnErr replies ((result ≡ 6) × (S.written out.new ≡ S.written out.old)) }
+{
+    match replies {
+        Ok(replies) => run_replies(alloc, out, names, &replies, end),
+        Err(NoMemory) => 6,
+    }
+}
+
+/// Carries out the parts of a plan at a moment, and prints the replies.
+fn run_plan<R: Threads + Wait + Sync, S: Sink, G: Gate>(
     rt: &R,
     alloc: Global,
     out: &mut S,
-    bucket: PlainBucket<StoreLaw>,
+    gate: &G,
+    pass: Pass,
     moment: i64,
     plan: &Plan,
 ) -> Ran
+    requires sole { sole_of pass ≡ true }
     requires tries { IsTries plan.now.options.tries }
-    requires named { AreNamed (length plan.now.frames) plan.now.commands }
-    ensures client { ⟦<PlainBucket<StoreLaw> as Bucket<StoreLaw>>⟧.number result.bucket ≡ ⟦<PlainBucket<StoreLaw> as Bucket<StoreLaw>>⟧.number bucket }
-    ensures limit { ⟦<PlainBucket<StoreLaw> as Bucket<StoreLaw>>⟧.limit result.bucket ≡ ⟦<PlainBucket<StoreLaw> as Bucket<StoreLaw>>⟧.limit bucket }
-    ensures ends { (words : List Text) (holds : Held) (reading : Option ℤ) → IsReading reading moment → JobEnds (start_of words holds reading (⟦<PlainBucket<StoreLaw> as Bucket<StoreLaw>>⟧.limit bucket) (⟦<PlainBucket<StoreLaw> as Bucket<StoreLaw>>⟧.number bucket) (⟦<PlainBucket<StoreLaw> as Bucket<StoreLaw>>⟧.seen bucket)) (job_in plan.now) (S.faults out.old) (S.faults out.new) (S.written out.old) (S.written out.new) result.status (⟦<PlainBucket<StoreLaw> as Bucket<StoreLaw>>⟧.seen result.bucket) }
+    requires ready { AreReady (length plan.now.frames) (parts_in plan.now) }
+    ensures client { number_of result.pass ≡ number_of pass }
+    ensures limit { limit_of result.pass ≡ limit_of pass }
+    ensures sole { sole_of result.pass ≡ true }
+    ensures ends { (words : List Bytes) (holds : Held) (reading : Option ℤ) → IsReading reading moment → JobEnds (start_of words holds reading pass) (job_in plan.now) (S.faults out.old) (S.faults out.new) (S.written out.old) (S.written out.new) result.status (seen_of result.pass) }
 {
     let Options { cutting, tries } = plan.options;
     let settings = Settings {
@@ -141,82 +237,80 @@ fn run_plan<R: Wait, S: Sink>(
         workers: WORKERS,
         moment,
     };
-    let mut library = Library::make(bucket, settings);
-    let performed = perform(
-        rt,
-        alloc,
-        &mut library,
-        plan.commands.items(),
-        plan.frames.items(),
-    );
-    let bucket = library.into_bucket();
-    let status = match performed {
-        Ok(replies) => run_replies(alloc, out, &replies, bucket.place()),
-        Err(NoMemory) => 6,
-    };
-    Ran { status, bucket }
+    let (pass, replies) = carry_out_parts(rt, alloc, gate, pass, settings, plan);
+    let status = end_run(alloc, out, plan.names.items(), replies, pass.place());
+    Ran { status, pass }
 }
 
 /// Prepares a run, and carries it out or prints why it stops.
-fn run_words<R: Wait, F: Shelf, S: Sink>(
+fn run_words<R: Threads + Wait + Sync, F: Shelf, S: Sink, G: Gate>(
     rt: &R,
     alloc: Global,
     words: &[String],
     shelf: &mut F,
     out: &mut S,
+    gate: &G,
     moment: i64,
-    bucket: PlainBucket<StoreLaw>,
+    pass: Pass,
 ) -> Ran
-    ensures client { ⟦<PlainBucket<StoreLaw> as Bucket<StoreLaw>>⟧.number result.bucket ≡ ⟦<PlainBucket<StoreLaw> as Bucket<StoreLaw>>⟧.number bucket }
-    ensures limit { ⟦<PlainBucket<StoreLaw> as Bucket<StoreLaw>>⟧.limit result.bucket ≡ ⟦<PlainBucket<StoreLaw> as Bucket<StoreLaw>>⟧.limit bucket }
-    ensures ends { (reading : Option ℤ) → IsReading reading moment → Ends (start_of (map string_bytes words.now) (F.holds shelf.old) reading (⟦<PlainBucket<StoreLaw> as Bucket<StoreLaw>>⟧.limit bucket) (⟦<PlainBucket<StoreLaw> as Bucket<StoreLaw>>⟧.number bucket) (⟦<PlainBucket<StoreLaw> as Bucket<StoreLaw>>⟧.seen bucket)) (F.faults shelf.old) (F.faults shelf.new) (S.faults out.old) (S.faults out.new) (S.written out.old) (S.written out.new) result.status (⟦<PlainBucket<StoreLaw> as Bucket<StoreLaw>>⟧.seen result.bucket) }
+    requires sole { sole_of pass ≡ true }
+    ensures client { number_of result.pass ≡ number_of pass }
+    ensures limit { limit_of result.pass ≡ limit_of pass }
+    ensures sole { sole_of result.pass ≡ true }
+    ensures ends { (reading : Option ℤ) → IsReading reading moment → Ends (start_of (map string_bytes words.now) (F.holds shelf.old) reading pass) (F.faults shelf.old) (F.faults shelf.new) (S.faults out.old) (S.faults out.new) (S.written out.old) (S.written out.new) result.status (seen_of result.pass) }
 {
     match prepare(alloc, words, shelf) {
-        Ok(plan) => run_plan(rt, alloc, out, bucket, moment, &plan),
+        Ok(plan) => run_plan(rt, alloc, out, gate, pass, moment, &plan),
         Err(Halt::Stop(stop)) => Ran {
             status: run_stop(alloc, out, &stop),
-            bucket,
+            pass,
         },
-        Err(Halt::NoMemory) => Ran { status: 6, bucket },
+        Err(Halt::NoMemory) => Ran { status: 6, pass },
     }
 }
 
 /// Runs the script that the words name: `run SCRIPT`, with options.
 ///
-/// It calls the clock once, fetches the script and reads it, fetches and reads each loaded file in order, carries out the commands
-/// by a library over the store, and then prints the replies, each line by a put of its own. After a refused put nothing more is
-/// put. The store comes back with every status.
-pub fn run<R: Wait, F: Shelf, S: Sink, C: Clock>(
+/// It calls the clock once, fetches the script and reads it, fetches and reads each loaded file in order, and carries out the parts
+/// of the script over the shared store of the pass: the first commands with the pass, each client on a thread of its own with a
+/// pass of its own, and then the last commands with the pass, into which all others were joined. Each client passes the gate
+/// before and behind each call of its bucket. Then it prints the replies in the script's order, each line by a put of its own.
+/// After a refused put nothing more is put. The pass comes back with every status.
+pub fn run<R: Threads + Wait + Sync, F: Shelf, S: Sink, C: Clock, G: Gate>(
     rt: &R,
     alloc: Global,
     words: &[String],
     shelf: &mut F,
     out: &mut S,
     clock: &mut C,
-    bucket: PlainBucket<StoreLaw>,
+    gate: &G,
+    pass: Pass,
 ) -> Ran
-    // 0 and 1: each reply is legal in the one history for a window of its own, each added event lies in one of these windows, and
-    // the whole transcript of the replies was written.
-    ensures transcript { result.status ≤ 1 → IsTranscript (start_of (map string_bytes words.now) (F.holds shelf.old) (C.reading clock.old) (⟦<PlainBucket<StoreLaw> as Bucket<StoreLaw>>⟧.limit bucket) (⟦<PlainBucket<StoreLaw> as Bucket<StoreLaw>>⟧.number bucket) (⟦<PlainBucket<StoreLaw> as Bucket<StoreLaw>>⟧.seen bucket)) (S.written out.old) (S.written out.new) result.status (⟦<PlainBucket<StoreLaw> as Bucket<StoreLaw>>⟧.seen result.bucket) }
-
-    ensures usage { result.status ≡ 2 → StopsByUsage (start_of (map string_bytes words.now) (F.holds shelf.old) (C.reading clock.old) (⟦<PlainBucket<StoreLaw> as Bucket<StoreLaw>>⟧.limit bucket) (⟦<PlainBucket<StoreLaw> as Bucket<StoreLaw>>⟧.number bucket) (⟦<PlainBucket<StoreLaw> as Bucket<StoreLaw>>⟧.seen bucket)) (S.written out.old) (S.written out.new) (⟦<PlainBucket<StoreLaw> as Bucket<StoreLaw>>⟧.seen result.bucket) }
-    ensures bad_script { result.status ≡ 3 → StopsByScript (start_of (map string_bytes words.now) (F.holds shelf.old) (C.reading clock.old) (⟦<PlainBucket<StoreLaw> as Bucket<StoreLaw>>⟧.limit bucket) (⟦<PlainBucket<StoreLaw> as Bucket<StoreLaw>>⟧.number bucket) (⟦<PlainBucket<StoreLaw> as Bucket<StoreLaw>>⟧.seen bucket)) (S.written out.old) (S.written out.new) (⟦<PlainBucket<StoreLaw> as Bucket<StoreLaw>>⟧.seen result.bucket) }
-    ensures unreadable { result.status ≡ 4 → StopsByFetch (start_of (map string_bytes words.now) (F.holds shelf.old) (C.reading clock.old) (⟦<PlainBucket<StoreLaw> as Bucket<StoreLaw>>⟧.limit bucket) (⟦<PlainBucket<StoreLaw> as Bucket<StoreLaw>>⟧.number bucket) (⟦<PlainBucket<StoreLaw> as Bucket<StoreLaw>>⟧.seen bucket)) (F.faults shelf.old) (F.faults shelf.new) (S.written out.old) (S.written out.new) (⟦<PlainBucket<StoreLaw> as Bucket<StoreLaw>>⟧.seen result.bucket) }
-    ensures bad_file { result.status ≡ 7 → StopsByFile (start_of (map string_bytes words.now) (F.holds shelf.old) (C.reading clock.old) (⟦<PlainBucket<StoreLaw> as Bucket<StoreLaw>>⟧.limit bucket) (⟦<PlainBucket<StoreLaw> as Bucket<StoreLaw>>⟧.number bucket) (⟦<PlainBucket<StoreLaw> as Bucket<StoreLaw>>⟧.seen bucket)) (S.written out.old) (S.written out.new) (⟦<PlainBucket<StoreLaw> as Bucket<StoreLaw>>⟧.seen result.bucket) }
+    // No other pass of the store is in use.
+    requires sole { sole_of pass ≡ true }
+    // 0 and 1: the replies of all clients are legal in the one history that comes back, each for a window of its own; each added
+    // event lies in a window of its own client; and the whole transcript of the replies was written.
+    ensures transcript { result.status ≤ 1 → IsTranscript (start_of (map string_bytes words.now) (F.holds shelf.old) (C.reading clock.old) pass) (S.written out.old) (S.written out.new) result.status (seen_of result.pass) }
+    // 2, 3, 4 and 7: one line was written, and the history is as it was.
+    ensures usage { result.status ≡ 2 → StopsByUsage (start_of (map string_bytes words.now) (F.holds shelf.old) (C.reading clock.old) pass) (S.written out.old) (S.written out.new) (seen_of result.pass) }
+    ensures bad_script { result.status ≡ 3 → StopsByScript (start_of (map string_bytes words.now) (F.holds shelf.old) (C.reading clock.old) pass) (S.written out.old) (S.written out.new) (seen_of result.pass) }
+    ensures unreadable { result.status ≡ 4 → StopsByFetch (start_of (map string_bytes words.now) (F.holds shelf.old) (C.reading clock.old) pass) (F.faults shelf.old) (F.faults shelf.new) (S.written out.old) (S.written out.new) (seen_of result.pass) }
+    ensures bad_file { result.status ≡ 7 → StopsByFile (start_of (map string_bytes words.now) (F.holds shelf.old) (C.reading clock.old) pass) (S.written out.old) (S.written out.new) (seen_of result.pass) }
 
     // What was written is a front of what was due.
-    ensures refused_put { result.status ≡ 5 → Rose (S.faults out.old) (S.faults out.new) × StopsByPut (start_of (map string_bytes words.now) (F.holds shelf.old) (C.reading clock.old) (⟦<PlainBucket<StoreLaw> as Bucket<StoreLaw>>⟧.limit bucket) (⟦<PlainBucket<StoreLaw> as Bucket<StoreLaw>>⟧.number bucket) (⟦<PlainBucket<StoreLaw> as Bucket<StoreLaw>>⟧.seen bucket)) (F.faults shelf.old) (F.faults shelf.new) (S.written out.old) (S.written out.new) (⟦<PlainBucket<StoreLaw> as Bucket<StoreLaw>>⟧.seen result.bucket) }
-    ensures memory { result.status ≡ 6 → WantsMemory (start_of (map string_bytes words.now) (F.holds shelf.old) (C.reading clock.old) (⟦<PlainBucket<StoreLaw> as Bucket<StoreLaw>>⟧.limit bucket) (⟦<PlainBucket<StoreLaw> as Bucket<StoreLaw>>⟧.number bucket) (⟦<PlainBucket<StoreLaw> as Bucket<StoreLaw>>⟧.seen bucket)) (F.faults shelf.old) (F.faults shelf.new) (S.written out.old) (S.written out.new) (⟦<PlainBucket<StoreLaw> as Bucket<StoreLaw>>⟧.seen result.bucket) }
+    ensures refused_put { result.status ≡ 5 → Rose (S.faults out.old) (S.faults out.new) × StopsByPut (start_of (map string_bytes words.now) (F.holds shelf.old) (C.reading clock.old) pass) (F.faults shelf.old) (F.faults shelf.new) (S.written out.old) (S.written out.new) (seen_of result.pass) }
+    ensures memory { result.status ≡ 6 → WantsMemory (start_of (map string_bytes words.now) (F.holds shelf.old) (C.reading clock.old) pass) (F.faults shelf.old) (F.faults shelf.new) (S.written out.old) (S.written out.new) (seen_of result.pass) }
 
     ensures statuses { result.status ≤ 7 }
-    ensures client { ⟦<PlainBucket<StoreLaw> as Bucket<StoreLaw>>⟧.number result.bucket ≡ ⟦<PlainBucket<StoreLaw> as Bucket<StoreLaw>>⟧.number bucket }
-    ensures limit { ⟦<PlainBucket<StoreLaw> as Bucket<StoreLaw>>⟧.limit result.bucket ≡ ⟦<PlainBucket<StoreLaw> as Bucket<StoreLaw>>⟧.limit bucket }
+    ensures client { number_of result.pass ≡ number_of pass }
+    ensures limit { limit_of result.pass ≡ limit_of pass }
+    ensures sole { sole_of result.pass ≡ true }
 
-    // Where nothing hinders one client alone, and no command is an append, an update, a delete of a range or a reclaim, there is no other
+    // Where nothing hinders one client alone, there is no client, and no command is an append or a reclaim, there is no other
     // answer than this run, or want of memory.
-    ensures complete { (held : Files) (told : Text) (moment : ℤ) → IsUnhindered (start_of (map string_bytes words.now) (F.holds shelf.old) (C.reading clock.old) (⟦<PlainBucket<StoreLaw> as Bucket<StoreLaw>>⟧.limit bucket) (⟦<PlainBucket<StoreLaw> as Bucket<StoreLaw>>⟧.number bucket) (⟦<PlainBucket<StoreLaw> as Bucket<StoreLaw>>⟧.seen bucket)) (F.faults shelf.old) (F.faults shelf.new) (S.faults out.old) (S.faults out.new) held told moment (S.written out.old) (⟦<PlainBucket<StoreLaw> as Bucket<StoreLaw>>⟧.seen result.bucket) → (result.status ≡ 6) ⊎ IsRun (run_alone moment held (map string_bytes words.now)) told (S.written out.new) result.status }
+    ensures complete { (held : Files) (told : Bytes) (moment : ℤ) → IsUnhindered (start_of (map string_bytes words.now) (F.holds shelf.old) (C.reading clock.old) pass) (F.faults shelf.old) (F.faults shelf.new) (S.faults out.old) (S.faults out.new) held told moment (S.written out.old) (seen_of result.pass) → (result.status ≡ 6) ⊎ IsRun (run_alone moment held (map string_bytes words.now)) told (S.written out.new) result.status }
 {
     let moment = clock.now();
     runs_alone_are_sole();
-    run_words(rt, alloc, words, shelf, out, moment, bucket)
+    run_words(rt, alloc, words, shelf, out, gate, moment, pass)
 }

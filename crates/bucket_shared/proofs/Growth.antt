@@ -28,11 +28,11 @@ no_list x xs e = absurd (omega (arith, ap length e))
 
 -- ---- events of others
 
-others_append : (n : ℕ) (xs ys : History) → AllByOthers n xs → AllByOthers n ys → AllByOthers n (xs ++ ys)
+pub others_append : (n : ℕ) (xs ys : History) → AllByOthers n xs → AllByOthers n ys → AllByOthers n (xs ++ ys)
 others_append n [] ys a b = b
 others_append n (x ∷ xs) ys a b = (a.0, others_append n xs ys a.1 b)
 
-others_reverse : (n : ℕ) (xs : History) → AllByOthers n xs → AllByOthers n (reverse xs)
+pub others_reverse : (n : ℕ) (xs : History) → AllByOthers n xs → AllByOthers n (reverse xs)
 others_reverse n [] a = tt
 others_reverse n (x ∷ xs) a = subst (AllByOthers n) (sym (reverse-append (x ∷ []) xs)) (others_append n (reverse xs) (x ∷ []) (others_reverse n xs a.1) (a.0, tt))
 
@@ -45,10 +45,13 @@ none_by n (e ∷ es) h =
     ] refl h
 
 -- where a client has no new entries, the added events are of others
-pub others_added : (n : ℕ) (xs ys : List Event) (p : IsPrefix xs ys) → entries_by author n ys ≡ entries_by author n xs → AllByOthers n (reverse p.0)
-others_added n xs ys p same =
+pub others_behind : (n : ℕ) (xs ys : List Event) (p : IsPrefix xs ys) → entries_by author n ys ≡ entries_by author n xs → AllByOthers n p.0
+others_behind n xs ys p same =
     let more : entries_by author n xs ++ entries_by author n p.0 ≡ entries_by author n xs = sym (filter-append (λ e. author e == n) xs p.0) ∙ (ap (entries_by author n) p.1 ∙ same) in
-    others_reverse n p.0 (none_by n p.0 (nothing_more (entries_by author n xs) (entries_by author n p.0) more))
+    none_by n p.0 (nothing_more (entries_by author n xs) (entries_by author n p.0) more)
+
+pub others_added : (n : ℕ) (xs ys : List Event) (p : IsPrefix xs ys) → entries_by author n ys ≡ entries_by author n xs → AllByOthers n (reverse p.0)
+others_added n xs ys p same = others_reverse n p.0 (others_behind n xs ys p same)
 
 -- events of others are no Puts of this client
 pub puts_by-others : (n : ℕ) (more h : History) → AllByOthers n more → puts_by n (more ++ h) ≡ puts_by n h

@@ -4,3 +4,5 @@ pub mod RowLemmas
 pub mod Unreferred
 pub mod Adding
 pub mod Gone
+pub mod Authors
+pub mod Passes

@@ -4,3 +4,4 @@ pub mod Sole
 pub mod Passes
 pub mod Splits
 pub mod Ready
+pub mod Authors

@@ -1,8 +1,10 @@
 //! One store for many clients: passes over one shared history.
 #![tactic(auto)]
 
+mod calls;
 mod dropping;
 mod event_name;
+mod kept;
 mod looking;
 mod naming;
 mod pass;
@@ -16,6 +18,7 @@ mod store;
 mod turn;
 mod unnaming;
 
+pub use kept::{Kept, PassName};
 pub use pass::Pass;
 pub use shared::Shared;
 pub use splitting::SplitFault;

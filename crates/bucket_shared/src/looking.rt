@@ -5,6 +5,7 @@ ghost use Rattle.bucket_core.specs.History.{puts_by};
 ghost use Rattle.bucket_core.specs.Laws.{IsLawful, Looks};
 ghost use Rattle.bucket_core.specs.Calls.{IsFound, keys_that_match};
 ghost use Rattle.store_model.specs.Law.{IsClaimed};
+ghost use Rattle.bucket_shared.specs.Authors.{AreEnded, AreHad};
 ghost use Rattle.bucket_shared.specs.Sole.{is_sole};
 ghost use Rattle.bucket_shared.specs.Stories.{history};
 
@@ -26,11 +27,14 @@ pub(crate) fn find<R: Wait>(
 ) -> (Result<Found, NoMemory>, u64)
     requires cell { seat.old.table_id ≡ cell.now }
     requires rests { Rests seat.old }
+    requires ended { ∥ AreEnded (view seat.old).badge (seen seat.old) ∥₁ }
     ensures cell { seat.new.table_id ≡ seat.old.table_id }
     ensures rests { Rests seat.new }
     ensures badge { (view seat.new).badge ≡ (view seat.old).badge }
     ensures counted { result.1 ≡ length (seen seat.new) }
     ensures lawful { ∥ IsLawful IsClaimed (history seat.new) ∥₁ }
+    ensures ended { ∥ AreEnded (view seat.new).badge (seen seat.new) ∥₁ }
+    ensures had { ∥ AreHad (view seat.new).badge (seen seat.new) ∥₁ }
     ensures looks { Looks IsClaimed (view seat.old).badge.number (is_sole (view seat.old).badge) (history seat.old) (history seat.new) }
     ensures serial { puts_by (view seat.old).badge.number (history seat.new) ≡ puts_by (view seat.old).badge.number (history seat.old) }
     ensures found { IfOk result.0 (IsFound (history seat.new) key.now) }
@@ -53,11 +57,14 @@ pub(crate) fn list<R: Wait>(
 ) -> (Result<Items<Key>, NoMemory>, u64)
     requires cell { seat.old.table_id ≡ cell.now }
     requires rests { Rests seat.old }
+    requires ended { ∥ AreEnded (view seat.old).badge (seen seat.old) ∥₁ }
     ensures cell { seat.new.table_id ≡ seat.old.table_id }
     ensures rests { Rests seat.new }
     ensures badge { (view seat.new).badge ≡ (view seat.old).badge }
     ensures counted { result.1 ≡ length (seen seat.new) }
     ensures lawful { ∥ IsLawful IsClaimed (history seat.new) ∥₁ }
+    ensures ended { ∥ AreEnded (view seat.new).badge (seen seat.new) ∥₁ }
+    ensures had { ∥ AreHad (view seat.new).badge (seen seat.new) ∥₁ }
     ensures looks { Looks IsClaimed (view seat.old).badge.number (is_sole (view seat.old).badge) (history seat.old) (history seat.new) }
     ensures serial { puts_by (view seat.old).badge.number (history seat.new) ≡ puts_by (view seat.old).badge.number (history seat.old) }
     ensures listed { IfOk result.0 (λ keys. keys ≡ keys_that_match (history seat.new) kind (option_copied name.entry)) }

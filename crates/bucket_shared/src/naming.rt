@@ -8,6 +8,7 @@ ghost use Rattle.bucket_core.specs.Laws.{IsLawful};
 ghost use Rattle.bucket_core.specs.Calls.{DidChange, RefusesName, name_event};
 ghost use Rattle.bucket_core.specs.Showing.{Shows};
 ghost use Rattle.store_model.specs.Law.{IsClaimed};
+ghost use Rattle.bucket_shared.specs.Authors.{AreEnded, AreHad};
 ghost use Rattle.bucket_shared.specs.Sole.{is_sole};
 ghost use Rattle.bucket_shared.specs.Stories.{history};
 
@@ -41,6 +42,7 @@ pub(crate) fn name<K: EventName, R: Wait>(
 ) -> (Result<u64, StoreErr>, u64)
     requires cell { seat.old.table_id ≡ cell.now }
     requires rests { Rests seat.old }
+    requires ended { ∥ AreEnded (view seat.old).badge (seen seat.old) ∥₁ }
     requires limit { limit ≤ 2 ^ 62 }
     requires key { key ≡ snapshot_key snap.now }
     requires event { K.event ≡ name_event (view seat.old).badge.number snap.now (arc_value body) }
@@ -50,6 +52,8 @@ pub(crate) fn name<K: EventName, R: Wait>(
     ensures badge { (view seat.new).badge ≡ (view seat.old).badge }
     ensures counted { result.1 ≡ length (seen seat.new) }
     ensures lawful { ∥ IsLawful IsClaimed (history seat.new) ∥₁ }
+    ensures ended { ∥ AreEnded (view seat.new).badge (seen seat.new) ∥₁ }
+    ensures had { ∥ AreHad (view seat.new).badge (seen seat.new) ∥₁ }
     ensures did { DidChange IsClaimed (view seat.old).badge.number (is_sole (view seat.old).badge) limit 0 0 (history seat.old) (history seat.new) (name_event (view seat.old).badge.number snap.now (arc_value body)) (RefusesName limit snap.now) result.0 }
     ensures serial { puts_by (view seat.old).badge.number (history seat.new) ≡ puts_by (view seat.old).badge.number (history seat.old) }
 {

@@ -1,32 +1,19 @@
 // A pass: a client's way to a shared store.
-ghost use Rattle.std.specs.Prelude.{◌≡◌, ◌≤◌, ◌^◌, length, true, false, IfOk};
+ghost use Rattle.std.specs.Prelude.{◌≡◌, ◌≤◌, ◌^◌, length, IfOk};
 ghost use Rattle.std.specs.Arc.{arc_value};
 ghost use Rattle.turn_cell.specs.Seats.{view, seen, Rests};
 ghost use Rattle.turn_cell.specs.Views.{first_view};
 ghost use Rattle.bucket_core.specs.History.{puts_by};
 ghost use Rattle.bucket_core.specs.Laws.{IsLawful};
-ghost use Rattle.bucket_core.specs.Calls.{refers_after};
 ghost use Rattle.store_model.specs.Law.{IsClaimed};
-ghost use Rattle.bucket_shared.specs.Sole.{is_sole};
+ghost use Rattle.bucket_shared.specs.Authors.{AreEnded, AreHad};
 ghost use Rattle.bucket_shared.specs.Stories.{history};
 
-use crate::dropping::drop_key;
-use crate::looking::{find, list};
-use crate::naming::name;
-use crate::putting::put;
-use crate::ready::make_ready;
-use crate::referring::refer;
-use crate::row::row_of;
 use crate::store::Store;
-use crate::unnaming::unname;
 use base_types::NoMemory;
-use bucket_core::{Body, Bucket, Changes, Dropped, Found, Listed, StoreErr};
-use key_kind::{Key, KeyKind, Name, SnapName, Symbol};
 use std::alloc::Global;
-use std::marker::Brand;
-use std::sync::{Arc, Wait};
+use std::sync::Arc;
 use turn_cell::{Seat, TurnCell};
-use version_chain::StoreLaw;
 
 /// One client's way to a shared store. Its changing calls, `get`, `list`, `split` and `join` may wait for the turn, which each
 /// takes once; the others wait for nobody. No call fails.
@@ -46,6 +33,8 @@ pub struct Pass {
     ghost counted: { count ≡ length (seen seat) },
     ghost served: { next ≡ puts_by (view seat).badge.number (history seat) },
     ghost lawful: { ∥ IsLawful IsClaimed (history seat) ∥₁ },
+    ghost ended: { ∥ AreEnded (view seat).badge (seen seat) ∥₁ },
+    ghost had: { ∥ AreHad (view seat).badge (seen seat) ∥₁ },
 }
 
 impl Pass {
@@ -74,142 +63,5 @@ impl Pass {
             count: 0,
             next: 0,
         })
-    }
-}
-
-impl Bucket<StoreLaw> for Pass {
-    ghost seen = { λ p. history p.seat };
-
-    ghost number = { λ p. p.seat.me.0.badge.number };
-
-    ghost limit = { λ p. p.most };
-
-    ghost faults = { λ p. 0 };
-
-    ghost sole = { λ p. is_sole p.seat.me.0.badge };
-
-    ghost may_tell = { λ p symbol place answer. answer ≡ true → refers_after (history p.seat) symbol place ≡ false };
-
-    ghost lawful = { λ p. p.lawful };
-
-    fn place(&self) -> u64 {
-        self.count
-    }
-
-    fn client(&self) -> u32 {
-        self.number
-    }
-
-    fn serial(&self) -> u64 {
-        self.next
-    }
-
-    fn get<R: Wait>(&mut self, rt: &R, key: &Key) -> Result<Found, StoreErr> {
-        let (found, count) = find(rt, &self.cell, &mut self.seat, key);
-        self.count = count;
-        match found {
-            Ok(found) => Ok(found),
-            Err(NoMemory) => Err(StoreErr::NoMemory),
-        }
-    }
-
-    fn list<R: Wait>(
-        &mut self,
-        rt: &R,
-        kind: Option<KeyKind>,
-        name: Option<&Name>,
-    ) -> Result<Listed, StoreErr> {
-        let (keys, count) = list(rt, self.alloc, &self.cell, &mut self.seat, kind, name);
-        self.count = count;
-        match keys {
-            Ok(keys) => Ok(Listed { keys, place: count }),
-            Err(NoMemory) => Err(StoreErr::NoMemory),
-        }
-    }
-
-    fn put<R: Wait>(&mut self, rt: &R, key: Key, body: Arc<Body>) -> Result<u64, StoreErr> {
-        let (answer, count) = put::<Brand, R>(rt, &self.cell, &mut self.seat, self.most, key, body);
-        self.count = count;
-        if answer.is_ok() {
-            self.next += 1;
-        }
-        answer
-    }
-
-    fn refer<R: Wait>(
-        &mut self,
-        rt: &R,
-        symbol: &Symbol,
-        was: Option<&Key>,
-        entry: &Key,
-        mark: Arc<Body>,
-        changes: Arc<Changes>,
-    ) -> Result<u64, StoreErr> {
-        let made = match make_ready(self.alloc, symbol, entry, mark) {
-            Ok(made) => made,
-            Err(NoMemory) => return Err(StoreErr::NoMemory),
-        };
-        let (answer, count) = refer::<Brand, R>(
-            rt,
-            self.alloc,
-            &self.cell,
-            &mut self.seat,
-            self.most,
-            symbol,
-            was,
-            entry,
-            made,
-            changes,
-        );
-        self.count = count;
-        answer
-    }
-
-    fn name<R: Wait>(&mut self, rt: &R, snap: &SnapName, body: Arc<Body>) -> Result<u64, StoreErr> {
-        let key = match Key::snapshot(self.alloc, snap) {
-            Ok(key) => key,
-            Err(NoMemory) => return Err(StoreErr::NoMemory),
-        };
-        let (answer, count) = name::<Brand, R>(
-            rt,
-            &self.cell,
-            &mut self.seat,
-            self.most,
-            snap,
-            key,
-            body,
-        );
-        self.count = count;
-        answer
-    }
-
-    fn unname<R: Wait>(&mut self, rt: &R, snap: &SnapName, since: u64) -> Result<u64, StoreErr> {
-        let key = match Key::snapshot(self.alloc, snap) {
-            Ok(key) => key,
-            Err(NoMemory) => return Err(StoreErr::NoMemory),
-        };
-        let (answer, count) = unname::<Brand, R>(
-            rt,
-            &self.cell,
-            &mut self.seat,
-            self.most,
-            snap,
-            &key,
-            since,
-        );
-        self.count = count;
-        answer
-    }
-
-    fn drop_key<R: Wait>(&mut self, rt: &R, key: &Key) -> Result<Dropped, StoreErr> {
-        let (answer, count) = drop_key::<Brand, R>(rt, &self.cell, &mut self.seat, self.most, key);
-        self.count = count;
-        answer
-    }
-
-    /// One look at the word of the symbol's row.
-    fn unchanged(&mut self, symbol: &Symbol, place: u64) -> bool {
-        let row = row_of(symbol.name());
-        self.cell.unchanged(&mut self.seat, row, place)
     }
 }

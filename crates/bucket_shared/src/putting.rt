@@ -6,6 +6,7 @@ ghost use Rattle.bucket_core.specs.History.{puts_by};
 ghost use Rattle.bucket_core.specs.Laws.{IsLawful};
 ghost use Rattle.bucket_core.specs.Calls.{DidChange, RefusesPut, put_event};
 ghost use Rattle.store_model.specs.Law.{IsClaimed};
+ghost use Rattle.bucket_shared.specs.Authors.{AreEnded, AreHad};
 ghost use Rattle.bucket_shared.specs.Sole.{is_sole};
 ghost use Rattle.bucket_shared.specs.Stories.{history};
 
@@ -28,6 +29,7 @@ pub(crate) fn put<K: EventName, R: Wait>(
 ) -> (Result<u64, StoreErr>, u64)
     requires cell { seat.old.table_id ≡ cell.now }
     requires rests { Rests seat.old }
+    requires ended { ∥ AreEnded (view seat.old).badge (seen seat.old) ∥₁ }
     requires limit { limit ≤ 2 ^ 62 }
     requires event { K.event ≡ put_event (view seat.old).badge.number key (arc_value body) }
     requires claim { IsClaimed (history seat.old) (put_event (view seat.old).badge.number key (arc_value body)) }
@@ -36,6 +38,8 @@ pub(crate) fn put<K: EventName, R: Wait>(
     ensures badge { (view seat.new).badge ≡ (view seat.old).badge }
     ensures counted { result.1 ≡ length (seen seat.new) }
     ensures lawful { ∥ IsLawful IsClaimed (history seat.new) ∥₁ }
+    ensures ended { ∥ AreEnded (view seat.new).badge (seen seat.new) ∥₁ }
+    ensures had { ∥ AreHad (view seat.new).badge (seen seat.new) ∥₁ }
     ensures did { DidChange IsClaimed (view seat.old).badge.number (is_sole (view seat.old).badge) limit 0 0 (history seat.old) (history seat.new) (put_event (view seat.old).badge.number key (arc_value body)) (RefusesPut limit) result.0 }
     ensures added { OnOk result.0 (puts_by (view seat.old).badge.number (history seat.new) ≡ suc (puts_by (view seat.old).badge.number (history seat.old))) }
     ensures room { OnOk result.0 (puts_by (view seat.old).badge.number (history seat.old) < 2 ^ 62) }

@@ -8,6 +8,7 @@ ghost use Rattle.bucket_core.specs.History.{author as client_of, puts_by};
 ghost use Rattle.bucket_core.specs.Laws.{IsLawful, Looks};
 ghost use Rattle.bucket_core.specs.Showing.{Shows, events_of};
 ghost use Rattle.store_model.specs.Law.{IsClaimed};
+ghost use Rattle.bucket_shared.specs.Authors.{AreEnded, AreHad};
 ghost use Rattle.bucket_shared.specs.Sole.{is_sole};
 ghost use Rattle.bucket_shared.specs.Stories.{StandsFor, event_row, history, IsNewSeat};
 
@@ -21,6 +22,7 @@ use turn_cell::{Seat, TurnCell};
 pub(crate) fn take<R: Wait>(rt: &R, cell: &TurnCell<Store>, seat: &mut Seat<Store>) -> Store
     requires cell { seat.old.table_id ≡ cell.now }
     requires rests { Rests seat.old }
+    requires ended { ∥ AreEnded (view seat.old).badge (seen seat.old) ∥₁ }
     ensures cell { seat.new.table_id ≡ seat.old.table_id }
     ensures holds { Holds seat.new }
     ensures none_begun { (view seat.new).begun ≡ None }
@@ -28,8 +30,11 @@ pub(crate) fn take<R: Wait>(rt: &R, cell: &TurnCell<Store>, seat: &mut Seat<Stor
     ensures stands { StandsFor result.contents (seen seat.new) }
     ensures counted { events_of result.contents ≡ length (seen seat.new) }
     ensures lawful { ∥ IsLawful IsClaimed (history seat.new) ∥₁ }
+    ensures ended { ∥ AreEnded (view seat.new).badge (seen seat.new) ∥₁ }
+    ensures had { ∥ AreHad (view seat.new).badge (seen seat.new) ∥₁ }
     ensures given { result.given ≡ (view seat.new).top }
     ensures numbers { (view seat.old).badge.number ≤ result.given }
+    ensures first { (view seat.old).badge.first ≤ result.given }
     ensures gave { (n : ℕ) → Among n (view seat.old).badge.gave → n ≤ result.given }
     ensures looks { Looks IsClaimed (view seat.old).badge.number (is_sole (view seat.old).badge) (history seat.old) (history seat.new) }
     ensures serial { puts_by (view seat.old).badge.number (history seat.new) ≡ puts_by (view seat.old).badge.number (history seat.old) }
@@ -43,12 +48,15 @@ pub(crate) fn take<R: Wait>(rt: &R, cell: &TurnCell<Store>, seat: &mut Seat<Stor
 pub(crate) fn look<R: Wait>(rt: &R, cell: &TurnCell<Store>, seat: &mut Seat<Store>) -> u64
     requires cell { seat.old.table_id ≡ cell.now }
     requires rests { Rests seat.old }
+    requires ended { ∥ AreEnded (view seat.old).badge (seen seat.old) ∥₁ }
     ensures cell { seat.new.table_id ≡ seat.old.table_id }
     ensures rests { Rests seat.new }
     ensures badge { (view seat.new).badge ≡ (view seat.old).badge }
     ensures lawfully { IsLawful IsClaimed (history seat.new) }
     ensures counted { result ≡ length (seen seat.new) }
     ensures lawful { ∥ IsLawful IsClaimed (history seat.new) ∥₁ }
+    ensures ended { ∥ AreEnded (view seat.new).badge (seen seat.new) ∥₁ }
+    ensures had { ∥ AreHad (view seat.new).badge (seen seat.new) ∥₁ }
     ensures looks { Looks IsClaimed (view seat.old).badge.number (is_sole (view seat.old).badge) (history seat.old) (history seat.new) }
     ensures serial { puts_by (view seat.old).badge.number (history seat.new) ≡ puts_by (view seat.old).badge.number (history seat.old) }
     ensures joined { (n : ℕ) → Has (view seat.old).badge n → entries_by client_of n (seen seat.new) ≡ entries_by client_of n (seen seat.old) }
@@ -64,6 +72,8 @@ pub(crate) fn look<R: Wait>(rt: &R, cell: &TurnCell<Store>, seat: &mut Seat<Stor
 pub(crate) fn add<K: EventName>(cell: &TurnCell<Store>, seat: &mut Seat<Store>, store: Store)
     requires cell { seat.old.table_id ≡ cell.now }
     requires holds { Holds seat.old }
+    requires ended { ∥ AreEnded (view seat.old).badge (seen seat.old) ∥₁ }
+    requires had { ∥ AreHad (view seat.old).badge (seen seat.old) ∥₁ }
     requires author { client_of K.event ≡ (view seat.old).badge.number }
     requires row { event_row K.event ≡ (view seat.old).begun }
     requires room { length (seen seat.old) < 2 ^ 62 }
@@ -75,6 +85,8 @@ pub(crate) fn add<K: EventName>(cell: &TurnCell<Store>, seat: &mut Seat<Store>, 
     ensures badge { (view seat.new).badge ≡ (view seat.old).badge }
     ensures seen { seen seat.new ≡ seen seat.old ++ K.event ∷ [] }
     ensures history { history seat.new ≡ K.event ∷ history seat.old }
+    ensures ended { ∥ AreEnded (view seat.new).badge (seen seat.new) ∥₁ }
+    ensures had { ∥ AreHad (view seat.new).badge (seen seat.new) ∥₁ }
 {
     cell.step::<Named<K>>(seat);
     cell.give(seat, store);
@@ -89,16 +101,21 @@ pub(crate) fn share<R: Wait>(
 ) -> (Option<(Seat<Store>, u32)>, u64)
     requires cell { seat.old.table_id ≡ cell.now }
     requires rests { Rests seat.old }
+    requires ended { ∥ AreEnded (view seat.old).badge (seen seat.old) ∥₁ }
     ensures cell { seat.new.table_id ≡ seat.old.table_id }
     ensures rests { Rests seat.new }
     ensures number { (view seat.new).badge.number ≡ (view seat.old).badge.number }
     ensures counted { result.1 ≡ length (seen seat.new) }
     ensures lawful { ∥ IsLawful IsClaimed (history seat.new) ∥₁ }
+    ensures ended { ∥ AreEnded (view seat.new).badge (seen seat.new) ∥₁ }
+    ensures had { ∥ AreHad (view seat.new).badge (seen seat.new) ∥₁ }
     ensures looks { Looks IsClaimed (view seat.old).badge.number (is_sole (view seat.old).badge) (history seat.old) (history seat.new) }
     ensures serial { puts_by (view seat.old).badge.number (history seat.new) ≡ puts_by (view seat.old).badge.number (history seat.old) }
     ensures other { IfSome result.0 (λ p. IsNewSeat (view seat.old).badge (view seat.new) p.0 p.1) }
     ensures other_cell { IfSome result.0 (λ p. p.0.table_id ≡ seat.old.table_id) }
     ensures other_rests { IfSome result.0 (λ p. Rests p.0) }
+    ensures other_ended { IfSome result.0 (λ p. ∥ AreEnded (view p.0).badge (seen p.0) ∥₁) }
+    ensures other_had { IfSome result.0 (λ p. ∥ AreHad (view p.0).badge (seen p.0) ∥₁) }
     ensures none { IfNone result.0 ((view seat.new).badge ≡ (view seat.old).badge) }
     ensures last { IfNone result.0 ((view seat.new).top ≡ 2 ^ 32 - 1) }
 {
@@ -124,14 +141,18 @@ pub(crate) fn merge<R: Wait>(
 ) -> u64
     requires cell { seat.old.table_id ≡ cell.now }
     requires rests { Rests seat.old }
+    requires ended { ∥ AreEnded (view seat.old).badge (seen seat.old) ∥₁ }
     requires other_cell { other.table_id ≡ cell.now }
     requires other_rests { Rests other }
+    requires other_ended { ∥ AreEnded (view other).badge (seen other) ∥₁ }
     ensures cell { seat.new.table_id ≡ seat.old.table_id }
     ensures rests { Rests seat.new }
     ensures badge { (view seat.new).badge ≡ joined_badge (view seat.old).badge (view other).badge (length (seen other)) }
     ensures apart { (view seat.old).badge.number ≢ (view other).badge.number }
     ensures counted { result ≡ length (seen seat.new) }
     ensures lawful { ∥ IsLawful IsClaimed (history seat.new) ∥₁ }
+    ensures ended { ∥ AreEnded (view seat.new).badge (seen seat.new) ∥₁ }
+    ensures had { ∥ AreHad (view seat.new).badge (seen seat.new) ∥₁ }
     ensures looks { Looks IsClaimed (view seat.old).badge.number false (history seat.old) (history seat.new) }
     ensures other_looks { Looks IsClaimed (view other).badge.number false (history other) (history seat.new) }
     ensures serial { puts_by (view seat.old).badge.number (history seat.new) ≡ puts_by (view seat.old).badge.number (history seat.old) }

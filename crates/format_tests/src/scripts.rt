@@ -141,8 +141,7 @@ fn a_frame_is_named_by_its_place_among_the_loads(rt: HostRuntime) {
 #[test]
 fn each_script_outside_its_form_is_bad(rt: HostRuntime) {
     let texts = [
-        b"".as_slice(),
-        b"first",
+        b"first".as_slice(),
         b"first\r\n",
         b"first\n\n",
         b" first\n",
@@ -150,7 +149,6 @@ fn each_script_outside_its_form_is_bad(rt: HostRuntime) {
         b"first now\n",
         b"first\nfirst\n",
         b"read S\n",
-        b"load t t.csv int\n",
         b"load t t.csv int\nwrite S t\n",
         b"first\nload t t.csv int\n",
         b"load t t.csv int\nload t u.csv int\nfirst\n",
@@ -169,6 +167,16 @@ fn each_script_outside_its_form_is_bad(rt: HostRuntime) {
         b"first\nread aaaaaaaaaaaaaaaaaaaaaaaaaaaaaaaaa\n",
         b"first\nwrote S t\n",
         b"first\n# read S\n",
+        b"client a\nfirst\n",
+        b"client a\nload t t.csv int\n",
+        b"last\nclient a\n",
+        b"last\nlast\n",
+        b"client\n",
+        b"client a b\n",
+        b"client a.b\n",
+        b"client last\n",
+        b"client aaaaaaaaaaaaaaaaaaaaaaaaaaaaaaaaa\n",
+        b"client a\nclient b\nclient a\n",
     ];
     for (place, text) in texts.iter().enumerate() {
         let answer = read_script(rt.alloc(), text);
@@ -176,6 +184,41 @@ fn each_script_outside_its_form_is_bad(rt: HostRuntime) {
             matches!(answer, Err(ScriptFault::BadScript)),
             "script {place}"
         );
+    }
+}
+
+#[test]
+fn each_part_has_its_commands(rt: HostRuntime) -> Result<(), Fail> {
+    let text =
+        b"load t t.csv int\nfirst\nwrite S t\nclient a\nread S\nkeys S\nclient b-2\nlast\nversions S\n";
+    let Ok(script) = read_script(rt.alloc(), text.as_slice()) else {
+        panic!(rt; "no script");
+    };
+    assert!(rt; script.first.len() == 1 && script.clients.len() == 2 && script.last.len() == 1);
+    let client = script.clients.at(0);
+    assert_eq!(rt; client.name.text(), "a");
+    assert!(rt;
+        matches!(
+            client.commands.items(),
+            [Command::Read { .. }, Command::Keys { .. }]
+        )
+    );
+    let client = script.clients.at(1);
+    assert_eq!(rt; client.name.text(), "b-2");
+    assert!(rt; client.commands.is_empty());
+    assert!(rt; matches!(script.last.items(), [Command::Versions { .. }]));
+    Ok(())
+}
+
+#[test]
+fn each_part_may_be_left_out(rt: HostRuntime) {
+    for text in [
+        b"".as_slice(),
+        b"load t t.csv int\n",
+        b"client a\nread S\n",
+        b"first\nlast\nread S\n",
+    ] {
+        assert!(rt; read_script(rt.alloc(), text).is_ok());
     }
 }
 
@@ -364,6 +407,26 @@ fn a_script_has_at_most_1000_lines_and_127_types_a_load(rt: HostRuntime) -> Resu
         let text = script_of(&rt, types, reads)?;
         let answer = read_script(rt.alloc(), text.as_slice());
         assert_eq!(rt; answer.is_ok(), good, "{types} types and {reads} reads");
+    }
+    Ok(())
+}
+
+fn clients_up_to(rt: &HostRuntime, last: u8) -> Result<Vec<u8>, Fail> {
+    let mut text = Vec::new(rt.alloc());
+    for letter in b'a'..=last {
+        text.extend_from_slice(b"client ")?;
+        text.push(letter)?;
+        text.push(b'\n')?;
+    }
+    Ok(text)
+}
+
+#[test]
+fn a_script_has_at_most_16_clients(rt: HostRuntime) -> Result<(), Fail> {
+    for (last, good) in [(b'p', true), (b'q', false)] {
+        let text = clients_up_to(&rt, last)?;
+        let answer = read_script(rt.alloc(), text.as_slice());
+        assert_eq!(rt; answer.is_ok(), good);
     }
     Ok(())
 }

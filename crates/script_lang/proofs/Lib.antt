@@ -4,4 +4,5 @@ pub mod Words
 pub mod LineSteps
 pub mod Gathered
 pub mod Parts
+pub mod Clients
 pub mod Loaded

@@ -1,6 +1,6 @@
 -- In each script the frame of a command is loaded.
 use Rattle.std.proofs.Common.{◌≡◌, ℕ, ℤ, ◌+◌, ◌<◌, Bool, true, false, cond, List, [], ◌∷◌, ◌++◌, length, Option, Some, None, refl, sym, ap, subst, ◌∙◌, arith}
-use Rattle.std.specs.Prelude.{option_map, unwrap_or, is_none, find, Result, Ok, Err, IfOk}
+use Rattle.std.specs.Prelude.{option_map, unwrap_or, find}
 use Rattle.std.specs.List.{AllByRecursion, position_from}
 use Rattle.std.proofs.lemmas.List.{length-map}
 use Rattle.frame_core.specs.Texts.{Text, same_text}
@@ -12,16 +12,19 @@ use Rattle.script_lang.specs.declared.command.Commit.{Commit}
 use Rattle.script_lang.specs.declared.options.CommitOptions.{CommitOptions}
 use Rattle.script_lang.specs.declared.options.UpdateOptions.{UpdateOptions}
 use Rattle.script_lang.specs.declared.options.ReadOptions.{ReadOptions}
+use Rattle.script_lang.specs.declared.client.ClientPart.{ClientPart}
+use Rattle.script_lang.specs.declared.draft.Stage.{Stage}
+use Rattle.script_lang.specs.declared.draft.Stage.TheVariants as stages
 use Rattle.script_lang.specs.declared.load.Load.{Load}
 use Rattle.script_lang.specs.declared.script.Script.{Script}
-use Rattle.script_lang.specs.declared.fault.ScriptFault.{ScriptFault}
-use Rattle.script_lang.specs.Answers.{GivesScript}
 use Rattle.script_lang.specs.Fronts.{◌>>=◌, where_true}
 use Rattle.script_lang.specs.Lines.{words_of}
 use Rattle.script_lang.specs.Words.{under, symbol_of, frame_of}
 use Rattle.script_lang.specs.Options.{commit_options, update_options, versions_given, read_options}
 use Rattle.script_lang.specs.Commands.{Form, commit_of, commit_form, update_form, required_range, delete_range_form, delete_form, only_symbol, symbol_form, whole_range, read_form, forms, command_of}
-use Rattle.script_lang.specs.Scripts.{Draft, LineForm, no_lines, frame_names, load_of, after_load, after_first, with_command, after_form, after_words, after_line, line_forms, after_lines, finished, IsLoaded, AreLoaded}
+use Rattle.script_lang.specs.Loads.{frame_names, load_of}
+use Rattle.script_lang.specs.Clients.{new_client_of, in_last_client}
+use Rattle.script_lang.specs.Scripts.{Draft, LineForm, no_lines, before_parts, before_last, after_load, after_first, after_client, after_last, in_part, after_form, after_words, after_line, line_forms, after_lines, finished, IsLoaded, AllLoaded, AreLoaded}
 use Rattle.script_lang.proofs.Gathered.{bind-some}
 
 abbrev some_in : {A : Type 0} → A → Option A → A
@@ -170,58 +173,139 @@ command_of-loaded frames verb words c h =
 
 -- ---- lines
 
--- the commands so far are of loaded frames
-abbrev IsSound : Draft → Type 0
-IsSound d = (list : List Command) → d.first ≡ Some list → AllByRecursion (IsLoaded (length d.loads)) list
+-- no command came so far
+record IsBare (d : Draft) : Type 0 where
+  first : d.first ≡ []
+  clients : d.clients ≡ []
+  last : d.last ≡ []
+
+-- the commands so far are of loaded frames, and there is none before a part begins
+record IsSound (d : Draft) : Type 0 where
+  loaded : AreLoaded (finished d)
+  early : before_parts d.stage ≡ true → IsBare d
 
 -- a form of lines keeps that
 abbrev Keeps : LineForm → Type 0
 Keeps form = (d next : Draft) (words : List Text) → IsSound d → form d words ≡ Some next → IsSound next
 
-all-append : (n : ℕ) (list : List Command) (c : Command) → AllByRecursion (IsLoaded n) list → IsLoaded n c → AllByRecursion (IsLoaded n) (list ++ c ∷ [])
-all-append n [] c all one = (one, tt)
-all-append n (x ∷ list) c all one = (all.0, all-append n list c all.1 one)
+-- what held of all items holds of one more
+all-push : {A : Type 0} (P : A → Type 0) (xs : List A) (x : A) → AllByRecursion P xs → P x → AllByRecursion P (xs ++ x ∷ [])
+all-push P [] x all one = (one, tt)
+all-push P (y ∷ xs) x all one = (all.0, all-push P xs x all.1 one)
 
-before_first : {A : Type 0} (first : Option (List Command)) (a b : A) → where_true (is_none first) a ≡ Some b → (first ≡ None) × (a ≡ b)
-before_first None a b h = (refl, some-same a b h)
-before_first (Some list) a b h = absurd cc
+-- a value was given where a test held
+where-held : {A : Type 0} (test : Bool) (a b : A) → where_true test a ≡ Some b → (test ≡ true) × (a ≡ b)
+where-held true a b h = (refl, some-same a b h)
+where-held false a b h = absurd cc
 
-after_first-keeps : (d next : Draft) (words : List Text) → IsSound d → after_first d words ≡ Some next → IsSound next
-after_first-keeps d next [] sound h =
-    let begun : Draft = record d { first = Some [] } in
-    let empty : IsSound begun = λ list is. subst (AllByRecursion (IsLoaded (length d.loads))) (some-same [] list is) tt in
-    subst IsSound (before_first d.first begun next h).1 empty
-after_first-keeps d next (word ∷ words) sound h = absurd cc
+-- a part that has begun is none before all parts
+begun : (d next : Draft) → before_parts next.stage ≡ false → before_parts next.stage ≡ true → IsBare next
+begun d next late early = absurd (never (sym late ∙ early))
+  where
+    never : false ≡ true → ⊥
+    never h = cc
 
 with_load : Draft → Load → Draft
 with_load d load = record d { loads = d.loads ++ load ∷ [] }
 
-after_load-keeps : (d next : Draft) (words : List Text) → IsSound d → after_load d words ≡ Some next → IsSound next
+after_load-keeps : Keeps after_load
 unfolding with_load
 after_load-keeps d next words sound h =
-    let read = bind-some (where_true (is_none d.first) words >>= load_of d.loads) (λ load. Some (with_load d load)) next h in
-    let early = bind-some (where_true (is_none d.first) words) (load_of d.loads) read.0 read.1 in
-    let none = (before_first d.first words early.0 early.1).0 in
-    let empty : IsSound (with_load d read.0) = λ list is. absurd (never list (sym none ∙ is)) in
-    subst IsSound (some-same (with_load d read.0) next read.2) empty
-  where
-    never : (list : List Command) → None ≡ Some list → ⊥
-    never list h = cc
+    let read = bind-some (where_true (before_parts d.stage) words >>= load_of d.loads) (λ load. Some (with_load d load)) next h in
+    let given = bind-some (where_true (before_parts d.stage) words) (load_of d.loads) read.0 read.1 in
+    let bare = sound.early (where-held (before_parts d.stage) words given.0 given.1).0 in
+    let n = length (d.loads ++ read.0 ∷ []) in
+    let none : AreLoaded (finished (with_load d read.0)) = record {
+      first = subst (AllLoaded n) (sym bare.first) tt;
+      clients = subst (AllByRecursion (λ (part : ClientPart). AllLoaded n part.commands)) (sym bare.clients) tt;
+      last = subst (AllLoaded n) (sym bare.last) tt;
+    } in
+    let still : IsBare (with_load d read.0) = record { first = bare.first; clients = bare.clients; last = bare.last } in
+    subst IsSound (some-same (with_load d read.0) next read.2) (record { loaded = none; early = λ early. still })
 
-with_command-keeps : (d next : Draft) (c : Command) → IsSound d → IsLoaded (length d.loads) c → with_command d c ≡ Some next → IsSound next
-with_command-keeps d next c sound one h =
-    let before = bind-some d.first (λ list. Some (record d { first = Some (list ++ c ∷ []) })) next h in
-    let longer : Draft = record d { first = Some (before.0 ++ c ∷ []) } in
-    let all : IsSound longer = λ list is. subst (AllByRecursion (IsLoaded (length d.loads))) (some-same (before.0 ++ c ∷ []) list is) (all-append (length d.loads) before.0 c (sound before.0 before.1) one) in
-    subst IsSound (some-same longer next before.2) all
+at_stage : Draft → Stage → Draft
+at_stage d stage = record d { stage = stage }
+
+after_first-keeps : Keeps after_first
+unfolding at_stage
+after_first-keeps d next [] sound h =
+    let held = where-held (before_parts d.stage) (at_stage d stages.First) next h in
+    let now : IsSound (at_stage d stages.First) = record { loaded = sound.loaded; early = begun d (at_stage d stages.First) refl } in
+    subst IsSound held.1 now
+after_first-keeps d next (word ∷ words) sound h = absurd cc
+
+after_last-keeps : Keeps after_last
+unfolding at_stage
+after_last-keeps d next [] sound h =
+    let held = where-held (before_last d.stage) (at_stage d stages.Last) next h in
+    let now : IsSound (at_stage d stages.Last) = record { loaded = sound.loaded; early = begun d (at_stage d stages.Last) refl } in
+    subst IsSound held.1 now
+after_last-keeps d next (word ∷ words) sound h = absurd cc
+
+client_added : Draft → Text → Draft
+client_added d name = record d { clients = d.clients ++ record { name = name; commands = [] } ∷ []; stage = stages.Clients }
+
+after_client-keeps : Keeps after_client
+unfolding client_added
+after_client-keeps d next [] sound h = absurd cc
+after_client-keeps d next (word ∷ []) sound h =
+    let read = bind-some (where_true (before_last d.stage) word >>= new_client_of d.clients) (λ name. Some (client_added d name)) next h in
+    let part : ClientPart = record { name = read.0; commands = [] } in
+    let loaded : AreLoaded (finished (client_added d read.0)) = record {
+      first = sound.loaded.first;
+      clients = all-push (λ (part : ClientPart). AllLoaded (length d.loads) part.commands) d.clients part sound.loaded.clients tt;
+      last = sound.loaded.last;
+    } in
+    subst IsSound (some-same (client_added d read.0) next read.2) (record { loaded = loaded; early = begun d (client_added d read.0) refl })
+after_client-keeps d next (word ∷ more ∷ words) sound h = absurd cc
+
+-- ---- commands of parts
+
+longer : ClientPart → Command → ClientPart
+longer part c = record part { commands = part.commands ++ c ∷ [] }
+
+in_last_client-keeps : (n : ℕ) (clients parts : List ClientPart) (c : Command) → AllByRecursion (λ (part : ClientPart). AllLoaded n part.commands) clients → IsLoaded n c →
+    in_last_client clients c ≡ Some parts → AllByRecursion (λ (part : ClientPart). AllLoaded n part.commands) parts
+unfolding longer
+in_last_client-keeps n [] parts c all one h = absurd cc
+in_last_client-keeps n (part ∷ []) parts c all one h =
+    subst (AllByRecursion (λ (part : ClientPart). AllLoaded n part.commands)) (some-same (longer part c ∷ []) parts h) (all-push (IsLoaded n) part.commands c all.0 one, tt)
+in_last_client-keeps n (part ∷ next ∷ clients) parts c all one h =
+    let later = bind-some (in_last_client (next ∷ clients) c) (λ later. Some (part ∷ later)) parts h in
+    subst (AllByRecursion (λ (part : ClientPart). AllLoaded n part.commands)) (some-same (part ∷ later.0) parts later.2)
+    (all.0, in_last_client-keeps n (next ∷ clients) later.0 c all.1 one later.1)
+
+in_first : Draft → Command → Draft
+in_first d c = record d { first = d.first ++ c ∷ [] }
+
+in_last : Draft → Command → Draft
+in_last d c = record d { last = d.last ++ c ∷ [] }
+
+client_addeds : Draft → List ClientPart → Draft
+client_addeds d parts = record d { clients = parts }
+
+in_part-keeps : (stage : Stage) (d next : Draft) (c : Command) → d.stage ≡ stage → IsSound d → IsLoaded (length d.loads) c → in_part stage d c ≡ Some next → IsSound next
+unfolding in_first in_last client_addeds
+in_part-keeps stages.Loads d next c is sound one h = absurd cc
+in_part-keeps stages.First d next c is sound one h =
+    let loaded : AreLoaded (finished (in_first d c)) = record { first = all-push (IsLoaded (length d.loads)) d.first c sound.loaded.first one; clients = sound.loaded.clients; last = sound.loaded.last } in
+    subst IsSound (some-same (in_first d c) next h) (record { loaded = loaded; early = begun d (in_first d c) (ap before_parts is) })
+in_part-keeps stages.Clients d next c is sound one h =
+    let parts = bind-some (in_last_client d.clients c) (λ parts. Some (client_addeds d parts)) next h in
+    let loaded : AreLoaded (finished (client_addeds d parts.0)) = record { first = sound.loaded.first; clients = in_last_client-keeps (length d.loads) d.clients parts.0 c sound.loaded.clients one parts.1; last = sound.loaded.last } in
+    subst IsSound (some-same (client_addeds d parts.0) next parts.2) (record { loaded = loaded; early = begun d (client_addeds d parts.0) (ap before_parts is) })
+in_part-keeps stages.Last d next c is sound one h =
+    let loaded : AreLoaded (finished (in_last d c)) = record { first = sound.loaded.first; clients = sound.loaded.clients; last = all-push (IsLoaded (length d.loads)) d.last c sound.loaded.last one } in
+    subst IsSound (some-same (in_last d c) next h) (record { loaded = loaded; early = begun d (in_last d c) (ap before_parts is) })
 
 after_form-keeps : (d next : Draft) (verb : Text) (words : List Text) (form : Option LineForm) → IsSound d → under verb line_forms ≡ form → after_form form d verb words ≡ Some next → IsSound next
-after_form-keeps d next verb words (Some form) sound is h = under-keeps Keeps verb line_forms form (after_load-keeps, (after_first-keeps, tt)) is d next words sound h
+after_form-keeps d next verb words (Some form) sound is h =
+    under-keeps Keeps verb line_forms form (after_load-keeps, (after_first-keeps, (after_client-keeps, (after_last-keeps, tt)))) is d next words sound h
 after_form-keeps d next verb words None sound is h =
-    let command = bind-some (command_of (frame_names d.loads) verb words) (with_command d) next h in
+    let command = bind-some (command_of (frame_names d.loads) verb words) (in_part d.stage d) next h in
     let loaded = command_of-loaded (frame_names d.loads) verb words command.0 command.1 in
     let same : length (frame_names d.loads) ≡ length d.loads = length-map d.loads (λ (l : Load). l.name) in
-    with_command-keeps d next command.0 sound (subst (λ n. IsLoaded n command.0) same loaded) command.2
+    in_part-keeps d.stage d next command.0 refl sound (subst (λ n. IsLoaded n command.0) same loaded) command.2
 
 after_words-keeps : (d next : Draft) (words : List Text) → IsSound d → after_words d words ≡ Some next → IsSound next
 after_words-keeps d next [] sound h = absurd cc
@@ -235,19 +319,9 @@ after_lines-keeps d next (line ∷ lines) sound h =
 
 -- ---- the script
 
-finished-loaded : (d : Draft) (script : Script) → IsSound d → finished d ≡ Some script → AreLoaded script
-finished-loaded d script sound h =
-    let list = bind-some d.first (λ list. Some (record { loads = d.loads; first = list })) script h in
-    let made : Script = record { loads = d.loads; first = list.0 } in
-    subst AreLoaded (some-same made script list.2) (sound list.0 list.1)
-
 no_lines-sound : IsSound no_lines
-no_lines-sound list is = absurd (never list is)
-  where
-    never : (list : List Command) → None ≡ Some list → ⊥
-    never list h = cc
+no_lines-sound = record { loaded = record { first = tt; clients = tt; last = tt }; early = λ early. record { first = refl; clients = refl; last = refl } }
 
--- what was answered from these lines is of loaded frames
-pub answer-loaded : (lines : List Text) (d : Draft) (answer : Result Script ScriptFault) → after_lines no_lines lines ≡ Some d → GivesScript (λ script. script) answer (finished d) → IfOk answer (λ script. AreLoaded script)
-answer-loaded lines d (Err e) is given = tt
-answer-loaded lines d (Ok script) is given = finished-loaded d script (after_lines-keeps no_lines d lines no_lines-sound is) given
+-- the draft of these lines is of loaded frames
+pub draft-loaded : (lines : List Text) (d : Draft) → after_lines no_lines lines ≡ Some d → AreLoaded (finished d)
+draft-loaded lines d is = (after_lines-keeps no_lines d lines no_lines-sound is).loaded

@@ -1,13 +1,14 @@
 -- Identifiers are names of columns.
 use Rattle.std.proofs.Common.{◌≡◌, ℕ, zero, suc, ◌<◌, ◌≤◌, Bool, true, false, cond, [], ◌∷◌, length, get_or, drop, Option, Some, None, refl, sym, ap, ◌∙◌, subst, lit<, arith}
-use Rattle.std.specs.Prelude.{IsUtf8, ◌&&◌, nat_le, nat_eq}
+use Rattle.std.specs.Prelude.{IsUtf8, ◌&&◌, not, nat_le, nat_eq}
 use Rattle.std.specs.List.{list_all}
 use Rattle.std.proofs.lemmas.Bool.Decides.{nat_tests}
 use Rattle.std.proofs.lemmas.List.Sums.{take_while-cons}
 use Rattle.std.proofs.lemmas.Str.{IsUtf8-from_ascii}
 use Rattle.frame_core.specs.Texts.{Text}
 use Rattle.frame_core.specs.Schemas.{IsColName}
-use Rattle.script_lang.specs.Words.{is_plain_byte, is_plain}
+use Rattle.script_lang.specs.Words.{is_short, is_plain_byte, is_plain}
+use Rattle.script_lang.specs.Clients.{is_client_byte, is_part_name, is_client_name}
 use Rattle.script_lang.specs.Fronts.{◌>>=◌, where_true, whole, if_nothing_left, is_wordy, word_of, is_identifier, identifier_at}
 use Rattle.script_lang.specs.PlainFiles.{short_name, column_name_at}
 
@@ -97,14 +98,24 @@ and-left : (a b : Bool) → (a && b) ≡ true → a ≡ true
 and-left true b h = refl
 and-left false b h = absurd cc
 
+short-ascii : (kind : ℕ → Bool) (word : Text) → ((c : ℕ) → kind c ≡ true → c < 128) → list_all kind word ≡ true → (i : ℕ) → get_or word i 0 < 128
+short-ascii kind [] small all i = lit< tt
+short-ascii kind (c ∷ word) small all zero = small c (and-left (kind c) (list_all kind word) all)
+short-ascii kind (c ∷ word) small all (suc i) = short-ascii kind word small (and-right (kind c) (list_all kind word) all) i
+
+is_short-utf8 : (kind : ℕ → Bool) (word : Text) → ((c : ℕ) → kind c ≡ true → c < 128) → is_short kind word ≡ true → IsUtf8 word
+is_short-utf8 kind word small short = IsUtf8-from_ascii word (short-ascii kind word small (and-right (nat_le 1 (length word) && nat_le (length word) 32) (list_all kind word) short))
+
 plain-small : (c : ℕ) → is_plain_byte c ≡ true → c < 128
 plain-small c plain = grind (arith, nat_tests)
 
-plain-ascii : (word : Text) → list_all is_plain_byte word ≡ true → (i : ℕ) → get_or word i 0 < 128
-plain-ascii [] plain i = lit< tt
-plain-ascii (c ∷ word) plain zero = plain-small c (and-left (is_plain_byte c) (list_all is_plain_byte word) plain)
-plain-ascii (c ∷ word) plain (suc i) = plain-ascii word (and-right (is_plain_byte c) (list_all is_plain_byte word) plain) i
-
 -- a word of letters, digits, `_` and `.` is UTF-8
 pub is_plain-utf8 : (word : Text) → is_plain word ≡ true → IsUtf8 word
-is_plain-utf8 word plain = IsUtf8-from_ascii word (plain-ascii word (and-right (nat_le 1 (length word) && nat_le (length word) 32) (list_all is_plain_byte word) plain))
+is_plain-utf8 word plain = is_short-utf8 is_plain_byte word plain-small plain
+
+client-small : (c : ℕ) → is_client_byte c ≡ true → c < 128
+client-small c client = grind (arith, nat_tests)
+
+-- a client's name is UTF-8
+pub is_client_name-utf8 : (word : Text) → is_client_name word ≡ true → IsUtf8 word
+is_client_name-utf8 word name = is_short-utf8 is_client_byte word client-small (and-left (is_short is_client_byte word) (not (is_part_name word)) name)

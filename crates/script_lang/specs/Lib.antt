@@ -6,5 +6,7 @@ pub mod Words
 pub mod Moments
 pub mod Options
 pub mod Commands
+pub mod Loads
+pub mod Clients
 pub mod Scripts
 pub mod Answers

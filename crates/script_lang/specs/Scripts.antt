@@ -1,69 +1,46 @@
 -- The plain script.
---     Draft                   the loads and the commands of a script, up to some line
+--     Draft                   the loads and the parts of a script, up to some line
 --     after_line              what one more line makes of it, if some rule allows this line
 --     plain_script_of         the script of a text
 --     AreLoaded               what each script keeps: commands of the plain form, whose frames are loaded
-use Rattle.std.specs.Prelude.{ℕ, ◌<◌, ⊤, List, [], ◌∷◌, ◌++◌, length, map, Option, Some, None, is_none, nat_le, codes}
+use Rattle.std.specs.Prelude.{ℕ, ◌<◌, ⊤, Bool, true, false, List, [], ◌∷◌, ◌++◌, length, Option, Some, None, option_map, nat_le, codes}
 use Rattle.std.specs.List.{AllByRecursion}
-use Rattle.frame_core.specs.declared.cell.ColType.{ColType}
-use Rattle.frame_core.specs.declared.cell.ColType.TheVariants as types
 use Rattle.frame_core.specs.Texts.{Text}
 use Rattle.expr_clause.specs.declared.command.Command.{Command}
 use Rattle.expr_clause.specs.declared.command.Command.TheVariants as commands
+use Rattle.script_lang.specs.declared.client.ClientPart.{ClientPart}
+use Rattle.script_lang.specs.declared.draft.Stage.{Stage}
+use Rattle.script_lang.specs.declared.draft.Stage.TheVariants as stages
 use Rattle.script_lang.specs.declared.load.Load.{Load}
 use Rattle.script_lang.specs.declared.script.Script.{Script}
-use Rattle.script_lang.specs.Fronts.{◌>>=◌, where_true, whole, each, identifier_at}
-use Rattle.script_lang.specs.Lines.{between, lines_of, words_of}
-use Rattle.script_lang.specs.Words.{under, plain_of, frame_of}
+use Rattle.script_lang.specs.Fronts.{◌>>=◌, where_true}
+use Rattle.script_lang.specs.Lines.{lines_of, words_of}
+use Rattle.script_lang.specs.Words.{under}
+use Rattle.script_lang.specs.Loads.{frame_names, load_of}
+use Rattle.script_lang.specs.Clients.{new_client_of, in_last_client}
 use Rattle.script_lang.specs.Commands.{command_of}
 
--- the loads in order, and the commands behind the line `first`, if it came
+-- the loads, the commands of each part in order, and what the lines so far have come to
 pub record Draft : Type 0 where
   pub loads : List Load
-  pub first : Option (List Command)
+  pub first : List Command
+  pub clients : List ClientPart
+  pub last : List Command
+  pub stage : Stage
 
 -- a script before its first line
 abbrev pub no_lines : Draft
-no_lines = record { loads = []; first = None }
+no_lines = record { loads = []; first = []; clients = []; last = []; stage = stages.Loads }
 
--- ---- loads
+-- no part has begun
+abbrev pub before_parts : Stage → Bool
+before_parts stages.Loads = true
+before_parts _ = false
 
--- the names of types
-abbrev pub type_names : List (Text × ColType)
-type_names = (codes "int", types.Int) ∷ []
-
--- a type by its name
-abbrev pub type_of : Text → Option ColType
-type_of word = under word type_names
-
--- the types of these names
-abbrev pub each_type : List Text → Option (List ColType)
-each_type words = each (map type_of words)
-
--- 1 to 127 types between commas
-abbrev pub types_of : Text → Option (List ColType)
-types_of word = each_type (between 44 word) >>= λ kinds. where_true (nat_le (length kinds) 127) kinds
-
--- the names of the loaded frames
-abbrev pub frame_names : List Load → List Text
-frame_names loads = map (λ (l : Load). l.name) loads
-
--- a word that is an identifier
-abbrev pub whole_identifier : Text → Option Text
-whole_identifier word = whole identifier_at word
-
--- a frame's name that no load before has
-abbrev pub new_name_of : List Load → Text → Option Text
-new_name_of loads word = whole_identifier word >>= λ name. where_true (is_none (frame_of (frame_names loads) name)) name
-
--- `FRAME FILE TYPES`
-abbrev pub load_of : List Load → List Text → Option Load
-load_of loads (frame ∷ file ∷ list ∷ []) = do
-  name ← new_name_of loads frame
-  path ← plain_of file
-  kinds ← types_of list
-  Some (record { name = name; file = path; types = kinds })
-load_of loads _ = None
+-- the part `last` has not begun
+abbrev pub before_last : Stage → Bool
+before_last stages.Last = false
+before_last _ = true
 
 -- ---- lines
 
@@ -71,22 +48,47 @@ load_of loads _ = None
 abbrev pub LineForm : Type 0
 LineForm = Draft → List Text → Option Draft
 
--- `load FRAME FILE TYPES`, before `first`
+-- `load FRAME FILE TYPES`, before each part
 abbrev pub after_load : LineForm
-after_load d words = where_true (is_none d.first) words >>= load_of d.loads >>= λ load. Some (record d { loads = d.loads ++ load ∷ [] })
+after_load d words = where_true (before_parts d.stage) words >>= load_of d.loads >>= λ load. Some (record d { loads = d.loads ++ load ∷ [] })
 
--- `first`, once
+-- `first`, before the other parts
 abbrev pub after_first : LineForm
-after_first d [] = where_true (is_none d.first) (record d { first = Some [] })
+after_first d [] = where_true (before_parts d.stage) (record d { stage = stages.First })
 after_first d _ = None
+
+-- one more client of this name, before `last`
+abbrev pub with_client : Draft → Text → Option Draft
+with_client d word = where_true (before_last d.stage) word >>= new_client_of d.clients >>= λ name. Some (record d { clients = d.clients ++ record { name = name; commands = [] } ∷ []; stage = stages.Clients })
+
+-- the word that stands alone
+abbrev pub only_word : List Text → Option Text
+only_word (word ∷ []) = Some word
+only_word _ = None
+
+-- `client NAME`
+abbrev pub after_client : LineForm
+after_client d words = only_word words >>= with_client d
+
+-- `last`, once
+abbrev pub after_last : LineForm
+after_last d [] = where_true (before_last d.stage) (record d { stage = stages.Last })
+after_last d _ = None
+
+-- the command stands behind those of the part that the lines have come to
+abbrev pub in_part : Stage → Draft → Command → Option Draft
+in_part stages.Loads d c = None
+in_part stages.First d c = Some (record d { first = d.first ++ c ∷ [] })
+in_part stages.Clients d c = in_last_client d.clients c >>= λ parts. Some (record d { clients = parts })
+in_part stages.Last d c = Some (record d { last = d.last ++ c ∷ [] })
 
 -- a command stands behind those before
 abbrev pub with_command : Draft → Command → Option Draft
-with_command d c = d.first >>= λ commands. Some (record d { first = Some (commands ++ c ∷ []) })
+with_command d c = in_part d.stage d c
 
 -- the lines that begin with their own word and are no command
 abbrev pub line_forms : List (Text × LineForm)
-line_forms = (codes "load", after_load) ∷ (codes "first", after_first) ∷ []
+line_forms = (codes "load", after_load) ∷ (codes "first", after_first) ∷ (codes "client", after_client) ∷ (codes "last", after_last) ∷ []
 
 -- what a line makes of the draft by the form of its first word, or else as a command
 abbrev pub after_form : Option LineForm → Draft → Text → List Text → Option Draft
@@ -113,9 +115,9 @@ after_lines d (line ∷ lines) = after_line d line >>= λ next. after_lines next
 
 -- ---- the script
 
--- the script of a draft, where the line `first` came
-abbrev pub finished : Draft → Option Script
-finished d = d.first >>= λ commands. Some (record { loads = d.loads; first = commands })
+-- the script of a draft
+abbrev pub finished : Draft → Script
+finished d = record { loads = d.loads; first = d.first; clients = d.clients; last = d.last }
 
 -- a plain script has so many lines at most
 abbrev pub most_lines : ℕ
@@ -123,7 +125,7 @@ most_lines = 1000
 
 -- the script of a text
 abbrev pub plain_script_of : Text → Option Script
-plain_script_of text = lines_of text >>= λ lines. where_true (nat_le (length lines) most_lines) lines >>= after_lines no_lines >>= finished
+plain_script_of text = lines_of text >>= λ lines. where_true (nat_le (length lines) most_lines) lines >>= after_lines no_lines >>= λ draft. Some (finished draft)
 
 -- ---- what each script keeps
 
@@ -141,6 +143,12 @@ IsLoaded loads (commands.Keys symbol) = ⊤
 IsLoaded loads (commands.Read symbol as_of range columns) = ⊤
 IsLoaded loads _ = ⊥
 
--- each command is one of a plain script, and its frame is loaded
-abbrev pub AreLoaded : Script → Type 0
-AreLoaded script = AllByRecursion (IsLoaded (length script.loads)) script.first
+-- each of these commands is so
+abbrev pub AllLoaded : ℕ → List Command → Type 0
+AllLoaded loads list = AllByRecursion (IsLoaded loads) list
+
+-- each command of each part is one of a plain script, and its frame is loaded
+pub record AreLoaded (script : Script) : Type 0 where
+  pub first : AllLoaded (length script.loads) script.first
+  pub clients : AllByRecursion (λ (part : ClientPart). AllLoaded (length script.loads) part.commands) script.clients
+  pub last : AllLoaded (length script.loads) script.last

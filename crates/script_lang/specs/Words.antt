@@ -1,5 +1,6 @@
 -- The words of a line.
 --     under                   what stands under a name
+--     is_short                a word of 1 to 32 bytes of one kind
 --     plain_of, symbol_of     a word of letters, digits, `_` and `.`, and a symbol
 --     frame_of                the place of a loaded frame
 use Rattle.std.specs.Prelude.{ℕ, Bool, ◌==◌, ◌&&◌, ◌||◌, List, length, find, Option, nat_le, option_map}
@@ -17,9 +18,13 @@ under name table = option_map (λ x. x.1) (find (λ x. same_text name x.0) table
 abbrev pub is_plain_byte : ℕ → Bool
 is_plain_byte c = is_ascii_alphanumeric c || (c == byte "_") || (c == byte ".")
 
+-- 1 to 32 bytes of this kind
+abbrev pub is_short : (ℕ → Bool) → Text → Bool
+is_short kind word = nat_le 1 (length word) && nat_le (length word) 32 && list_all kind word
+
 -- 1 to 32 letters, digits, `_` and `.`
 abbrev pub is_plain : Text → Bool
-is_plain word = nat_le 1 (length word) && nat_le (length word) 32 && list_all is_plain_byte word
+is_plain word = is_short is_plain_byte word
 
 -- such a word
 abbrev pub plain_of : Text → Option Text

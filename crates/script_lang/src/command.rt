@@ -1,7 +1,7 @@
 ghost use Rattle.std.specs.Prelude.{◌≡◌, map, Some, unwrap_or};
 ghost use Rattle.script_lang.specs.Words.{symbol_of};
 ghost use Rattle.script_lang.specs.Commands.{commit_of, commit_form, update_form, required_range, delete_range_form, delete_form, only_symbol, whole_range, read_form, command_of};
-ghost use Rattle.script_lang.specs.Scripts.{frame_names};
+ghost use Rattle.script_lang.specs.Loads.{frame_names};
 ghost use Rattle.script_lang.specs.Answers.{GivesScript};
 
 use crate::fault::ScriptFault;
@@ -12,10 +12,14 @@ use crate::options::{
     versions_given,
 };
 use crate::plain_word::plain_text;
+use base_types::Items;
 use expr_clause::{AsOf, Command};
 use frame_core::Range;
 use key_kind::Symbol;
 use std::alloc::Global;
+
+/// Commands, seen as a list.
+pub type Commands = Items<Command>;
 
 fn symbol_of(alloc: Global, word: &[u8]) -> Result<Symbol, ScriptFault>
     ensures { GivesScript (λ symbol. symbol) result (symbol_of word.now) }

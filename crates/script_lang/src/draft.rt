@@ -1,8 +1,9 @@
 ghost use Rattle.std.specs.Prelude.{◌≡◌, map};
-ghost use Rattle.script_lang.specs.Scripts.{no_lines, after_load, after_first, with_command, after_verb, after_words, after_line, after_lines};
-ghost use Rattle.script_lang.specs.Answers.{GivesScript};
+ghost use Rattle.script_lang.specs.Scripts.{before_parts, before_last, no_lines, after_load, after_first, with_client, only_word, after_client, after_last, with_command, after_verb, after_words, after_line, after_lines};
+ghost use Rattle.script_lang.specs.Answers.{Reads, GivesScript};
 
-use crate::command::command_of;
+use crate::client::{ClientPart, in_last_client, new_client_of};
+use crate::command::{Commands, command_of};
 use crate::fault::ScriptFault;
 use crate::lines::parts_between;
 use crate::load::{Load, load_of};
@@ -11,12 +12,25 @@ use expr_clause::Command;
 use std::alloc::Global;
 use std::marker::Model;
 
-/// The loads and the commands of a script, up to some line.
+/// What the lines of a script have come to.
+#[derive(Clone, Copy, Debug)]
+pub enum Stage {
+    /// No part has begun.
+    Loads,
+    First,
+    Clients,
+    Last,
+}
+
+/// The loads of a script and the commands of its parts, up to some line.
 #[derive(Drop)]
 pub struct Draft {
     pub loads: Items<Load>,
-    /// None until the line `first` comes.
-    pub first: Option<Items<Command>>,
+    pub first: Commands,
+    pub clients: Items<ClientPart>,
+    pub last: Commands,
+    /// Where the next command goes.
+    pub stage: Stage,
 }
 
 impl Model for Draft {
@@ -24,45 +38,111 @@ impl Model for Draft {
 
     ghost Value = { Lines };
 
-    ghost view = { λ d. record { loads = d.loads; first = d.first } };
+    ghost view = { λ d. record { loads = d.loads; first = d.first; clients = d.clients; last = d.last; stage = d.stage } };
+}
+
+fn before_parts(stage: Stage) -> bool
+    ensures { result ≡ before_parts stage }
+{
+    matches!(stage, Stage::Loads)
+}
+
+fn before_last(stage: Stage) -> bool
+    ensures { result ≡ before_last stage }
+{
+    !matches!(stage, Stage::Last)
 }
 
 fn after_load(alloc: Global, draft: Draft, words: &[&[u8]]) -> Result<Draft, ScriptFault>
     ensures { GivesScript (λ next. next) result (after_load draft (map (λ word. word.now) words.now)) }
 {
-    let Draft { mut loads, first } = draft;
-    if first.is_some() {
+    let mut draft = draft;
+    if !before_parts(draft.stage) {
         return Err(ScriptFault::BadScript);
     }
-    let load = load_of(alloc, loads.items(), words)?;
-    loads.push(load)?;
-    Ok(Draft { loads, first })
+    let load = load_of(alloc, draft.loads.items(), words)?;
+    draft.loads.push(load)?;
+    Ok(draft)
 }
 
-fn after_first(alloc: Global, draft: Draft, words: &[&[u8]]) -> Result<Draft, ScriptFault>
+fn after_first(draft: Draft, words: &[&[u8]]) -> Result<Draft, ScriptFault>
     ensures { GivesScript (λ next. next) result (after_first draft (map (λ word. word.now) words.now)) }
 {
-    let Draft { loads, first } = draft;
-    if first.is_some() || !words.is_empty() {
+    let mut draft = draft;
+    if !before_parts(draft.stage) || !words.is_empty() {
         return Err(ScriptFault::BadScript);
     }
-    Ok(Draft {
-        loads,
-        first: Some(Items::new(alloc)),
-    })
+    draft.stage = Stage::First;
+    Ok(draft)
 }
 
+fn with_client(alloc: Global, draft: Draft, word: &[u8]) -> Result<Draft, ScriptFault>
+    ensures { GivesScript (λ next. next) result (with_client draft word.now) }
+{
+    let mut draft = draft;
+    if !before_last(draft.stage) {
+        return Err(ScriptFault::BadScript);
+    }
+    let name = new_client_of(alloc, draft.clients.items(), word)?;
+    let commands = Items::new(alloc);
+    draft.clients.push(ClientPart { name, commands })?;
+    draft.stage = Stage::Clients;
+    Ok(draft)
+}
+
+/// The word that stands alone.
+fn only_word<'a>(words: &[&'a [u8]]) -> Option<&'a [u8]>
+    ensures { Reads (λ word. word.now) result (only_word (map (λ word. word.now) words.now)) }
+{
+    match words {
+        [word] => Some(word),
+        _ => None,
+    }
+}
+
+fn after_client(alloc: Global, draft: Draft, words: &[&[u8]]) -> Result<Draft, ScriptFault>
+    ensures { GivesScript (λ next. next) result (after_client draft (map (λ word. word.now) words.now)) }
+{
+    let Some(word) = only_word(words) else {
+        return Err(ScriptFault::BadScript);
+    };
+    with_client(alloc, draft, word)
+}
+
+fn after_last(draft: Draft, words: &[&[u8]]) -> Result<Draft, ScriptFault>
+    ensures { GivesScript (λ next. next) result (after_last draft (map (λ word. word.now) words.now)) }
+{
+    let mut draft = draft;
+    if !before_last(draft.stage) || !words.is_empty() {
+        return Err(ScriptFault::BadScript);
+    }
+    draft.stage = Stage::Last;
+    Ok(draft)
+}
+
+/// Adds a command behind those of the part that the lines have come to.
 fn with_command(draft: Draft, command: Command) -> Result<Draft, ScriptFault>
     ensures { GivesScript (λ next. next) result (with_command draft command) }
 {
-    let Draft { loads, first } = draft;
-    let Some(mut commands) = first else {
-        return Err(ScriptFault::BadScript);
-    };
-    commands.push(command)?;
+    let Draft {
+        loads,
+        mut first,
+        mut clients,
+        mut last,
+        stage,
+    } = draft;
+    match stage {
+        Stage::Loads => return Err(ScriptFault::BadScript),
+        Stage::First => first.push(command)?,
+        Stage::Clients => clients = in_last_client(clients, command)?,
+        Stage::Last => last.push(command)?,
+    }
     Ok(Draft {
         loads,
-        first: Some(commands),
+        first,
+        clients,
+        last,
+        stage,
     })
 }
 
@@ -79,7 +159,13 @@ fn after_verb(
         return after_load(alloc, draft, words);
     }
     if verb == b"first".as_slice() {
-        return after_first(alloc, draft, words);
+        return after_first(draft, words);
+    }
+    if verb == b"client".as_slice() {
+        return after_client(alloc, draft, words);
+    }
+    if verb == b"last".as_slice() {
+        return after_last(draft, words);
     }
     let command = command_of(alloc, draft.loads.items(), verb, words)?;
     with_command(draft, command)
@@ -101,13 +187,16 @@ fn after_line(alloc: Global, draft: Draft, line: &[u8]) -> Result<Draft, ScriptF
     after_words(alloc, draft, &words)
 }
 
-/// The loads and the commands of all lines.
+/// What all lines come to.
 pub fn after_lines(alloc: Global, lines: &[&[u8]]) -> Result<Draft, ScriptFault>
     ensures { GivesScript (λ draft. draft) result (after_lines no_lines (map (λ line. line.now) lines.now)) }
 {
     let mut draft = Draft {
         loads: Items::new(alloc),
-        first: None,
+        first: Items::new(alloc),
+        clients: Items::new(alloc),
+        last: Items::new(alloc),
+        stage: Stage::Loads,
     };
     for line in lines {
         draft = after_line(alloc, draft, line)?;

@@ -1,6 +1,7 @@
 //! Scripts and files of frames, read from their bytes.
 #![tactic(auto)]
 
+mod client;
 mod command;
 mod draft;
 mod fault;
@@ -17,6 +18,8 @@ mod rows;
 mod script;
 
 pub use base_types::{Items, NoMemory, Text};
+pub use client::ClientPart;
+pub use command::Commands;
 pub use expr_clause::{AsOf, Command};
 pub use fault::{CsvFault, ScriptFault};
 pub use frame_core::{ColName, ColType, Range, RawFrame};
@@ -24,4 +27,4 @@ pub use key_kind::Symbol;
 pub use load::{ColTypes, Load, Loads};
 pub use number::digits_of;
 pub use plain_file::read_frame;
-pub use script::{Commands, Script, read_script};
+pub use script::{ClientParts, Script, read_script};

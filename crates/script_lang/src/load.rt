@@ -1,6 +1,6 @@
 ghost use Rattle.std.specs.Prelude.{◌≡◌, map};
 ghost use Rattle.script_lang.specs.Words.{plain_of, frame_of};
-ghost use Rattle.script_lang.specs.Scripts.{type_of, each_type, types_of, frame_names, new_name_of, load_of};
+ghost use Rattle.script_lang.specs.Loads.{type_of, each_type, types_of, frame_names, new_name_of, load_of};
 ghost use Rattle.script_lang.specs.Answers.{GivesScript};
 
 use crate::fault::ScriptFault;

@@ -1,7 +1,7 @@
 ghost use Rattle.std.specs.Prelude.{◌≡◌, option_map};
 ghost use Rattle.std.specs.List.{list_all};
 ghost use Rattle.script_lang.specs.Words.{is_plain_byte, is_plain, plain_of};
-ghost use Rattle.script_lang.specs.Scripts.{whole_identifier};
+ghost use Rattle.script_lang.specs.Loads.{whole_identifier};
 ghost use Rattle.script_lang.specs.Answers.{Reads};
 
 use crate::name::identifier_of;

@@ -2,7 +2,7 @@
 ghost use Rattle.std.specs.Prelude.{◌≡◌, ◌≢◌, ℕ, ◌+◌, ◌^◌, ◌<◌, List, [], ◌∷◌, IfOk, length, drop, All, None, Some};
 ghost use mathlib.Core.List.{IsPrefix};
 ghost use Rattle.std.specs.Bool.{OnTrue, OnFalse};
-ghost use Rattle.turn_cell.specs.Badges.{Has, IsSole, Awaits};
+ghost use Rattle.turn_cell.specs.Badges.{Among, Has, IsSole, Awaits, joined_at};
 ghost use Rattle.turn_cell.specs.Entries.{entries_by};
 ghost use Rattle.turn_cell.specs.Views.{first_view, stepped_view, resting_view, view_after_split, view_of_new_seat, joined_view, begun_view, noted_view, Confirmed};
 ghost use Rattle.turn_cell.specs.Seats.{view, seen, Rests, Holds};
@@ -180,6 +180,7 @@ impl<V: Storied> TurnCell<V> {
         ensures rests { Rests seat.new }
         ensures view { view seat.new ≡ joined_view (view seat.old) (view other) }
         ensures apart { (view seat.old).badge.number ≢ (view other).badge.number }
+        ensures joined_apart { (n l : ℕ) → Among (joined_at n l) (view seat.new).badge.joined → n ≢ (view seat.new).badge.number }
         ensures later { IsPrefix (seen seat.old) (seen seat.new) }
         ensures other_later { IsPrefix (seen other) (seen seat.new) }
 

@@ -1,12 +1,15 @@
-use Rattle.std.proofs.Common.{◌≡◌, ℕ, length, inl, refl, sym, ◌∙◌, subst}
+use Rattle.std.proofs.Common.{◌≡◌, ◌≢◌, ℕ, length, inl, refl, sym, ap, ◌∙◌, subst}
+use mathlib.Core.Logic.{∥∥₁_elim, ∥∥₁_map, ∥∥₁_prop}
 use Rattle.turn_cell.specs.declared.badge.Badge.{Badge}
 use Rattle.turn_cell.specs.declared.view.View.{View}
-use Rattle.turn_cell.specs.Badges.{Has, Awaits}
+use Rattle.turn_cell.specs.Badges.{Among, Has, Awaits, joined_at, joined_badge}
 use Rattle.turn_cell.specs.Entries.{entries_by}
 use Rattle.turn_cell.proofs.Prefixes.{prefix_trans}
 use Rattle.turn_cell.proofs.Sole.{has_left, has_right}
 use Rattle.bucket_core.specs.declared.event.Event.{Event}
 use Rattle.bucket_core.specs.History.{author}
+use Rattle.bucket_shared.specs.Authors.{AreEnded}
+use Rattle.bucket_shared.proofs.Authors.{AreEnded-join}
 use Rattle.bucket_shared.proofs.Growth.{Looks-later, puts_by-later}
 use Rattle.bucket_shared.proofs.turn.merge.Given.{Over}
 use Rattle.bucket_shared.proofs.turn.merge.Goals as goal
@@ -42,3 +45,15 @@ returns-clause-serial g c =
 
 pub returns-clause-awaits : goal.returns-clause-awaits
 returns-clause-awaits g c = λ ns all none. subst (λ (b : Badge). Awaits b ns) (sym c.look.ensures.badge) (c.join.ensures.awaits ns all none)
+
+-- neither seat's joined clients have made events since, nor has the other one's
+pub look-requires-clause-ended : goal.look-requires-clause-ended
+look-requires-clause-ended g c =
+    let v = c.args.seat.now.me.0 in
+    let w = c.args.other.me.0 in
+    let joined = c.join.new.seat.me.0 in
+    let badge : joined.badge ≡ joined_badge v.badge w.badge (length w.seen) = ap (λ (x : View Event). x.badge) c.join.ensures.view in
+    let apart = subst (λ (b : Badge). (n l : ℕ) → Among (joined_at n l) b.joined → n ≢ b.number) badge c.join.ensures.joined_apart in
+    ∥∥₁_elim c.requires.ended ∥∥₁_prop (λ (kv : AreEnded v.badge v.seen). ∥∥₁_map c.requires.other_ended (λ (kw : AreEnded w.badge w.seen).
+    subst (λ (b : Badge). AreEnded b joined.seen) (sym badge)
+    (AreEnded-join v w joined.seen c.join.ensures.later c.join.ensures.other_later c.join.ensures.joined c.join.ensures.other_joined c.requires.other_rests.0 apart kv kw)))

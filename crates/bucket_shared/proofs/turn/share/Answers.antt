@@ -1,10 +1,16 @@
-use Rattle.std.proofs.Common.{◌≡◌, ◌+◌, ◌≤◌, ℕ, [], sym, ap, ◌∙◌, subst, arith, ⊎_elim}
+use Rattle.std.proofs.Common.{◌≡◌, ◌+◌, ◌<◌, ◌≤◌, ℕ, [], sym, ap, ◌∙◌, subst, arith, ⊎_elim}
+use mathlib.Core.Logic.{∥∥₁_map}
+use Rattle.turn_cell.specs.declared.badge.Badge.{Badge}
 use Rattle.turn_cell.specs.declared.view.View.{View}
 use Rattle.turn_cell.specs.Badges.{Among, badge_after_split, new_badge}
 use Rattle.turn_cell.specs.Entries.{entries_by}
+use Rattle.turn_cell.specs.Views.{view_after_split, resting_view}
 use Rattle.bucket_core.specs.declared.event.Event.{Event}
 use Rattle.bucket_core.specs.History.{author}
+use Rattle.bucket_shared.specs.Authors.{AreEnded, AreHad}
+use Rattle.bucket_shared.proofs.Authors.{AreEnded-split, AreEnded-new, AreHad-split, AreHad-new}
 use Rattle.bucket_shared.proofs.Growth.{nothing_by, puts_by-none}
+use Rattle.bucket_shared.proofs.turn.share.Given.{Over}
 use Rattle.bucket_shared.proofs.turn.share.Goals as goal
 
 pub returns-clause-other : goal.returns-clause-other
@@ -25,3 +31,29 @@ returns-clause-other g c =
       none_by = nothing_by (given + 1) made.seen none;
       no_puts = puts_by-none (given + 1) made.seen none;
     }
+
+-- the view after the split
+after : (g : Over) (c : goal.After-give-2 g) → c.give-2.new.seat.me.0 ≡ resting_view (view_after_split c.take-store.new.seat.me.0)
+after g c = c.give-2.ensures.view ∙ ap (λ (v : View Event). resting_view v) c.split-other.ensures.view
+
+pub returns-clause-ended : goal.returns-clause-ended
+returns-clause-ended g c =
+    let v = c.take-store.new.seat.me.0 in
+    ∥∥₁_map c.take-store.ensures.ended (λ (k : AreEnded v.badge v.seen). subst (λ (x : View Event). AreEnded x.badge x.seen) (sym (after g c)) (AreEnded-split v.badge (v.top + 1) v.seen k))
+
+pub returns-clause-had : goal.returns-clause-had
+returns-clause-had g c =
+    let v = c.take-store.new.seat.me.0 in
+    ∥∥₁_map c.take-store.ensures.had (λ (h : AreHad v.badge v.seen). subst (λ (x : View Event). AreHad x.badge x.seen) (sym (after g c)) (AreHad-split v.badge (v.top + 1) v.seen h))
+
+pub returns-clause-other_ended : goal.returns-clause-other_ended
+returns-clause-other_ended g c =
+    let v = c.take-store.new.seat.me.0 in
+    ∣ subst (λ (x : View Event). AreEnded x.badge x.seen) (sym c.split-other.ensures.new_view) (AreEnded-new v.badge (v.top + 1) v.seen) ∣₁
+
+pub returns-clause-other_had : goal.returns-clause-other_had
+returns-clause-other_had g c =
+    let v = c.take-store.new.seat.me.0 in
+    let first : v.badge.first ≤ c.take-store.result.given = subst (λ (b : Badge). b.first ≤ c.take-store.result.given) (sym c.take-store.ensures.badge) c.take-store.ensures.first in
+    let less : v.badge.first < v.top + 1 = omega (arith, first, c.take-store.ensures.given) in
+    ∣ subst (λ (x : View Event). AreHad x.badge x.seen) (sym c.split-other.ensures.new_view) (AreHad-new v.badge (v.top + 1) v.seen less) ∣₁

@@ -1,6 +1,6 @@
 use Rattle.std.proofs.Common.{◌≡◌, ◌++◌, map, drop}
 use Rattle.std.specs.Prelude.{option_map}
-use Rattle.script_lang.specs.Scripts.{each_type}
+use Rattle.script_lang.specs.Loads.{each_type}
 use Rattle.script_lang.proofs.load.all_types.Given as goal
 
 -- the types so far and those of the words that are left are all of them

@@ -61,3 +61,6 @@ returns-clause-awaits g c = λ ns all none. let v = c.args.seat.now.me.0 in let 
 
 pub returns-clause-confirmed : goal.returns-clause-confirmed
 returns-clause-confirmed g c = subst (λ m. Confirmed g.V.Storied.row_of m.0) (sym c.load-3.ensures.2.after) c.load-3.ensures.2.confirmed
+
+pub returns-clause-joined_apart : goal.returns-clause-joined_apart
+returns-clause-joined_apart g c = subst (λ (z : View g.row.V-Entry.Denot). (n l : ℕ) → Among (joined_at n l) z.badge.joined → n ≢ z.badge.number) (ap (λ m. m.0) (sym c.load-3.ensures.2.after)) c.load-3.ensures.2.apart

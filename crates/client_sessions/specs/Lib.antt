@@ -1,0 +1,4 @@
+pub mod Sessions
+pub mod Blocks
+pub mod Parts
+pub mod Rooms

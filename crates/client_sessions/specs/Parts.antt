@@ -1,0 +1,38 @@
+-- What the parts of a script leave: the first commands, a block for each client, and the last commands.
+--     Parts                   the commands of the parts
+--     IsRun                   the replies of all parts are legal in the one history
+use Rattle.std.specs.Prelude.{◌≡◌, ℕ, List, [], ◌++◌, length}
+use Rattle.bucket_core.specs.History.{History}
+use Rattle.store_model.specs.Law.{IsLawful}
+use Rattle.expr_clause.specs.declared.command.Command.{Command}
+use Rattle.reply_model.specs.Windows.{Window, Client}
+use Rattle.reply_model.specs.Runs.{Talk, IsLegalRun}
+use Rattle.reply_model.specs.Blocks.{Cutting}
+use Rattle.reply_model.specs.Standing.{RunsAlone}
+use Rattle.client_sessions.specs.declared.parts.PartReplies.{PartReplies}
+use Rattle.client_sessions.specs.Sessions.{talk_of, AreServed, AreUncut}
+use Rattle.client_sessions.specs.Blocks.{AreTalksOf}
+
+-- the commands of the parts
+pub record Parts : Type 0 where
+  pub first : List Command
+  pub blocks : List (List Command)
+  pub last : List Command
+
+-- the history goes on lawfully from an older one; the replies of all parts are legal in it, the first and the last ones as those of the
+-- client `own`; and these two parts, where all their commands are served and none of their replies is cut, are runs of this client alone
+pub record IsRun (cutting : Cutting) (client : ℕ → Client) (own : ℕ) (parts : Parts) (replies : PartReplies) (old new : History) : Type 0 where
+  pub more : History
+  pub goes_on : new ≡ more ++ old
+  pub lawful : IsLawful old → IsLawful new
+  pub first : List Window
+  pub clients : List Talk
+  pub last : List Window
+  pub clients_are : AreTalksOf client parts.blocks replies.blocks clients
+  pub legal : IsLegalRun new (length old) (talk_of (client own) parts.first replies.first first) clients (talk_of (client own) parts.last replies.last last)
+  -- the histories behind the first commands and before the last ones
+  pub behind_first : History
+  pub before_last : History
+  pub without_blocks : parts.blocks ≡ [] → before_last ≡ behind_first
+  pub first_alone : IsLawful old → AreServed parts.first → AreUncut replies.first → RunsAlone cutting (client own).session parts.first replies.first old behind_first
+  pub last_alone : IsLawful old → AreServed parts.last → AreUncut replies.last → RunsAlone cutting (client own).session parts.last replies.last before_last new

@@ -1,0 +1,24 @@
+use crate::Shared;
+use bucket_core::Bucket;
+use std::test::Fail;
+
+#[test]
+fn split_passes_are_of_clients_of_their_own(rt: HostRuntime) -> Result<(), Fail> {
+    let mut pass = Shared::make(rt.alloc(), 1000, 1)?;
+    let second = pass.split(&rt)?;
+    let third = pass.split(&rt)?;
+    assert!(rt; pass.client() == 1);
+    assert!(rt; second.client() == 2);
+    assert!(rt; third.client() == 3);
+    Ok(())
+}
+
+#[test]
+fn the_number_of_a_joined_pass_is_not_given_again(rt: HostRuntime) -> Result<(), Fail> {
+    let mut pass = Shared::make(rt.alloc(), 1000, 1)?;
+    let second = pass.split(&rt)?;
+    pass.join(&rt, second);
+    let third = pass.split(&rt)?;
+    assert!(rt; third.client() == 3);
+    Ok(())
+}
