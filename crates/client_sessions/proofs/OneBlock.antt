@@ -84,3 +84,47 @@ served_alone c s n (command ∷ list) r all =
 -- a run of served commands is that of a client of any number
 pub runs_as : (c : Cutting) (s : Session) (n : ℕ) (list : List Command) (replies : List Reply) (old new : History) → AreServed list → RunsAlone c s list replies old new → RunsAlone c (record s { client = n }) list replies old new
 runs_as c s n list replies old new all runs r stands = subst (λ (o : Option (List Reply × Alone)). RunsTo c o replies new) (served_alone c s n list r all) (runs r stands)
+
+-- ---- sole passes
+
+-- a pass that has its numbers, and awaits no more than a sole one, is sole
+pub sole_kept : (old new : Pass) → (Has (badge_of old) (badge_of old).first → Has (badge_of new) (badge_of new).first) → ((ns : List ℕ) → Awaits (badge_of old) ns → Awaits (badge_of new) ns) → sole_of old ≡ true → sole_of new ≡ true
+sole_kept old new first awaits sole =
+    let was : IsSole (badge_of old) = IsSole-found (badge_of old) sole in
+    is_sole-true (badge_of new) (sole_again (badge_of new) (used_of new) (first was.1) (awaits [] (awaits_none (badge_of old) was)))
+
+-- ---- the block
+
+-- the sessions of the clients differ by the client alone
+abbrev pub OneSession : (ℕ → Client) → Type 0
+OneSession client = (m n : ℕ) → (client n).session ≡ record (client m).session { client = n }
+
+-- a session over a pass, from the history that one began with to the one that another has seen, is a run of one client alone, if it grew alone
+module _ (cutting : Cutting) (client : ℕ → Client) (one : OneSession client) (block : List Command) (replies : List Reply) (old new : History) (p q : Pass)
+    (s : IsSessionOf cutting client block replies p q) (from : seen_of p ≡ old) (to : seen_of q ≡ new) (own : AllByRecursion (λ e. author e ≡ (client (number_of p)).session.client) s.session.more) where
+  pub session_alone : IsLawful old → AreServed block → AreUncut replies → (n : ℕ) → RunsAlone cutting (client n).session block replies old new
+  session_alone lawful served uncut n =
+      let was : RunsAlone cutting (client (number_of p)).session block replies (seen_of p) (seen_of q) =
+      s.session.alone (record { more = s.session.more; is = s.session.goes_on; own = own }) (subst IsLawful (sym from) lawful) served uncut in
+      subst (λ (x : Session). RunsAlone cutting x block replies old new) (sym (one (number_of p) n))
+      (runs_as cutting (client (number_of p)).session n block replies old new served
+      (subst (λ (h : History). RunsAlone cutting (client (number_of p)).session block replies h new) from (subst (λ (h : History). RunsAlone cutting (client (number_of p)).session block replies (seen_of p) h) to was)))
+
+-- where all events behind the history are of the client of a pass that was split off there, its session ends with the last of them
+module _ (cutting : Cutting) (client : ℕ → Client) (block : List Command) (replies : List Reply) (old : History) (o o2 p : Pass) (s : IsSessionOf cutting client block replies o o2) (other : Looks IsClaimed (number_of o2) false (seen_of o2) (seen_of p))
+    (from : seen_of o ≡ old) (same : number_of o2 ≡ number_of o) (by : (n : ℕ) (e : Event) → length old < n → event_at (seen_of p) n ≡ Some e → author e ≡ number_of o) where
+  all_is : seen_of p ≡ (other.others ++ s.session.more) ++ seen_of o
+  all_is = other.is ∙ (ap (λ (h : History). other.others ++ h) s.session.goes_on ∙ sym (append_assoc other.others s.session.more (seen_of o)))
+
+  all_own : AllByRecursion (λ e. author e ≡ number_of o) (other.others ++ s.session.more)
+  all_own = all_added (λ e. author e ≡ number_of o) (other.others ++ s.session.more) (seen_of o)
+      (λ n e lt at. by n e (subst (λ (h : History). length h < n) from lt) (ap (λ (h : History). event_at h n) all_is ∙ at))
+
+  both_own : AllByRecursion (λ e. author e ≡ number_of o) other.others × AllByRecursion (λ e. author e ≡ number_of o) s.session.more
+  both_own = all_parts (λ e. author e ≡ number_of o) other.others s.session.more all_own
+
+  pub more_own : AllByRecursion (λ e. author e ≡ number_of o) s.session.more
+  more_own = both_own.1
+
+  pub ends_there : seen_of o2 ≡ seen_of p
+  ends_there = sym (other.is ∙ ap (λ (h : History). h ++ seen_of o2) (none_of (number_of o) other.others (subst (λ (n : ℕ). AllByOthers n other.others) same other.by_others) both_own.0))
