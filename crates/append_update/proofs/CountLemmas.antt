@@ -1,5 +1,5 @@
 -- How many rows the pieces of an update have.
-use Rattle.std.proofs.Common.{◌≡◌, ℕ, ◌+◌, ◌-◌, ◌≤◌, List, [], ◌∷◌, ◌++◌, length, take, drop, sym, ap, ◌∙◌, subst, arith, Option, Some, None, length-append}
+use Rattle.std.proofs.Common.{◌≡◌, ℕ, ◌+◌, ◌-◌, ◌≤◌, List, [], ◌∷◌, ◌++◌, length, take, drop, sym, ap, ◌∙◌, arith, Option, Some, None, length-append}
 use Rattle.std.specs.Prelude.{slice_range}
 use Rattle.std.specs.List.{AllByRecursion}
 use Rattle.std.proofs.lemmas.List.{length-drop, length-take}
@@ -8,7 +8,7 @@ use Rattle.frame_core.specs.Frames.{Row, Frame, rows_below, rows_above, replace_
 use Rattle.index_tree.specs.declared.index.Slot.{Slot}
 use Rattle.index_tree.specs.declared.index.Index.{Index}
 use Rattle.index_tree.specs.IndexRules.{IsSlot, LeadOn, Cover}
-use Rattle.frame_write.specs.Pieces.{begin_of, end_of, size_of, IsRun}
+use Rattle.frame_write.specs.Pieces.{begin_of, end_of, size_of}
 use Rattle.append_update.specs.declared.cuts.Cuts.{Cuts}
 use Rattle.append_update.specs.declared.pieces.Edges.{Edges}
 use Rattle.append_update.specs.Bases.{rows_of_slots}

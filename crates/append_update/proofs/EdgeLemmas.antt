@@ -1,9 +1,9 @@
 -- The row blocks that a range cuts.
-use Rattle.std.proofs.Common.{◌≡◌, ℕ, ◌-◌, ◌≤◌, not, List, [], length, take, drop, ap, subst, arith}
+use Rattle.std.proofs.Common.{◌≡◌, ℕ, ◌-◌, ◌≤◌, not, List, [], length, take, drop, ap, arith}
 use Rattle.std.specs.Prelude.{slice_range}
 use Rattle.std.proofs.lemmas.List.Sums.{length-filter, count_by-le-length}
 use Rattle.frame_core.specs.Ranges.{Range, is_below, is_above}
-use Rattle.frame_core.specs.Frames.{Row, Frame, rows_below, rows_above}
+use Rattle.frame_core.specs.Frames.{Frame, rows_below, rows_above}
 use Rattle.index_tree.specs.declared.index.Slot.{Slot}
 use Rattle.index_tree.specs.declared.index.Index.{Index}
 use Rattle.append_update.specs.declared.cuts.Cuts.{Cuts}

@@ -9,15 +9,13 @@ use Rattle.std.proofs.lemmas.List.Sums.{sum_by-cons, sum_by-append, length-filte
 use Rattle.frame_core.specs.Frames.{Row, Frame, NeverFall, stamps_of}
 use Rattle.frame_core.specs.Limits.{all_text_bytes, longest_text, too_large, frame_too_large, IsStorable}
 use Rattle.frame_core.proofs.FrameLimits.{fold_max_cons, fold_max-append}
+use Rattle.append_update.specs.Sizes.{text_total}
 
 -- ---- how large rows are
 
--- the bytes of their longest text, and of all texts
+-- the bytes of their longest text
 abbrev pub longest : List Row → ℕ
 longest rows = fold max 0 (map (λ (r : Row). longest_text r.cells) rows)
-
-abbrev pub bytes : List Row → ℕ
-bytes rows = sum_by (λ (r : Row). all_text_bytes r.cells) rows
 
 -- numbers within the limits
 pub record IsWithin (rows columns one all : ℕ) : Type 0 where
@@ -33,14 +31,14 @@ within_from r c o a e = record { rows_are = grind arith; columns_are = grind ari
 pub within_to : (r c o a : ℕ) → IsWithin r c o a → too_large r c o a ≡ None
 within_to r c o a w = grind (arith, w.rows_are, w.columns_are, w.cells_are, w.one_is, w.all_are)
 
-pub frame_within : (f : Frame) → frame_too_large f ≡ None → IsWithin (length f.rows) (length f.schema.columns) (longest f.rows) (bytes f.rows)
-frame_within f e = within_from (length f.rows) (length f.schema.columns) (longest f.rows) (bytes f.rows) e
+pub frame_within : (f : Frame) → frame_too_large f ≡ None → IsWithin (length f.rows) (length f.schema.columns) (longest f.rows) (text_total f.rows)
+frame_within f e = within_from (length f.rows) (length f.schema.columns) (longest f.rows) (text_total f.rows) e
 
 pub longest-append : (xs ys : List Row) → longest (xs ++ ys) ≡ max (longest xs) (longest ys)
 longest-append xs ys = ap (fold max 0) (map-append (λ (r : Row). longest_text r.cells) xs ys) ∙ fold_max-append (map (λ (r : Row). longest_text r.cells) xs) (map (λ (r : Row). longest_text r.cells) ys)
 
-pub bytes-append : (xs ys : List Row) → bytes (xs ++ ys) ≡ bytes xs + bytes ys
-bytes-append xs ys = sum_by-append (λ (r : Row). all_text_bytes r.cells) xs ys
+pub text_total-append : (xs ys : List Row) → text_total (xs ++ ys) ≡ text_total xs + text_total ys
+text_total-append xs ys = sum_by-append (λ (r : Row). all_text_bytes r.cells) xs ys
 
 -- some of the rows
 module _ (p : Row → Bool) where
@@ -58,11 +56,11 @@ module _ (p : Row → Bool) where
           ))
       by rest false e = rw e (omega (arith, rest, fold_max_cons (longest_text r.cells) (map (λ (r : Row). longest_text r.cells) rows)))
 
-  pub bytes-kept : (rows : List Row) → bytes (filter p rows) ≤ bytes rows
-  bytes-kept [] = omega arith
-  bytes-kept (r ∷ rows) = by (bytes-kept rows) (p r) refl
+  pub text_total-kept : (rows : List Row) → text_total (filter p rows) ≤ text_total rows
+  text_total-kept [] = omega arith
+  text_total-kept (r ∷ rows) = by (text_total-kept rows) (p r) refl
     where
-      by : bytes (filter p rows) ≤ bytes rows → (b : Bool) → p r ≡ b → bytes (filter p (r ∷ rows)) ≤ bytes (r ∷ rows)
+      by : text_total (filter p rows) ≤ text_total rows → (b : Bool) → p r ≡ b → text_total (filter p (r ∷ rows)) ≤ text_total (r ∷ rows)
       by rest true e = rw e (omega (arith, rest, sum_by-cons (λ (r : Row). all_text_bytes r.cells) r rows, sum_by-cons (λ (r : Row). all_text_bytes r.cells) r (filter p rows)))
       by rest false e = rw e (omega (arith, rest, sum_by-cons (λ (r : Row). all_text_bytes r.cells) r rows))
 
@@ -119,7 +117,7 @@ module _ (p : Row → Bool) where
       let w = frame_within f s.within in
       let few = length-kept f.rows in
       let one = longest-kept f.rows in
-      let all = bytes-kept f.rows in
+      let all = text_total-kept f.rows in
       let cells : length (filter p f.rows) * length f.schema.columns ≤ length f.rows * length f.schema.columns =
       mul-le (length (filter p f.rows)) (length f.schema.columns) (length f.rows) (length f.schema.columns) few (omega arith) in
       record {
@@ -130,7 +128,7 @@ module _ (p : Row → Bool) where
           untimed = λ e. all-kept _ f.rows (s.is_frame.untimed e);
         };
         timed = s.timed;
-        within = within_to (length (filter p f.rows)) (length f.schema.columns) (longest (filter p f.rows)) (bytes (filter p f.rows)) (record {
+        within = within_to (length (filter p f.rows)) (length f.schema.columns) (longest (filter p f.rows)) (text_total (filter p f.rows)) (record {
           rows_are = omega (arith, few, w.rows_are);
           columns_are = w.columns_are;
           cells_are = omega (arith, cells, w.cells_are);

@@ -32,7 +32,7 @@ use Rattle.append_update.specs.Asking.{answer_to, IsWish, IsPlanOf, IsAlone, why
 use Rattle.append_update.specs.Newest.{IsNewest, IsBaseAt}
 use Rattle.append_update.specs.Replacing.{appended}
 use Rattle.append_update.specs.Sizes.{FitsBehind, text_total}
-use Rattle.append_update.proofs.FrameLemmas.{longest, longest-append, within_from, within_to, frame_within, bytes-append}
+use Rattle.append_update.proofs.FrameLemmas.{longest, longest-append, within_from, within_to, frame_within, text_total-append}
 use Rattle.append_update.proofs.AppendLemmas.{MayAppend, append_plan_fits, append_answers, append_alone}
 use Rattle.append_update.proofs.UpdateAnswers.{upsert_alone, update_unreferred, update_unlinked}
 use Rattle.append_update.proofs.BaseLemmas.{walked_here}
@@ -76,7 +76,7 @@ module _ (base frame : Frame) (b : IsStorable base) (f : IsStorable frame) where
         let w = within_from (length base.rows + length frame.rows) (length frame.schema.columns) 0 0 fits.few in
         ap (λ n. too_large n (length frame.schema.columns) (longest (base.rows ++ frame.rows)) (text_total (base.rows ++ frame.rows))) (length-append base.rows frame.rows)
         ∙ texts_only (length base.rows + length frame.rows) (length frame.schema.columns) (longest (base.rows ++ frame.rows)) (text_total (base.rows ++ frame.rows)) w.rows_are w.columns_are w.cells_are one_text
-        (omega (arith, many, bytes-append base.rows frame.rows))
+        (omega (arith, many, text_total-append base.rows frame.rows))
 
     pub behind_fits : text_total base.rows + text_total frame.rows ≤ 67108864 → MayAppend base frame
     behind_fits few =
@@ -90,7 +90,7 @@ module _ (base frame : Frame) (b : IsStorable base) (f : IsStorable frame) where
                 columns_are = w.columns_are;
                 cells_are = w.cells_are;
                 one_is = one_text;
-                all_are = omega (arith, few, bytes-append base.rows frame.rows);
+                all_are = omega (arith, few, text_total-append base.rows frame.rows);
               });
         }
 

@@ -6,7 +6,7 @@ use Rattle.frame_core.specs.Ranges.{Range, is_below, is_above}
 use Rattle.frame_core.specs.Frames.{Row, Frame, rows_below, rows_above, replace_range}
 use Rattle.frame_core.specs.Limits.{IsStorable, too_large, frame_too_large}
 use Rattle.append_update.specs.Sizes.{text_total, kept_rows}
-use Rattle.append_update.proofs.FrameLemmas.{longest, bytes, longest-append, bytes-append, longest-kept, within_from, within_to, frame_within}
+use Rattle.append_update.proofs.FrameLemmas.{longest, longest-append, longest-kept, within_from, within_to, frame_within}
 use Rattle.append_update.proofs.SizeLemmas.{total-append}
 use Rattle.append_update.proofs.PlanLemmas.{large_anyway, texts_only}
 

@@ -13,9 +13,10 @@ use Rattle.frame_core.specs.Frames.{Row, Frame, FitsColumns, NeverFall, stamps_o
 use Rattle.frame_core.specs.Limits.{IsStorable, all_text_bytes, longest_text, frame_too_large}
 use Rattle.frame_core.proofs.FrameLimits.{fold_max_cons}
 use Rattle.reply_model.specs.CommitAnswers.{outside}
+use Rattle.append_update.specs.Sizes.{text_total}
 use Rattle.append_update.proofs.ListLemmas.{take_all_of, drop_all_of}
 use Rattle.append_update.proofs.RangeLemmas.{rising-slice}
-use Rattle.append_update.proofs.FrameLemmas.{longest, bytes, within_to, frame_within, all-kept, all-passing, rising-kept, all-both, rising-both, ordered-by}
+use Rattle.append_update.proofs.FrameLemmas.{longest, within_to, frame_within, all-kept, all-passing, rising-kept, all-both, rising-both, ordered-by}
 
 -- ---- rows of a place up to another
 
@@ -47,7 +48,7 @@ storable-slice f from to s =
     let rows : List Row = slice_range f.rows from to in
     let few : length rows ≤ length f.rows = omega (arith, length-take (to - from) (drop from f.rows), length-drop from f.rows) in
     let one : longest rows ≤ longest f.rows = omega (arith, max-take (λ (r : Row). longest_text r.cells) (to - from) (drop from f.rows), max-drop (λ (r : Row). longest_text r.cells) from f.rows) in
-    let all : bytes rows ≤ bytes f.rows = omega (arith, sum-take (λ (r : Row). all_text_bytes r.cells) (to - from) (drop from f.rows), sum-drop (λ (r : Row). all_text_bytes r.cells) from f.rows) in
+    let all : text_total rows ≤ text_total f.rows = omega (arith, sum-take (λ (r : Row). all_text_bytes r.cells) (to - from) (drop from f.rows), sum-drop (λ (r : Row). all_text_bytes r.cells) from f.rows) in
     let cells : length rows * length f.schema.columns ≤ length f.rows * length f.schema.columns = mul-le (length rows) (length f.schema.columns) (length f.rows) (length f.schema.columns) few (omega arith) in
     record {
       is_frame = record {
@@ -57,7 +58,7 @@ storable-slice f from to s =
         untimed = λ e. take_all_of _ (to - from) (drop from f.rows) (drop_all_of _ from f.rows (s.is_frame.untimed e));
       };
       timed = s.timed;
-      within = within_to (length rows) (length f.schema.columns) (longest rows) (bytes rows) (record {
+      within = within_to (length rows) (length f.schema.columns) (longest rows) (text_total rows) (record {
         rows_are = omega (arith, few, w.rows_are);
         columns_are = w.columns_are;
         cells_are = omega (arith, cells, w.cells_are);

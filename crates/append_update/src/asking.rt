@@ -23,7 +23,9 @@ use crate::cuts::Cuts;
 use crate::edges::edges_of;
 use crate::judging::{first_difference, judge_append};
 use crate::planning::{plan_alone, plan_append, plan_update};
-use crate::sizes::{TEXT_LIMIT, has_texts, kept_text_bytes, replaced_too_large, text_bytes, too_many_texts};
+use crate::sizes::{
+    TEXT_LIMIT, has_texts, kept_text_bytes, replaced_too_large, text_bytes, too_many_texts,
+};
 use crate::wish::Wish;
 use base_types::{Keep, NoMemory};
 use bucket_core::{Bucket, Change};

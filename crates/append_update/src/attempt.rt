@@ -1,6 +1,6 @@
 //! The tries of a command that makes a version on the newest live one.
 
-ghost use Rattle.std.specs.Prelude.{◌≡◌, ◌≤◌, length};
+ghost use Rattle.std.specs.Prelude.{◌≤◌};
 ghost use Rattle.bucket_core.specs.Calls.{IsSteady};
 ghost use Rattle.frame_write.specs.Tries.{DidTries};
 ghost use Rattle.append_update.specs.Asking.{IsWish, IsAnswered, Declines, Wants};

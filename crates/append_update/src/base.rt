@@ -1,6 +1,6 @@
 //! The newest live version, on which a new one is made.
 
-ghost use Rattle.std.specs.Prelude.{◌≡◌, false, length, IfOk, IfErr, IfSome};
+ghost use Rattle.std.specs.Prelude.{◌≡◌, false, IfOk, IfErr, IfSome};
 ghost use Rattle.std.specs.List.{list_any};
 ghost use Rattle.bucket_core.specs.History.{history_at};
 ghost use Rattle.bucket_core.specs.Laws.{Looks};

@@ -1,6 +1,6 @@
 //! The pieces of a new version on a base.
 
-ghost use Rattle.std.specs.Prelude.{◌≡◌, ◌≤◌, [], ◌∷◌, ◌++◌, length, take, drop, slice_range, IfOk, OnOk};
+ghost use Rattle.std.specs.Prelude.{◌≡◌, ◌≤◌, ◌++◌, length, IfOk, OnOk};
 ghost use Rattle.append_update.specs.Replacing.{fresh, appended, replaced};
 
 use crate::cuts::Cuts;

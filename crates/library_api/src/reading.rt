@@ -1,6 +1,6 @@
 //! A read: the version that is asked, and what is asked of its frame.
 
-ghost use Rattle.std.specs.Prelude.{◌≡◌, option_copied, IfOk, IfErr};
+ghost use Rattle.std.specs.Prelude.{option_copied, IfOk, IfErr};
 ghost use Rattle.bucket_core.specs.Laws.{Looks};
 ghost use Rattle.bucket_core.specs.Calls.{IsSteady};
 ghost use Rattle.store_model.specs.Law.{IsClaimed};

@@ -1,4 +1,4 @@
-use Rattle.std.proofs.Common.{rules, ◌≡◌, ◌+◌, ◌<◌, w64, to_z, of_z, List, length, sym, ap, ◌∙◌, subst, inl, inr, refl, arith, Some, None, Err}
+use Rattle.std.proofs.Common.{rules, ◌≡◌, w64, to_z, of_z, List, sym, ap, ◌∙◌, subst, inl, inr, Some, Err}
 use Rattle.bucket_core.specs.declared.event.Change.TheVariants as changes
 use Rattle.frame_core.specs.Schemas.{Schema, schemas_differ}
 use Rattle.index_tree.specs.declared.index.Slot.{Slot}
@@ -45,12 +45,15 @@ returns-in-Err-clause-refused g c = λ b upsert.
 
 pub replaced_too_large-requires-clause-replaces : goal.replaced_too_large-requires-clause-replaces
 replaced_too_large-requires-clause-replaces g c =
-    let b = c.requires.base in
-    (b.version.frame, c.args.range, record {
-      index_of = b.newest.index_of;
-      divides = subst (λ (slots : List Slot). Divides c.args.range slots c.of-cuts.result) c.items.ensures c.of-cuts.ensures;
-      are = c.in-Ok.ensures.edges (base_later (g.B.Bucket.number c.args.bucket.now) (g.B.Bucket.number c.exceeds_texts.new.bucket) (g.B.Bucket.seen c.args.bucket.now) (g.B.Bucket.seen c.exceeds_texts.new.bucket) c.exceeds_texts.ensures.looks.others c.args.symbol.now c.args.base.now c.exceeds_texts.ensures.steady.same_number c.exceeds_texts.ensures.looks.is c.exceeds_texts.ensures.looks.by_others b);
-    })
+    let b = c.requires.base in (
+      b.version.frame,
+      c.args.range,
+      record {
+        index_of = b.newest.index_of;
+        divides = subst (λ (slots : List Slot). Divides c.args.range slots c.of-cuts.result) c.items.ensures c.of-cuts.ensures;
+        are = c.in-Ok.ensures.edges (base_later (g.B.Bucket.number c.args.bucket.now) (g.B.Bucket.number c.exceeds_texts.new.bucket) (g.B.Bucket.seen c.args.bucket.now) (g.B.Bucket.seen c.exceeds_texts.new.bucket) c.exceeds_texts.ensures.looks.others c.args.symbol.now c.args.base.now c.exceeds_texts.ensures.steady.same_number c.exceeds_texts.ensures.looks.is c.exceeds_texts.ensures.looks.by_others b);
+      },
+    )
 
 pub returns-in-Some-replaced_too_large-clause-looks : goal.returns-in-Some-replaced_too_large-clause-looks
 returns-in-Some-replaced_too_large-clause-looks g c =

@@ -1,4 +1,4 @@
-use Rattle.std.proofs.Common.{sym, ap}
+use Rattle.std.proofs.Common.{ap}
 use Rattle.frame_write.proofs.ReplyLemmas.{goes_on}
 use Rattle.append_update.specs.declared.wish.Wish.TheVariants as wishes
 use Rattle.append_update.specs.Asking.{IsAnswered, Declines, Wants}
