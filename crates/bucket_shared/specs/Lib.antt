@@ -5,3 +5,4 @@ pub mod Passes
 pub mod Splits
 pub mod Ready
 pub mod Authors
+pub mod Notes

@@ -7,6 +7,7 @@ ghost use Rattle.bucket_core.specs.Calls.{RefusesLook, RefusesPut, RefusesRefer,
 ghost use Rattle.bucket_core.specs.Calls.{put_event, refer_event, name_event, unname_event};
 ghost use Rattle.bucket_core.specs.Laws.{Looks};
 ghost use Rattle.store_model.specs.Law.{IsClaimed};
+ghost use Rattle.bucket_shared.specs.Notes.{AreTrue, notes_of, log_of};
 ghost use Rattle.bucket_shared.specs.Passes.{store_of, badge_of, seen_of, number_of, limit_of, sole_of, no_faults};
 
 use crate::dropping::drop_key;
@@ -16,7 +17,6 @@ use crate::pass::Pass;
 use crate::putting::put;
 use crate::ready::make_ready;
 use crate::referring::refer;
-use crate::row::row_of;
 use crate::unnaming::unname;
 use base_types::NoMemory;
 use bucket_core::{Body, Bucket, Changes, Dropped, Found, Listed, StoreErr};
@@ -58,6 +58,9 @@ impl Bucket<StoreLaw> for Pass {
         ensures steady { IsSteady number_of limit_of no_faults sole_of self.old self.new }
         ensures found { IfOk result (IsFound (seen_of self.new) key.now) }
         ensures refused { IfErr result (RefusesLook 0 0) }
+
+        // What was noted of rows is true of what is seen now.
+        ensures noted { AreTrue (notes_of self.old) (log_of self.new) }
         ensures store { store_of self.new ≡ store_of self.old }
         ensures badge { badge_of self.new ≡ badge_of self.old }
     {
@@ -211,7 +214,6 @@ impl Bucket<StoreLaw> for Pass {
         ensures store { store_of self.new ≡ store_of self.old }
         ensures badge { badge_of self.new ≡ badge_of self.old }
     {
-        let row = row_of(symbol.name());
-        self.cell.unchanged(&mut self.seat, row, place)
+        self.row_unchanged(symbol, place)
     }
 }

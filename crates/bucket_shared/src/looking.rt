@@ -6,6 +6,7 @@ ghost use Rattle.bucket_core.specs.Laws.{IsLawful, Looks};
 ghost use Rattle.bucket_core.specs.Calls.{IsFound, keys_that_match};
 ghost use Rattle.store_model.specs.Law.{IsClaimed};
 ghost use Rattle.bucket_shared.specs.Authors.{AreEnded, AreHad};
+ghost use Rattle.bucket_shared.specs.Notes.{AreTrue};
 ghost use Rattle.bucket_shared.specs.Sole.{is_sole};
 ghost use Rattle.bucket_shared.specs.Stories.{history};
 
@@ -38,6 +39,7 @@ pub(crate) fn find<R: Wait>(
     ensures looks { Looks IsClaimed (view seat.old).badge.number (is_sole (view seat.old).badge) (history seat.old) (history seat.new) }
     ensures serial { puts_by (view seat.old).badge.number (history seat.new) ≡ puts_by (view seat.old).badge.number (history seat.old) }
     ensures found { IfOk result.0 (IsFound (history seat.new) key.now) }
+    ensures noted { AreTrue (view seat.old).notes (seen seat.new) }
 {
     let store = take(rt, cell, seat);
     let found = store.contents.find(key);

@@ -1,8 +1,13 @@
 // The rows of symbols.
-ghost use Rattle.std.specs.Prelude.{◌≡◌, ◌<◌};
+ghost use Rattle.std.specs.Prelude.{◌≡◌, ◌<◌, ◌≤◌, false, length};
+ghost use Rattle.std.specs.Bool.{OnTrue, OnFalse};
+ghost use Rattle.bucket_core.specs.Calls.{IsSteady, refers_after};
+ghost use Rattle.bucket_shared.specs.Passes.{store_of, badge_of, seen_of, number_of, limit_of, sole_of, no_faults};
+ghost use Rattle.bucket_shared.specs.Notes.{HasNoted};
 ghost use Rattle.bucket_shared.specs.Rows.{row};
 
-use key_kind::Name;
+use crate::pass::Pass;
+use key_kind::{Name, Symbol};
 
 /// The row of a symbol: the sum of its bytes modulo 256.
 pub(crate) fn row_of(symbol: &Name) -> u32
@@ -14,4 +19,21 @@ pub(crate) fn row_of(symbol: &Name) -> u32
         sum = (sum + u32::from(*byte)) % 256;
     }
     sum
+}
+
+impl Pass {
+    /// Whether the symbol's row has no event after a place. It is one look at the word of the row, takes no turn and waits for
+    /// nobody; a row that changed it notes, and the next look at the history confirms the note.
+    pub fn row_unchanged(&mut self, symbol: &Symbol, place: u64) -> bool
+        requires seen { place ≤ length (seen_of self.old) }
+        ensures unchanged { OnTrue result (refers_after (seen_of self.old) symbol.now place ≡ false) }
+        ensures changed { OnFalse result (HasNoted (row symbol.now) place self.old self.new) }
+        ensures same { seen_of self.new ≡ seen_of self.old }
+        ensures steady { IsSteady number_of limit_of no_faults sole_of self.old self.new }
+        ensures store { store_of self.new ≡ store_of self.old }
+        ensures badge { badge_of self.new ≡ badge_of self.old }
+    {
+        let row = row_of(symbol.name());
+        self.cell.unchanged(&mut self.seat, row, place)
+    }
 }

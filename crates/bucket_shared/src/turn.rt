@@ -9,6 +9,7 @@ ghost use Rattle.bucket_core.specs.Laws.{IsLawful, Looks};
 ghost use Rattle.bucket_core.specs.Showing.{Shows, events_of};
 ghost use Rattle.store_model.specs.Law.{IsClaimed};
 ghost use Rattle.bucket_shared.specs.Authors.{AreEnded, AreHad};
+ghost use Rattle.bucket_shared.specs.Notes.{AreTrue};
 ghost use Rattle.bucket_shared.specs.Sole.{is_sole};
 ghost use Rattle.bucket_shared.specs.Stories.{StandsFor, event_row, history, IsNewSeat};
 
@@ -40,6 +41,7 @@ pub(crate) fn take<R: Wait>(rt: &R, cell: &TurnCell<Store>, seat: &mut Seat<Stor
     ensures serial { puts_by (view seat.old).badge.number (history seat.new) ≡ puts_by (view seat.old).badge.number (history seat.old) }
     ensures joined { (n : ℕ) → Has (view seat.old).badge n → entries_by client_of n (seen seat.new) ≡ entries_by client_of n (seen seat.old) }
     ensures later { IsPrefix (seen seat.old) (seen seat.new) }
+    ensures noted { AreTrue (view seat.old).notes (seen seat.new) }
 {
     cell.take(rt, seat)
 }

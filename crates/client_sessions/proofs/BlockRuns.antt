@@ -1,5 +1,5 @@
 -- Blocks that are carried out: none, one on the caller's thread before the others, and one on a thread of its own beside the others.
-use Rattle.std.proofs.Common.{◌≡◌, ℕ, ◌<◌, ◌≤◌, ◌⊎◌, false, List, [], ◌∷◌, ◌++◌, length, Some, refl, sym, ap, ◌∙◌, subst, inl, inr, ⊎_elim, append_assoc, length-append, arith}
+use Rattle.std.proofs.Common.{◌≡◌, ℕ, ◌<◌, ◌≤◌, ◌⊎◌, true, false, List, [], ◌∷◌, ◌++◌, length, Some, refl, sym, ap, ◌∙◌, subst, inl, inr, ⊎_elim, append_assoc, length-append, arith}
 use Rattle.std.specs.Prelude.{Any}
 use Rattle.std.specs.List.{AllByRecursion}
 use Rattle.std.proofs.lemmas.Bool.{cases_lt}
@@ -11,19 +11,23 @@ use Rattle.turn_cell.proofs.Sole.{awaits_split, has_left}
 use Rattle.bucket_core.specs.declared.event.Event.{Event}
 use Rattle.bucket_core.specs.History.{History, author, event_at}
 use Rattle.bucket_core.specs.Laws.{Looks}
-use Rattle.store_model.specs.Law.{IsClaimed}
+use Rattle.store_model.specs.Law.{IsClaimed, IsLawful}
 use Rattle.bucket_shared.specs.declared.pass.Pass.{Pass}
 use Rattle.bucket_shared.specs.Passes.{store_of, badge_of, seen_of, number_of, limit_of, sole_of}
 use Rattle.bucket_shared.specs.Splits.{IsSplit}
+use Rattle.bucket_shared.specs.Sole.{is_sole}
 use Rattle.expr_clause.specs.declared.command.Command.{Command}
 use Rattle.reply_model.specs.declared.reply.Reply.{Reply}
 use Rattle.reply_model.specs.Windows.{Client}
 use Rattle.reply_model.specs.Blocks.{Cutting}
 use Rattle.reply_model.specs.Runs.{Talk, IsLegalTalk, Covers, AreApart}
-use Rattle.client_sessions.specs.Sessions.{talk_of}
+use Rattle.reply_model.specs.Standing.{RunsAlone}
+use Rattle.client_sessions.specs.Sessions.{talk_of, AreServed, AreUncut}
 use Rattle.client_sessions.specs.Blocks.{IsSessionOf, AreRun, Knows}
 use Rattle.client_sessions.proofs.Events.{event_within, event_at_more, others_above, others_at, any_here, any_there}
 use Rattle.client_sessions.proofs.Windows.{stops_within}
+use Rattle.client_sessions.proofs.OneBlock.{OneSession, head_is, tail_is, sole_kept, session_alone, more_own, ends_there}
+use Rattle.client_sessions.proofs.Passes.{had_at, ended_at, within_at}
 use Rattle.client_sessions.proofs.Talks.{calm, all_map, talk_later, talks_later, apart_before}
 
 -- a history is at least as long as one that it goes on from
@@ -34,8 +38,8 @@ some_block : (block : List Command) (blocks : List (List Command)) → block ∷
 some_block block blocks none = absurd (omega (arith, ap length none))
 
 -- no blocks
-pub run_none : (client : ℕ → Client) (p : Pass) → AreRun client [] [] p p
-run_none client p = record {
+pub run_none : (cutting : Cutting) (client : ℕ → Client) (p : Pass) → AreRun cutting client [] [] p p
+run_none cutting client p = record {
   store = refl;
   number = refl;
   limit = refl;
@@ -45,6 +49,7 @@ run_none client p = record {
   goes_on = refl;
   lawful = λ l. l;
   without_blocks = λ none. refl;
+  one_alone = λ block met is. absurd (some_block block [] (sym is));
   talks = [];
   talks_are = tt;
   legal = tt;
@@ -56,9 +61,9 @@ run_none client p = record {
 }
 
 -- one block on the caller's thread, with the caller's pass, and then the others
-module _ (cutting : Cutting) (client : ℕ → Client) (named : (n : ℕ) → (client n).session.client ≡ n) (block : List Command) (replies : List Reply) (blocks : List (List Command)) (told : List (List Reply)) (p0 p p1 p2 : Pass)
+module _ (cutting : Cutting) (client : ℕ → Client) (named : (n : ℕ) → (client n).session.client ≡ n) (one : OneSession client) (block : List Command) (replies : List Reply) (blocks : List (List Command)) (told : List (List Reply)) (p0 p p1 p2 : Pass)
     (store : store_of p ≡ store_of p0) (badge : badge_of p ≡ badge_of p0) (limit : limit_of p ≡ limit_of p0) (looks : Looks IsClaimed (number_of p0) (sole_of p0) (seen_of p0) (seen_of p))
-    (s : IsSessionOf cutting client block replies p p1) (r : AreRun client blocks told p1 p2) where
+    (s : IsSessionOf cutting client block replies p p1) (r : AreRun cutting client blocks told p1 p2) where
   abbrev here : Talk
   here = talk_of (client (number_of p)) block replies s.session.windows
 
@@ -78,7 +83,19 @@ module _ (cutting : Cutting) (client : ℕ → Client) (named : (n : ℕ) → (c
         ]
   ]
 
-  pub run_here : AreRun client (block ∷ blocks) (replies ∷ told) p0 p2
+  -- one block alone: no others made events before it, and none is behind it
+  alone_here : (b : List Command) (met : List Reply) → block ∷ blocks ≡ b ∷ [] → replies ∷ told ≡ met ∷ [] → sole_of p0 ≡ true → IsLawful (seen_of p0) → AreServed b → AreUncut met
+      → (n : ℕ) → RunsAlone cutting (client n).session b met (seen_of p0) (seen_of p2)
+  alone_here b met one_block one_reply sole lawful served uncut n =
+      let from : seen_of p ≡ seen_of p0 = looks.is ∙ ap (λ (h : History). h ++ seen_of p0) (looks.alone sole) in
+      let to : seen_of p1 ≡ seen_of p2 = sym (r.without_blocks (tail_is block b blocks [] one_block)) in
+      let same_block = head_is block b blocks [] one_block in
+      let same_reply = head_is replies met told [] one_reply in
+      subst (λ (z : List Command × List Reply). RunsAlone cutting (client n).session z.0 z.1 (seen_of p0) (seen_of p2)) (λ i. (same_block i, same_reply i))
+      (session_alone cutting client one block replies (seen_of p0) (seen_of p2) p p1 s from to (s.session.own (ap is_sole badge ∙ sole)) lawful
+      (subst (λ (cs : List Command). AreServed cs) (sym same_block) served) (subst (λ (rs : List Reply). AreUncut rs) (sym same_reply) uncut) n)
+
+  pub run_here : AreRun cutting client (block ∷ blocks) (replies ∷ told) p0 p2
   run_here =
       let first_le : length (seen_of p0) ≤ length (seen_of p) = longer looks.others (seen_of p0) (seen_of p) looks.is in
       let next_le : length (seen_of p) ≤ length (seen_of p1) = longer s.session.more (seen_of p) (seen_of p1) s.session.goes_on in
@@ -94,6 +111,7 @@ module _ (cutting : Cutting) (client : ℕ → Client) (named : (n : ℕ) → (c
             ∙ sym (append_assoc r.more (s.session.more ++ looks.others) (seen_of p0)));
         lawful = λ l. r.lawful (s.session.lawful (looks.lawful l));
         without_blocks = λ none. absurd (some_block block blocks none);
+        one_alone = alone_here;
         talks = here ∷ r.talks;
         talks_are = (ap (λ (n : ℕ). talk_of (client n) block replies s.session.windows) (sym (named (number_of p))), r.talks_are);
         legal = (
@@ -113,9 +131,9 @@ module _ (cutting : Cutting) (client : ℕ → Client) (named : (n : ℕ) → (c
       }
 
 -- one block on a thread of its own, with a pass that was split off, beside the others; its pass is joined behind all
-module _ (cutting : Cutting) (client : ℕ → Client) (named : (n : ℕ) → (client n).session.client ≡ n) (block : List Command) (replies : List Reply) (blocks : List (List Command)) (told : List (List Reply)) (p0 p1 o p2 o2 p3 : Pass)
+module _ (cutting : Cutting) (client : ℕ → Client) (named : (n : ℕ) → (client n).session.client ≡ n) (one : OneSession client) (block : List Command) (replies : List Reply) (blocks : List (List Command)) (told : List (List Reply)) (p0 p1 o p2 o2 p3 : Pass)
     (store : store_of p1 ≡ store_of p0) (number : number_of p1 ≡ number_of p0) (limit : limit_of p1 ≡ limit_of p0) (looks : Looks IsClaimed (number_of p0) (sole_of p0) (seen_of p0) (seen_of p1)) (split : IsSplit p0 p1 o)
-    (r : AreRun client blocks told p1 p2) (s : IsSessionOf cutting client block replies o o2)
+    (r : AreRun cutting client blocks told p1 p2) (s : IsSessionOf cutting client block replies o o2)
     (store3 : store_of p3 ≡ store_of p2) (number3 : number_of p3 ≡ number_of p2) (limit3 : limit_of p3 ≡ limit_of p2) (badge3 : badge_of p3 ≡ joined_badge (badge_of p2) (badge_of o2) (length (seen_of o2)))
     (looks3 : Looks IsClaimed (number_of p2) false (seen_of p2) (seen_of p3)) (other : Looks IsClaimed (number_of o2) false (seen_of o2) (seen_of p3))
     (awaits3 : (ns : List ℕ) → Awaits (badge_of p2) (number_of o2 ∷ ns) → Awaits (badge_of o2) [] → Awaits (badge_of p3) ns) where
@@ -185,7 +203,62 @@ module _ (cutting : Cutting) (client : ℕ → Client) (named : (n : ℕ) → (c
   knows : (m : ℕ) → Knows (badge_of p0) m → Knows (badge_of p1) m
   knows m k = subst (λ (b : Badge). Knows b m) (sym split.gave) (⊎_elim (λ (e : m ≡ (badge_of p0).number). inl e) (λ (a : Among m (badge_of p0).gave). inr (inr a)) k)
 
-  pub run_beside : AreRun client (block ∷ blocks) (replies ∷ told) p0 p3
+  -- the pass has its numbers, and awaits no more than before
+  first_beside : Has (badge_of p0) (badge_of p0).first → Has (badge_of p3) (badge_of p3).first
+  first_beside h = subst (λ (b : Badge). Has b b.first) (sym badge3) (has_left (badge_of p2) (badge_of o2) (length (seen_of o2)) (badge_of p2).first (r.first (subst (λ (b : Badge). Has b b.first) (sym split.gave) h)))
+
+  awaits_beside : (ns : List ℕ) → Awaits (badge_of p0) ns → Awaits (badge_of p3) ns
+  awaits_beside ns all = awaits3 ns
+      (subst (λ (m : ℕ). Awaits (badge_of p2) (m ∷ ns)) (sym number_other) (r.awaits (number_of o ∷ ns) (subst (λ (b : Badge). Awaits b (number_of o ∷ ns)) (sym split.gave) (awaits_split (badge_of p0) (number_of o) ns all))))
+      (subst (λ (b : Badge). Awaits b []) (sym badge_other) (λ m a. absurd a))
+
+  -- ---- one block alone
+
+  -- the caller's pass had seen nothing new until it joined the other
+  module _ (sole : sole_of p0 ≡ true) (none : blocks ≡ []) where
+    before : seen_of p1 ≡ seen_of p0
+    before = looks.is ∙ ap (λ (h : History). h ++ seen_of p0) (looks.alone sole)
+
+    until : seen_of p2 ≡ seen_of p0
+    until = r.without_blocks none ∙ before
+
+    -- a joined client has no event behind its place, which lies in what was seen before, but for the other one
+    by_joined : (n : ℕ) (e : Event) → length (seen_of p0) < n → event_at (seen_of p3) n ≡ Some e → (l : ℕ) → Among (joined_at (author e) l) (badge_of p3).joined
+        → Among (joined_at (author e) l) (badge_of p2).joined ⊎ Among (joined_at (author e) l) (joined_at (number_of o2) (length (seen_of o2)) ∷ (badge_of o2).joined) → author e ≡ number_of o
+    by_joined n e lt at l among (inl a) =
+        let le : n ≤ l = ended_at p3 (author e) l n e among at refl in
+        absurd (⊎_elim
+        (λ (x : Among (joined_at (author e) l) (badge_of p1).joined). let low : l ≤ length (seen_of p0) = within_at p0 (author e) l (subst (λ (b : Badge). Among (joined_at (author e) l) b.joined) split.gave x) in omega (arith, low, le, lt))
+        (λ (x : (l ≤ length (seen_of p2)) × ((k : ℕ) (d : Event) → k ≤ l → event_at (seen_of p2) k ≡ Some d → author d ≡ author e → Any (Covers k d) r.talks)). omega (arith, x.0, le, lt, ap (λ (h : History). length h) until))
+        (r.joined (author e) l a))
+    by_joined n e lt at l among (inr (inl is)) = ap (λ (j : Joined). j.number) is ∙ number_other
+    by_joined n e lt at l among (inr (inr a)) = absurd (subst (λ (b : Badge). Among (joined_at (author e) l) b.joined) badge_other a)
+
+    by_had : (n : ℕ) (e : Event) → length (seen_of p0) < n → event_at (seen_of p3) n ≡ Some e → Has (badge_of p3) (author e) → author e ≡ number_of o
+    by_had n e lt at (inl own) = absurd (others_above (number_of p2) looks3.others (seen_of p2) n e looks3.by_others (subst (λ (h : History). length h < n) (sym until) lt) (ap (λ (h : History). event_at h n) (sym looks3.is) ∙ at) (own.1 ∙ number3))
+    by_had n e lt at (inr t) = by_joined n e lt at t.0 t.1
+        (among_either (joined_at (author e) t.0) (badge_of p2).joined (joined_at (number_of o2) (length (seen_of o2)) ∷ (badge_of o2).joined) (subst (λ (b : Badge). Among (joined_at (author e) t.0) b.joined) badge3 t.1))
+
+    -- so each new event is of the other client
+    by_other : (n : ℕ) (e : Event) → length (seen_of p0) < n → event_at (seen_of p3) n ≡ Some e → author e ≡ number_of o
+    by_other n e lt at = by_had n e lt at (had_at p3 (sole_kept p0 p3 first_beside awaits_beside sole) n e at)
+
+    pub alone_other : IsLawful (seen_of p0) → AreServed block → AreUncut replies → (n : ℕ) → RunsAlone cutting (client n).session block replies (seen_of p0) (seen_of p3)
+    alone_other =
+        let from : seen_of o ≡ seen_of p0 = split.seen ∙ before in
+        session_alone cutting client one block replies (seen_of p0) (seen_of p3) o o2 s from (ends_there cutting client block replies (seen_of p0) o o2 p3 s other from number_other by_other)
+        (subst (λ (n : ℕ). AllByRecursion (λ e. author e ≡ n) s.session.more) (sym (named (number_of o))) (more_own cutting client block replies (seen_of p0) o o2 p3 s other from number_other by_other))
+
+  alone_beside : (b : List Command) (met : List Reply) → block ∷ blocks ≡ b ∷ [] → replies ∷ told ≡ met ∷ [] → sole_of p0 ≡ true → IsLawful (seen_of p0) → AreServed b → AreUncut met
+      → (n : ℕ) → RunsAlone cutting (client n).session b met (seen_of p0) (seen_of p3)
+  alone_beside b met one_block one_reply sole lawful served uncut n =
+      let same_block = head_is block b blocks [] one_block in
+      let same_reply = head_is replies met told [] one_reply in
+      subst (λ (z : List Command × List Reply). RunsAlone cutting (client n).session z.0 z.1 (seen_of p0) (seen_of p3)) (λ i. (same_block i, same_reply i))
+      (alone_other sole (tail_is block b blocks [] one_block) lawful
+      (subst (λ (cs : List Command). AreServed cs) (sym same_block) served) (subst (λ (rs : List Reply). AreUncut rs) (sym same_reply) uncut) n)
+
+  pub run_beside : AreRun cutting client (block ∷ blocks) (replies ∷ told) p0 p3
   run_beside =
       let first_le : length (seen_of p0) ≤ length (seen_of p1) = longer looks.others (seen_of p0) (seen_of p1) looks.is in
       let same : length (seen_of o) ≡ length (seen_of p1) = ap (λ (h : History). length h) split.seen in
@@ -193,16 +266,15 @@ module _ (cutting : Cutting) (client : ℕ → Client) (named : (n : ℕ) → (c
         store = store3 ∙ (r.store ∙ store);
         number = number3 ∙ (r.number ∙ number);
         limit = limit3 ∙ (r.limit ∙ limit);
-        first = λ h. subst (λ (b : Badge). Has b b.first) (sym badge3) (has_left (badge_of p2) (badge_of o2) (length (seen_of o2)) (badge_of p2).first (r.first (subst (λ (b : Badge). Has b b.first) (sym split.gave) h)));
-        awaits = λ ns all. awaits3 ns
-            (subst (λ (m : ℕ). Awaits (badge_of p2) (m ∷ ns)) (sym number_other) (r.awaits (number_of o ∷ ns) (subst (λ (b : Badge). Awaits b (number_of o ∷ ns)) (sym split.gave) (awaits_split (badge_of p0) (number_of o) ns all))))
-            (subst (λ (b : Badge). Awaits b []) (sym badge_other) (λ m a. absurd a));
+        first = first_beside;
+        awaits = awaits_beside;
         more = looks3.others ++ (r.more ++ looks.others);
         goes_on = looks3.is
             ∙ (ap (λ (h : History). looks3.others ++ h) (r.goes_on ∙ (ap (λ (h : History). r.more ++ h) looks.is ∙ sym (append_assoc r.more looks.others (seen_of p0))))
             ∙ sym (append_assoc looks3.others (r.more ++ looks.others) (seen_of p0)));
         lawful = λ l. looks3.lawful (r.lawful (looks.lawful l));
         without_blocks = λ none. absurd (some_block block blocks none);
+        one_alone = alone_beside;
         talks = beside ∷ r.talks;
         talks_are = (ap (λ (n : ℕ). talk_of (client n) block replies s.session.windows) (sym (named (number_of o))), r.talks_are);
         legal = (

@@ -38,7 +38,7 @@ moments_are client moment one (b ∷ blocks) [] talks all = absurd all
 moments_are client moment one (b ∷ blocks) (r ∷ told) [] all = absurd all
 
 module _ (cutting : Cutting) (client : ℕ → Client) (named : (n : ℕ) → (client n).session.client ≡ n) (moment : ℤ) (one : (n : ℕ) → (client n).session.moment ≡ moment) (first : List Command) (blocks : List (List Command)) (last : List Command) (replies : PartReplies) (p0 p1 p2 p3 : Pass) (sole : sole_of p0 ≡ true)
-    (a : IsSessionOf cutting client first replies.first p0 p1) (r : AreRun client blocks replies.blocks p1 p2) (b : IsSessionOf cutting client last replies.last p2 p3) where
+    (a : IsSessionOf cutting client first replies.first p0 p1) (r : AreRun cutting client blocks replies.blocks p1 p2) (b : IsSessionOf cutting client last replies.last p2 p3) where
   -- ---- the pass is sole again
 
   sole_behind : IsSole (badge_of p2)
@@ -159,5 +159,6 @@ module _ (cutting : Cutting) (client : ℕ → Client) (named : (n : ℕ) → (c
     before_last = seen_of p2;
     without_blocks = r.without_blocks;
     first_alone = λ l served uncut. a.session.alone (record { more = a.session.more; is = a.session.goes_on; own = a.session.own sole }) l served uncut;
+    block_alone = λ block met one_block one_reply l served uncut n. r.one_alone block met one_block one_reply (ap is_sole a.badge ∙ sole) (a.session.lawful l) served uncut n;
     last_alone = λ l served uncut. end.alone (record { more = end.more; is = end.goes_on; own = end.own sole_last }) (r.lawful (a.session.lawful l)) served uncut;
   }

@@ -4,7 +4,7 @@
 --     AreTalksOf          a talk for each block
 --     Knows               the numbers that a pass has or gave out itself
 --     AreRun              blocks that were carried out between two states of a pass
-use Rattle.std.specs.Prelude.{◌≡◌, ◌⊎◌, ◌<◌, ◌≤◌, ℕ, List, [], ◌∷◌, ◌++◌, length, Some, Any, ⊤}
+use Rattle.std.specs.Prelude.{◌≡◌, ◌⊎◌, ◌<◌, ◌≤◌, ℕ, true, List, [], ◌∷◌, ◌++◌, length, Some, Any, ⊤}
 use Rattle.std.specs.List.{AllByRecursion}
 use Rattle.frame_core.specs.declared.raw.RawFrame.{RawFrame}
 use Rattle.turn_cell.specs.declared.badge.Badge.{Badge}
@@ -19,9 +19,10 @@ use Rattle.reply_model.specs.declared.reply.Reply.{Reply}
 use Rattle.reply_model.specs.Windows.{Client}
 use Rattle.reply_model.specs.Blocks.{Cutting}
 use Rattle.reply_model.specs.Runs.{Talk, IsLegalTalk, HasNoFault, Covers, AllApart}
+use Rattle.reply_model.specs.Standing.{RunsAlone}
 use Rattle.library_api.specs.declared.settings.Settings.{Settings}
 use Rattle.library_api.specs.Steps.{client_of}
-use Rattle.client_sessions.specs.Sessions.{talk_of, IsSession}
+use Rattle.client_sessions.specs.Sessions.{talk_of, AreServed, AreUncut, IsSession}
 
 -- what the replies of a client of this number are judged by: its session has these frames and settings, and its bucket this limit
 abbrev pub clients_of : List RawFrame → Settings → ℕ → ℕ → Client
@@ -47,7 +48,7 @@ Knows badge n = (n ≡ badge.number) ⊎ Among n badge.gave
 
 -- blocks were carried out between two states of a pass: the history goes on lawfully; each block's replies are legal in it, and no talks of one
 -- client overlap; and each event of the pass's client since, and each event of a client whose pass was joined since, lies in a window of its own
-pub record AreRun (client : ℕ → Client) (blocks : List (List Command)) (replies : List (List Reply)) (old new : Pass) : Type 0 where
+pub record AreRun (cutting : Cutting) (client : ℕ → Client) (blocks : List (List Command)) (replies : List (List Reply)) (old new : Pass) : Type 0 where
   pub store : store_of new ≡ store_of old
   pub number : number_of new ≡ number_of old
   pub limit : limit_of new ≡ limit_of old
@@ -58,6 +59,10 @@ pub record AreRun (client : ℕ → Client) (blocks : List (List Command)) (repl
   pub goes_on : seen_of new ≡ more ++ seen_of old
   pub lawful : IsLawful (seen_of old) → IsLawful (seen_of new)
   pub without_blocks : blocks ≡ [] → seen_of new ≡ seen_of old
+  -- a sole pass that has one block to carry out leaves what one client alone would leave, whatever that client's number is: where all commands of
+  -- the block are served and none of its replies is cut
+  pub one_alone : (block : List Command) (met : List Reply) → blocks ≡ block ∷ [] → replies ≡ met ∷ [] → sole_of old ≡ true → IsLawful (seen_of old) → AreServed block → AreUncut met
+      → (n : ℕ) → RunsAlone cutting (client n).session block met (seen_of old) (seen_of new)
   pub talks : List Talk
   pub talks_are : AreTalksOf client blocks replies talks
   pub legal : AllByRecursion (IsLegalTalk (seen_of new) (length (seen_of old))) talks

@@ -1,10 +1,11 @@
 -- What the parts of a script leave: the first commands, a block for each client, and the last commands.
 --     Parts                   the commands of the parts
 --     IsRun                   the replies of all parts are legal in the one history
-use Rattle.std.specs.Prelude.{◌≡◌, ℕ, List, [], ◌++◌, length}
+use Rattle.std.specs.Prelude.{◌≡◌, ℕ, List, [], ◌∷◌, ◌++◌, length}
 use Rattle.bucket_core.specs.History.{History}
 use Rattle.store_model.specs.Law.{IsLawful}
 use Rattle.expr_clause.specs.declared.command.Command.{Command}
+use Rattle.reply_model.specs.declared.reply.Reply.{Reply}
 use Rattle.reply_model.specs.Windows.{Window, Client}
 use Rattle.reply_model.specs.Runs.{Talk, IsLegalRun}
 use Rattle.reply_model.specs.Blocks.{Cutting}
@@ -20,7 +21,8 @@ pub record Parts : Type 0 where
   pub last : List Command
 
 -- the history goes on lawfully from an older one; the replies of all parts are legal in it, the first and the last ones as those of the
--- client `own`; and these two parts, where all their commands are served and none of their replies is cut, are runs of this client alone
+-- client `own`; and these two parts, and the block of a script that has just one, are each a run of one client alone, where all commands of the
+-- part are served and none of its replies is cut
 pub record IsRun (cutting : Cutting) (client : ℕ → Client) (own : ℕ) (parts : Parts) (replies : PartReplies) (old new : History) : Type 0 where
   pub more : History
   pub goes_on : new ≡ more ++ old
@@ -35,4 +37,7 @@ pub record IsRun (cutting : Cutting) (client : ℕ → Client) (own : ℕ) (part
   pub before_last : History
   pub without_blocks : parts.blocks ≡ [] → before_last ≡ behind_first
   pub first_alone : IsLawful old → AreServed parts.first → AreUncut replies.first → RunsAlone cutting (client own).session parts.first replies.first old behind_first
+  -- whatever the number of the block's client is
+  pub block_alone : (block : List Command) (met : List Reply) → parts.blocks ≡ block ∷ [] → replies.blocks ≡ met ∷ [] → IsLawful old → AreServed block → AreUncut met
+      → (n : ℕ) → RunsAlone cutting (client n).session block met behind_first before_last
   pub last_alone : IsLawful old → AreServed parts.last → AreUncut replies.last → RunsAlone cutting (client own).session parts.last replies.last before_last new

@@ -99,7 +99,7 @@ pub(crate) fn run_blocks<R: Threads + Wait + Sync, G: Gate + Sync>(
     requires rooms { counts rooms.items ≡ reverse (map length blocks.now) }
     requires none { told.items ≡ [] }
     requires space { length blocks.now ≤ vec_capacity told }
-    ensures run { AreRun (clients_of frames.now settings (limit_of pass)) blocks.now (reverse result.1.items) pass result.0 }
+    ensures run { AreRun (run_cutting settings.cutting) (clients_of frames.now settings (limit_of pass)) blocks.now (reverse result.1.items) pass result.0 }
     ensures count { vec_len result.1 ≡ length blocks.now }
     ensures space { vec_capacity told ≤ vec_capacity result.1 }
 {
@@ -119,7 +119,7 @@ pub(crate) fn run_blocks<R: Threads + Wait + Sync, G: Gate + Sync>(
         rt,
         || -> (Pass, Vec<Items<Reply>>)
             requires { IsSync R.row × IsSync G.row × AreSettings settings × AllByRecursion (AreNamed (length frames.now)) rest.now × (counts rooms.items ≡ reverse (map length rest.now)) × (told.items ≡ []) × (length rest.now ≤ vec_capacity told) }
-            ensures { AreRun (clients_of frames.entry.now settings (limit_of pass)) rest.entry.now (reverse result.1.items) pass result.0 × (vec_len result.1 ≡ length rest.entry.now) × (vec_capacity told ≤ vec_capacity result.1) }
+            ensures { AreRun (run_cutting settings.cutting) (clients_of frames.entry.now settings (limit_of pass)) rest.entry.now (reverse result.1.items) pass result.0 × (vec_len result.1 ≡ length rest.entry.now) × (vec_capacity told ≤ vec_capacity result.1) }
         { run_blocks(rt, alloc, pass, gate, settings, frames, rest, rooms, told) },
         || -> (Pass, Items<Reply>)
             requires { AreSettings settings × AreNamed (length frames.now) commands.now × (length commands.now ≡ room.count) }

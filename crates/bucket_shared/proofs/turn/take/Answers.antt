@@ -33,3 +33,6 @@ returns-clause-ended g c =
 
 pub returns-clause-had : goal.returns-clause-had
 returns-clause-had g c = ∣ AreHad-finds c.args.seat.now.me.0 c.take.new.seat.me.0 c.take.ensures.finds ∣₁
+
+pub returns-clause-noted : goal.returns-clause-noted
+returns-clause-noted g c = c.take.ensures.finds.noted

@@ -12,10 +12,10 @@ use Rattle.client_sessions.proofs.parts.run_parts.Goals as goal
 begun : (g : Over) (c : goal.After-in_order g) → IsSessionOf (run_cutting c.args.settings.cutting) (clients_of c.args.frames.now c.args.settings (limit_of c.args.pass)) c.args.first.now c.session-pass.result.1 c.args.pass c.session-pass.result.0
 begun g c = subst (λ (s : Settings). IsSessionOf (run_cutting s.cutting) (clients_of c.args.frames.now s (limit_of c.args.pass)) c.args.first.now c.session-pass.result.1 c.args.pass c.session-pass.result.0) c.again.ensures c.session-pass.ensures
 
-met : (g : Over) (c : goal.After-in_order g) → AreRun (clients_of c.args.frames.now c.args.settings (limit_of c.args.pass)) c.args.blocks.now c.in_order.result c.session-pass.result.0 c.run_blocks-pass.result.0
+met : (g : Over) (c : goal.After-in_order g) → AreRun (run_cutting c.args.settings.cutting) (clients_of c.args.frames.now c.args.settings (limit_of c.args.pass)) c.args.blocks.now c.in_order.result c.session-pass.result.0 c.run_blocks-pass.result.0
 met g c =
-    subst (λ (n : ℕ). AreRun (clients_of c.args.frames.now c.args.settings n) c.args.blocks.now c.in_order.result c.session-pass.result.0 c.run_blocks-pass.result.0) (begun g c).limit
-    (subst (λ (told : List (List Reply)). AreRun (clients_of c.args.frames.now c.args.settings (limit_of c.session-pass.result.0)) c.args.blocks.now told c.session-pass.result.0 c.run_blocks-pass.result.0) (sym c.in_order.ensures) c.run_blocks-pass.ensures.run)
+    subst (λ (n : ℕ). AreRun (run_cutting c.args.settings.cutting) (clients_of c.args.frames.now c.args.settings n) c.args.blocks.now c.in_order.result c.session-pass.result.0 c.run_blocks-pass.result.0) (begun g c).limit
+    (subst (λ (told : List (List Reply)). AreRun (run_cutting c.args.settings.cutting) (clients_of c.args.frames.now c.args.settings (limit_of c.session-pass.result.0)) c.args.blocks.now told c.session-pass.result.0 c.run_blocks-pass.result.0) (sym c.in_order.ensures) c.run_blocks-pass.ensures.run)
 
 ended : (g : Over) (c : goal.After-in_order g) → IsSessionOf (run_cutting c.args.settings.cutting) (clients_of c.args.frames.now c.args.settings (limit_of c.args.pass)) c.args.last.now c.session-pass-2.result.1 c.run_blocks-pass.result.0 c.session-pass-2.result.0
 ended g c =
