@@ -10,11 +10,12 @@ use Rattle.expr_clause.specs.declared.command.Command.{Command}
 use Rattle.reply_model.specs.declared.outcome.Outcome.{Outcome}
 use Rattle.reply_model.specs.declared.outcome.Outcome.TheVariants as outcomes
 use Rattle.reply_model.specs.declared.reply.Reply.{Reply}
+use Rattle.reply_model.specs.Answering.{Session}
 use Rattle.reply_model.specs.Windows.{Window, Client, is_cut, is_refused}
 use Rattle.reply_model.specs.Legal.{IsLegalOutcome, LegalFrom}
 use Rattle.reply_model.specs.Runs.{Talk, end_of, latest_end}
 use Rattle.reply_model.specs.Sole.{SoleRun, sole}
-use Rattle.reply_model.specs.Standing.{RunsAlone, RunsAreSole}
+use Rattle.reply_model.specs.Standing.{RunsAlone, RunsGrow, BlocksAreSole}
 use Rattle.store_model.specs.Law.{IsLawful}
 use Rattle.program_edge.specs.Clocks.{IsReading}
 use Rattle.arctic_cli.specs.declared.stop.Stop.{Stop}
@@ -25,7 +26,6 @@ use Rattle.arctic_cli.specs.Program.{Shelf, Job, Run, run_of, wants_memory, some
 use Rattle.arctic_cli.specs.Causes.{Prepares}
 use Rattle.arctic_cli.specs.Endings.{Start, client_of, Performs, IsDue, Due, AllWritten, RunEnds, Ends, HasServed, IsUnhindered, IsRun}
 use Rattle.arctic_cli.proofs.Told.{prepares-told}
-use Rattle.arctic_cli.proofs.SoleRuns.{sole-parts}
 use Rattle.script_lang.specs.Fronts.{◌>>=◌}
 
 -- ---- replies that are not cut
@@ -89,15 +89,6 @@ all-uncut h client from [] (r ∷ rs) ws l calm memory below = absurd l
 all-uncut h client from (c ∷ cs) [] ws l calm memory below = absurd l
 all-uncut h client from (c ∷ cs) (r ∷ rs) [] l calm memory below = absurd l
 
--- there is a reply for each command
-legal-length : (h : History) (client : Client) (from : ℕ) (cs : List Command) (rs : List Reply) (ws : List Window) → LegalFrom h client from cs rs ws → length rs ≡ length cs
-legal-length h client from [] [] [] l = refl
-legal-length h client from (c ∷ cs) (r ∷ rs) (w ∷ ws) l = ap suc (legal-length h client w.stop cs rs ws l.2)
-legal-length h client from [] [] (w ∷ ws) l = absurd l
-legal-length h client from [] (r ∷ rs) ws l = absurd l
-legal-length h client from (c ∷ cs) [] ws l = absurd l
-legal-length h client from (c ∷ cs) (r ∷ rs) [] l = absurd l
-
 -- without blocks there are no replies of blocks
 no-blocks : (client : ℕ → Client) (blocks : List (List Command)) (replies : List (List Reply)) (talks : List Talk) → AreTalksOf client blocks replies talks → blocks ≡ [] → replies ≡ []
 no-blocks client [] [] talks are none = refl
@@ -108,9 +99,9 @@ no-blocks client (b ∷ blocks) replies talks are none = absurd cc
 -- ---- the run
 
 -- a run of a job without blocks
-job-exact : (are_sole : RunsAreSole) (start : Start) (job : Job) (run : Run) (moment : ℤ) (told : Text) (after : Option Text) (status : ℕ) (new : History) → start.reading ≡ Some moment → start.history ≡ [] → start.client ≡ 1 → length new < start.limit →
+job-exact : (grow : RunsGrow) (are_sole : BlocksAreSole) (start : Start) (job : Job) (run : Run) (moment : ℤ) (told : Text) (after : Option Text) (status : ℕ) (new : History) → start.reading ≡ Some moment → start.history ≡ [] → start.client ≡ 1 → length new < start.limit →
     job.parts.blocks ≡ [] → AreServed job.parts.first → AreServed job.parts.last → Performs start job run new → AllWritten run (Some told) after status → (status ≡ 6) ⊎ IsRun (run_from moment (Ok job)) told after status
-job-exact are_sole start job run moment told after status new reading empty one below none first_served last_served p w = of (some_reply wants_memory p.replies) refl
+job-exact grow are_sole start job run moment told after status new reading empty one below none first_served last_served p w = of (some_reply wants_memory p.replies) refl
   where
     same : p.moment ≡ moment
     same = subst (λ o. IsReading o p.moment) reading p.told
@@ -134,11 +125,15 @@ job-exact are_sole start job run moment told after status new reading empty one 
     lawful : IsLawful start.history
     lawful = subst (λ (h : History). IsLawful h) (sym empty) tt
 
+    -- there is no second client
+    second : Session
+    second = record { frames = job.frames; moment = p.moment; tries = job.tries; client = 2 }
+
     is_sole : some_reply wants_memory p.replies ≡ false → sole job.cutting job.frames p.moment job.parts.first [] job.parts.last ≡ Some (record { first = p.replies.first; block = []; last = p.replies.last; events = length new })
-    is_sole calm = sole-parts are_sole job.cutting (client_of start job p.moment start.client).session job.parts.first job.parts.last p.replies.first p.replies.last p.ran.behind_first new one
-        (legal-length new (client_of start job p.moment start.client) (length start.history) job.parts.first p.replies.first p.ran.first p.ran.legal.first_legal)
+    is_sole calm = are_sole job.cutting (client_of start job p.moment start.client).session second job.parts.first [] job.parts.last p.replies.first [] p.replies.last p.ran.behind_first p.ran.behind_first new one refl refl refl
         (subst (λ (h : History). RunsAlone job.cutting (client_of start job p.moment start.client).session job.parts.first p.replies.first h p.ran.behind_first) empty
         (p.ran.first_alone lawful first_served (first_uncut calm)))
+        (grow.none job.cutting second p.ran.behind_first)
         (subst (λ (h : History). RunsAlone job.cutting (client_of start job p.moment start.client).session job.parts.last p.replies.last h new) (p.ran.without_blocks none)
         (p.ran.last_alone lawful last_served (last_uncut calm)))
 
@@ -165,27 +160,27 @@ job-exact are_sole start job run moment told after status new reading empty one 
         (subst (λ (o : Option Run). IsRun o told after status) (sym (alone_is is)) written))
 
 -- all was written
-plan-exact : (are_sole : RunsAreSole) (start : Start) (plan : Result Job Stop) (run : Run) (moment : ℤ) (told : Text) (after : Option Text) (status : ℕ) (new : History) → start.reading ≡ Some moment → start.history ≡ [] → start.client ≡ 1 → length new < start.limit →
+plan-exact : (grow : RunsGrow) (are_sole : BlocksAreSole) (start : Start) (plan : Result Job Stop) (run : Run) (moment : ℤ) (told : Text) (after : Option Text) (status : ℕ) (new : History) → start.reading ≡ Some moment → start.history ≡ [] → start.client ≡ 1 → length new < start.limit →
     HasServed plan → IsDue start plan run new → AllWritten run (Some told) after status → (status ≡ 6) ⊎ IsRun (run_from moment plan) told after status
-plan-exact are_sole start (Ok job) run moment told after status new reading empty one below served due w =
-    job-exact are_sole start job run moment told after status new reading empty one below served.0 served.1 served.2 due w
-plan-exact are_sole start (Err s) run moment told after status new reading empty one below served due w =
+plan-exact grow are_sole start (Ok job) run moment told after status new reading empty one below served due w =
+    job-exact grow are_sole start job run moment told after status new reading empty one below served.0 served.1 served.2 due w
+plan-exact grow are_sole start (Err s) run moment told after status new reading empty one below served due w =
     inr (w.status_is ∙ ap (λ (r : Run). r.status) due.0, w.output ∙ ap (λ (r : Run). some (told ++ concat r.lines)) due.0)
   where
     some : Text → Option Text
     some t = Some t
 
-due-exact : (are_sole : RunsAreSole) (start : Start) (f0 f1 g0 g1 : ℕ) (held : Shelf) (told : Text) (moment : ℤ) (w0 w1 : Option Text) (status : ℕ) (new : History) → IsUnhindered start f0 f1 g0 g1 held told moment w0 new → (due : Due start f0 f1 new) →
+due-exact : (grow : RunsGrow) (are_sole : BlocksAreSole) (start : Start) (f0 f1 g0 g1 : ℕ) (held : Shelf) (told : Text) (moment : ℤ) (w0 w1 : Option Text) (status : ℕ) (new : History) → IsUnhindered start f0 f1 g0 g1 held told moment w0 new → (due : Due start f0 f1 new) →
     RunEnds due.run g0 g1 w0 w1 status → (status ≡ 6) ⊎ IsRun (run_alone moment held start.words) told w1 status
-due-exact are_sole start f0 f1 g0 g1 held told moment w0 w1 status new u due (inr (inl p)) = absurd (u.output_works p.1)
-due-exact are_sole start f0 f1 g0 g1 held told moment w0 w1 status new u due (inr (inr p)) = inl p.0
-due-exact are_sole start f0 f1 g0 g1 held told moment w0 w1 status new u due (inl w) =
+due-exact grow are_sole start f0 f1 g0 g1 held told moment w0 w1 status new u due (inr (inl p)) = absurd (u.output_works p.1)
+due-exact grow are_sole start f0 f1 g0 g1 held told moment w0 w1 status new u due (inr (inr p)) = inl p.0
+due-exact grow are_sole start f0 f1 g0 g1 held told moment w0 w1 status new u due (inl w) =
     let made : prepared held start.words ≡ due.plan = prepares-told held f0 f1 start.words due.plan u.shelf_works (subst (λ h. Prepares h f0 f1 start.words due.plan) u.tells due.prepares) in
     subst (λ (x : Result Job Stop). (status ≡ 6) ⊎ IsRun (run_from moment x) told w1 status) (sym made)
-    (plan-exact are_sole start due.plan due.run moment told w1 status new u.reading u.empty u.first u.room (subst HasServed made u.served) due.is_due (subst (λ (o : Option Text). AllWritten due.run o w1 status) u.written w))
+    (plan-exact grow are_sole start due.plan due.run moment told w1 status new u.reading u.empty u.first u.room (subst HasServed made u.served) due.is_due (subst (λ (o : Option Text). AllWritten due.run o w1 status) u.written w))
 
 -- where nothing hinders it, the run is that of one client alone, or memory was wanted
-pub exact : (are_sole : RunsAreSole) (start : Start) (f0 f1 g0 g1 : ℕ) (held : Shelf) (told : Text) (moment : ℤ) (w0 w1 : Option Text) (status : ℕ) (new : History) → IsUnhindered start f0 f1 g0 g1 held told moment w0 new →
+pub exact : (grow : RunsGrow) (are_sole : BlocksAreSole) (start : Start) (f0 f1 g0 g1 : ℕ) (held : Shelf) (told : Text) (moment : ℤ) (w0 w1 : Option Text) (status : ℕ) (new : History) → IsUnhindered start f0 f1 g0 g1 held told moment w0 new →
     Ends start f0 f1 g0 g1 w0 w1 status new → (status ≡ 6) ⊎ IsRun (run_alone moment held start.words) told w1 status
-exact are_sole start f0 f1 g0 g1 held told moment w0 w1 status new u (inl e) = due-exact are_sole start f0 f1 g0 g1 held told moment w0 w1 status new u e.0 e.1
-exact are_sole start f0 f1 g0 g1 held told moment w0 w1 status new u (inr e) = inl e.0
+exact grow are_sole start f0 f1 g0 g1 held told moment w0 w1 status new u (inl e) = due-exact grow are_sole start f0 f1 g0 g1 held told moment w0 w1 status new u e.0 e.1
+exact grow are_sole start f0 f1 g0 g1 held told moment w0 w1 status new u (inr e) = inl e.0

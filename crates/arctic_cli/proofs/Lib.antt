@@ -9,5 +9,4 @@ pub mod Ready
 pub mod Running
 pub mod Ended
 pub mod Told
-pub mod SoleRuns
 pub mod Alone

@@ -272,7 +272,7 @@ fn a_reclaim_keeps_the_tiles_that_an_append_shares(rt: HostRuntime) -> Result<()
 }
 
 /// The status of `run day.arc --rows 2` over the files six, mid and e, and what it printed.
-fn ran_six<R: Wait>(rt: &R, alloc: Global, script: &str) -> Result<(u8, MemorySink), Fail> {
+fn ran_six<R: Threads + Wait + Sync>(rt: &R, alloc: Global, script: &str) -> Result<(u8, MemorySink), Fail> {
     let files = [
         ("day.arc", script),
         (

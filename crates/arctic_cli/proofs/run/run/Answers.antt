@@ -29,5 +29,5 @@ pub returns-clause-transcript : goal.returns-clause-transcript
 returns-clause-transcript g c = transcript-way _ _ _ _ _ _ _ _ _ (way _ _ _ _ _ _ _ _ _ (c.run_words.ensures.ends (g.C.Clock.reading c.args.clock.now) (let fits : SFits w64 c.now-moment.result = search rules in told-again (g.C.Clock.reading c.args.clock.now) c.now-moment.result fits c.now-moment.ensures)))
 
 pub returns-clause-complete : goal.returns-clause-complete
-returns-clause-complete g c = λ held told moment u. exact c.runs_alone_are_sole.ensures.sole _ _ _ _ _ held told moment _ _ _ _ u
+returns-clause-complete g c = λ held told moment u. exact c.runs_alone_are_sole.ensures.grow c.runs_alone_are_sole.ensures.blocks _ _ _ _ _ held told moment _ _ _ _ u
     (c.run_words.ensures.ends (g.C.Clock.reading c.args.clock.now) (let fits : SFits w64 c.now-moment.result = search rules in told-again (g.C.Clock.reading c.args.clock.now) c.now-moment.result fits c.now-moment.ensures))
