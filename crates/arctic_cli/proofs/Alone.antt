@@ -1,5 +1,5 @@
 -- Where nothing hinders a run of one client alone, it is that of the fold.
-use Rattle.std.proofs.Common.{◌≡◌, ℕ, ℤ, ◌<◌, ◌⊎◌, suc, Bool, true, false, cond, List, [], ◌∷◌, ◌++◌, length, Option, Some, Result, Ok, Err, refl, sym, ap, ◌∙◌, subst, inl, inr, arith}
+use Rattle.std.proofs.Common.{◌≡◌, ℕ, ℤ, ◌<◌, ◌≤◌, ◌⊎◌, suc, Bool, true, false, cond, List, [], ◌∷◌, ◌++◌, length, Option, Some, Result, Ok, Err, refl, sym, ap, ◌∙◌, subst, inl, inr, arith}
 use Rattle.std.specs.Prelude.{◌||◌, option_map}
 use Rattle.std.specs.List.{AllByRecursion, concat, list_any}
 use Rattle.std.proofs.lemmas.Bool.{true≢false}
@@ -13,7 +13,7 @@ use Rattle.reply_model.specs.declared.reply.Reply.{Reply}
 use Rattle.reply_model.specs.Answering.{Session}
 use Rattle.reply_model.specs.Windows.{Window, Client, is_cut, is_refused}
 use Rattle.reply_model.specs.Legal.{IsLegalOutcome, LegalFrom}
-use Rattle.reply_model.specs.Runs.{Talk, end_of, latest_end}
+use Rattle.reply_model.specs.Runs.{Talk, IsLegalTalk, HasNoFault, end_of, latest_end}
 use Rattle.reply_model.specs.Sole.{SoleRun, sole}
 use Rattle.reply_model.specs.Standing.{RunsAlone, RunsGrow, BlocksAreSole}
 use Rattle.store_model.specs.Law.{IsLawful}
@@ -96,12 +96,28 @@ no-blocks client [] (r ∷ replies) [] are none = absurd are
 no-blocks client [] (r ∷ replies) (t ∷ talks) are none = absurd are
 no-blocks client (b ∷ blocks) replies talks are none = absurd cc
 
+-- of one block there are the replies of one
+one-met : (client : ℕ → Client) (block : List Command) (replies : List (List Reply)) (talks : List Talk) → AreTalksOf client (block ∷ []) replies talks → (met : List Reply) × (replies ≡ met ∷ [])
+one-met client block [] [] are = absurd are
+one-met client block [] (t ∷ talks) are = absurd are
+one-met client block (met ∷ replies) [] are = absurd are
+one-met client block (met ∷ []) (t ∷ talks) are = (met, refl)
+one-met client block (met ∷ next ∷ more) (t ∷ []) are = absurd are.1
+one-met client block (met ∷ next ∷ more) (t ∷ u ∷ talks) are = absurd are.1
+
+-- the replies of one block are not cut, where none is want of memory and the limit was not reached
+met-uncut : (start : Start) (job : Job) (moment : ℤ) (new : History) (from : ℕ) (block : List Command) (met : List Reply) (talks : List Talk) → AreTalksOf (client_of start job moment) (block ∷ []) (met ∷ []) talks →
+    AllByRecursion (IsLegalTalk new from) talks → AllByRecursion HasNoFault talks → list_any (λ (r : Reply). wants_memory r.outcome) met ≡ false → length new < start.limit → AreUncut met
+met-uncut start job moment new from block met [] are legal calm memory below = absurd are
+met-uncut start job moment new from block met (t ∷ talks) are legal calm memory below =
+    all-uncut new (client_of start job moment t.client.session.client) from block met t.windows (subst (λ (x : Talk). IsLegalTalk new from x) are.0 legal.0) calm.0 memory below
+
 -- ---- the run
 
--- a run of a job without blocks
+-- a run of a job with at most one block
 job-exact : (grow : RunsGrow) (are_sole : BlocksAreSole) (start : Start) (job : Job) (run : Run) (moment : ℤ) (told : Text) (after : Option Text) (status : ℕ) (new : History) → start.reading ≡ Some moment → start.history ≡ [] → start.client ≡ 1 → length new < start.limit →
-    job.parts.blocks ≡ [] → AreServed job.parts.first → AreServed job.parts.last → Performs start job run new → AllWritten run (Some told) after status → (status ≡ 6) ⊎ IsRun (run_from moment (Ok job)) told after status
-job-exact grow are_sole start job run moment told after status new reading empty one below none first_served last_served p w = of (some_reply wants_memory p.replies) refl
+    length job.parts.blocks ≤ 1 → AreServed job.parts.first → AllByRecursion AreServed job.parts.blocks → AreServed job.parts.last → Performs start job run new → AllWritten run (Some told) after status → (status ≡ 6) ⊎ IsRun (run_from moment (Ok job)) told after status
+job-exact grow are_sole start job run moment told after status new reading empty one below few first_served blocks_served last_served p w = of (some_reply wants_memory p.replies) refl
   where
     same : p.moment ≡ moment
     same = subst (λ o. IsReading o p.moment) reading p.told
@@ -125,17 +141,21 @@ job-exact grow are_sole start job run moment told after status new reading empty
     lawful : IsLawful start.history
     lawful = subst (λ (h : History). IsLawful h) (sym empty) tt
 
-    -- there is no second client
-    second : Session
-    second = record { frames = job.frames; moment = p.moment; tries = job.tries; client = 2 }
+    middle : some_reply wants_memory p.replies ≡ false → list_any (some_outcome wants_memory) p.replies.blocks ≡ false
+    middle calm = or-second (some_outcome wants_memory p.replies.first) (list_any (some_outcome wants_memory) p.replies.blocks)
+        (or-first (some_outcome wants_memory p.replies.first || list_any (some_outcome wants_memory) p.replies.blocks) (some_outcome wants_memory p.replies.last) calm)
 
-    is_sole : some_reply wants_memory p.replies ≡ false → sole job.cutting job.frames p.moment job.parts.first [] job.parts.last ≡ Some (record { first = p.replies.first; block = []; last = p.replies.last; events = length new })
-    is_sole calm = are_sole job.cutting (client_of start job p.moment start.client).session second job.parts.first [] job.parts.last p.replies.first [] p.replies.last p.ran.behind_first p.ran.behind_first new one refl refl refl
+    -- the client of the one block
+    second : Session
+    second = (client_of start job p.moment 2).session
+
+    -- the run with this block between the first and the last commands
+    is_sole : some_reply wants_memory p.replies ≡ false → (block : List Command) (met : List Reply) → RunsAlone job.cutting second block met p.ran.behind_first p.ran.before_last →
+        sole job.cutting job.frames p.moment job.parts.first block job.parts.last ≡ Some (record { first = p.replies.first; block = met; last = p.replies.last; events = length new })
+    is_sole calm block met runs = are_sole job.cutting (client_of start job p.moment start.client).session second job.parts.first block job.parts.last p.replies.first met p.replies.last p.ran.behind_first p.ran.before_last new one refl refl refl
         (subst (λ (h : History). RunsAlone job.cutting (client_of start job p.moment start.client).session job.parts.first p.replies.first h p.ran.behind_first) empty
         (p.ran.first_alone lawful first_served (first_uncut calm)))
-        (grow.none job.cutting second p.ran.behind_first)
-        (subst (λ (h : History). RunsAlone job.cutting (client_of start job p.moment start.client).session job.parts.last p.replies.last h new) (p.ran.without_blocks none)
-        (p.ran.last_alone lawful last_served (last_uncut calm)))
+        runs (p.ran.last_alone lawful last_served (last_uncut calm))
 
     -- the replies are those of the run alone
     told_parts : List (List Reply) → PartReplies
@@ -144,12 +164,35 @@ job-exact grow are_sole start job run moment told after status new reading empty
     is_run : Run → Option Run
     is_run r = Some r
 
+    -- the run of these blocks
+    run_with : List (List Command) → Option Run
+    run_with blocks = one_block blocks >>= λ block. option_map (λ (r : SoleRun). run_of job.names (replies_alone blocks r) r.events) (sole job.cutting job.frames p.moment job.parts.first block job.parts.last)
+
+    told_with : (blocks : List (List Reply)) → p.replies.blocks ≡ blocks → Some (run_of job.names (told_parts blocks) (length new)) ≡ Some run
+    told_with blocks is = ap (λ (b : List (List Reply)). is_run (run_of job.names (told_parts b) (length new))) (sym is) ∙ ap is_run (sym p.run_is)
+
+    alone_with : some_reply wants_memory p.replies ≡ false → (blocks : List (List Command)) → job.parts.blocks ≡ blocks → length blocks ≤ 1 → AllByRecursion AreServed blocks → run_with blocks ≡ Some run
+    alone_with calm [] is short served =
+        ap (option_map (λ (r : SoleRun). run_of job.names (replies_alone [] r) r.events))
+        (is_sole calm [] [] (subst (λ (h : History). RunsAlone job.cutting second [] [] p.ran.behind_first h) (sym (p.ran.without_blocks is)) (grow.none job.cutting second p.ran.behind_first)))
+        ∙ told_with [] (no-blocks (client_of start job p.moment) job.parts.blocks p.replies.blocks p.ran.clients p.ran.clients_are is)
+    alone_with calm (block ∷ []) is short served =
+        let are : AreTalksOf (client_of start job p.moment) (block ∷ []) p.replies.blocks p.ran.clients = subst (λ (b : List (List Command)). AreTalksOf (client_of start job p.moment) b p.replies.blocks p.ran.clients) is p.ran.clients_are in
+        with_met (one-met (client_of start job p.moment) block p.replies.blocks p.ran.clients are) are
+      where
+        with_met : (m : (met : List Reply) × (p.replies.blocks ≡ met ∷ [])) → AreTalksOf (client_of start job p.moment) (block ∷ []) p.replies.blocks p.ran.clients → run_with (block ∷ []) ≡ Some run
+        with_met (met, met_is) are =
+            let memory : list_any (some_outcome wants_memory) (met ∷ []) ≡ false = subst (λ (b : List (List Reply)). list_any (some_outcome wants_memory) b ≡ false) met_is (middle calm) in
+            let uncut : AreUncut met = met-uncut start job p.moment new (end_of (length start.history) p.ran.first) block met p.ran.clients
+            (subst (λ (b : List (List Reply)). AreTalksOf (client_of start job p.moment) (block ∷ []) b p.ran.clients) met_is are) p.ran.legal.clients_legal p.ran.legal.no_fault.1.1
+            (or-first (some_outcome wants_memory met) false memory) below in
+            ap (option_map (λ (r : SoleRun). run_of job.names (replies_alone (block ∷ []) r) r.events))
+            (is_sole calm block met (p.ran.block_alone block met is met_is lawful served.0 uncut 2))
+            ∙ told_with (met ∷ []) met_is
+    alone_with calm (block ∷ next ∷ more) is short served = absurd (omega (arith, short))
+
     alone_is : some_reply wants_memory p.replies ≡ false → run_from p.moment (Ok job) ≡ Some run
-    alone_is calm =
-        subst (λ (blocks : List (List Command)). (one_block blocks >>= λ block. option_map (λ (r : SoleRun). run_of job.names (replies_alone blocks r) r.events) (sole job.cutting job.frames p.moment job.parts.first block job.parts.last)) ≡ Some run) (sym none)
-        (ap (option_map (λ (r : SoleRun). run_of job.names (replies_alone [] r) r.events)) (is_sole calm)
-        ∙ ap (λ (blocks : List (List Reply)). is_run (run_of job.names (told_parts blocks) (length new))) (sym (no-blocks (client_of start job p.moment) job.parts.blocks p.replies.blocks p.ran.clients p.ran.clients_are none))
-        ∙ ap is_run (sym p.run_is))
+    alone_is calm = alone_with calm job.parts.blocks refl few blocks_served
 
     written : IsRun (Some run) told after status
     written = (w.status_is, w.output)
@@ -163,7 +206,7 @@ job-exact grow are_sole start job run moment told after status new reading empty
 plan-exact : (grow : RunsGrow) (are_sole : BlocksAreSole) (start : Start) (plan : Result Job Stop) (run : Run) (moment : ℤ) (told : Text) (after : Option Text) (status : ℕ) (new : History) → start.reading ≡ Some moment → start.history ≡ [] → start.client ≡ 1 → length new < start.limit →
     HasServed plan → IsDue start plan run new → AllWritten run (Some told) after status → (status ≡ 6) ⊎ IsRun (run_from moment plan) told after status
 plan-exact grow are_sole start (Ok job) run moment told after status new reading empty one below served due w =
-    job-exact grow are_sole start job run moment told after status new reading empty one below served.0 served.1 served.2 due w
+    job-exact grow are_sole start job run moment told after status new reading empty one below served.0 served.1 served.2 served.3 due w
 plan-exact grow are_sole start (Err s) run moment told after status new reading empty one below served due w =
     inr (w.status_is ∙ ap (λ (r : Run). r.status) due.0, w.output ∙ ap (λ (r : Run). some (told ++ concat r.lines)) due.0)
   where

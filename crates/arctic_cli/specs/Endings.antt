@@ -6,10 +6,10 @@
 --     AllWritten, RunEnds     how the lines of a run came to be written, or not
 --     JobEnds, Ends           the endings of a job, and all endings
 --     IsTranscript, StopsByUsage, StopsByScript, StopsByFetch, StopsByPut, WantsMemory, StopsByFile      the ending of each status
---     HasServed, IsUnhindered      nothing hinders a run of one client alone
+--     HasServed, IsUnhindered      nothing hinders a run of which one client alone makes each part
 --     IsRun                   exactly the status and the output of a run
 use Rattle.std.specs.Prelude.{◌≡◌, ◌⊎◌, ⊤, ◌<◌, ◌≤◌, ℕ, ℤ, List, [], ◌++◌, length, take, Option, Some, None, Result, Ok, Err}
-use Rattle.std.specs.List.{concat}
+use Rattle.std.specs.List.{AllByRecursion, concat}
 use Rattle.base_types.specs.Faults.{Rose}
 use Rattle.frame_core.specs.Texts.{Text}
 use Rattle.bucket_core.specs.History.{History}
@@ -162,14 +162,14 @@ WantsMemory start shelf_faults shelf_now before after new =
 
 -- ---- completeness
 
--- the job, if there is one, has no block, and of each of its commands it is told what one client alone gets
+-- the job, if there is one, has at most one block, and of each of its commands it is told what one client alone gets
 abbrev pub HasServed : Result Job Stop → Type 0
-HasServed (Ok job) = (job.parts.blocks ≡ []) × AreServed job.parts.first × AreServed job.parts.last
+HasServed (Ok job) = (length job.parts.blocks ≤ 1) × AreServed job.parts.first × AllByRecursion AreServed job.parts.blocks × AreServed job.parts.last
 HasServed (Err stop) = ⊤
 
 -- nothing hinders a run of one client alone: shelf, output and clock tell what they hold; the store is empty and the pass that of client
--- 1; neither shelf nor output failed; the limit was not reached; there is no block; and no command is one of which it is not told what one
--- client alone gets
+-- 1; neither shelf nor output failed; the limit was not reached; there is at most one block; and no command is one of which it is not told
+-- what one client alone gets
 pub record IsUnhindered (start : Start) (shelf_faults shelf_now faults now : ℕ) (held : Shelf) (told : Text) (moment : ℤ) (before : Option Text) (new : History) : Type 0 where
   pub tells : start.holds ≡ Some held
   pub written : before ≡ Some told
