@@ -5,6 +5,11 @@ pub mod RunLemmas
 pub mod FrameLemmas
 pub mod ReplaceLemmas
 pub mod ToldLemmas
+pub mod SameLinks
+pub mod RowSizes
+pub mod ReplacedParts
+pub mod MadeLemmas
+pub mod AloneLemmas
 pub mod NewestLemmas
 pub mod LastLemmas
 pub mod GoneLemmas
