@@ -6,6 +6,9 @@ pub mod FrameLemmas
 pub mod ReplaceLemmas
 pub mod ToldLemmas
 pub mod SameLinks
+pub mod PartLists
+pub mod SlotSizes
+pub mod RangeCounts
 pub mod RowSizes
 pub mod ReplacedParts
 pub mod MadeLemmas

@@ -25,7 +25,6 @@ use Rattle.append_update.specs.Bases.{Divides}
 use Rattle.append_update.specs.Looking.{RefusesPlan}
 use Rattle.append_update.specs.Newest.{IsNewest}
 use Rattle.append_update.specs.Replacing.{replaced, AreEdges}
-use Rattle.append_update.specs.RowBlocks.{run_cutting}
 use Rattle.append_update.proofs.PlanLemmas.{inside_range}
 use Rattle.append_update.proofs.UpdateAnswers.{MayReplace, update_plan_fits, update_answers}
 use Rattle.append_update.proofs.ReplacedParts.{replaced_parts}
@@ -39,7 +38,7 @@ replace_over_is h symbol options v base range cuts edges frame plan n divides ar
     subst (IsPlanOf h symbol options (λ st. update_answer st upsert options.prune options.at (Some range) frame)) (sym is) (record {
       fits = update_plan_fits h symbol options.at v base.index range cuts edges frame n divides are f may;
       answered = update_answers (state_of h symbol) upsert options.prune options.at (Some range) frame range (inside_range range frame inside) v n.is may;
-      blocks = λ small. replaced_parts (run_cutting options.cutting) h symbol v base.index range cuts edges frame options.at n divides are small;
+      blocks = λ cut small. replaced_parts options.cutting cut h symbol v base.index range cuts edges frame options.at n may.order divides are small;
     })
 
 -- ---- a version is made behind a reference

@@ -1,9 +1,8 @@
 -- The row blocks of pieces, and of the slots that are laid out of them.
-use Rattle.std.proofs.Common.{◌≡◌, ℕ, suc, ◌+◌, Bool, true, false, List, [], ◌∷◌, ◌++◌, length, map, refl, sym, ap, ◌∙◌, subst, arith, cond, None}
-use Rattle.std.specs.Prelude.{ℤ, ◌*◌, filter, nat_eq}
+use Rattle.std.proofs.Common.{◌≡◌, ℕ, suc, ◌+◌, List, [], ◌∷◌, ◌++◌, length, map, refl, sym, ap, ◌∙◌, subst, arith, cond, None}
+use Rattle.std.specs.Prelude.{ℤ, ◌*◌, nat_eq}
 use Rattle.std.specs.List.{AllByRecursion}
-use Rattle.std.proofs.lemmas.List.{map-append, append-nil}
-use Rattle.std.proofs.lemmas.List.Elements.{filter-append}
+use Rattle.std.proofs.lemmas.List.{append-nil}
 use Rattle.frame_core.specs.declared.part.Part as frame_parts
 use Rattle.frame_core.specs.Ranges.{Range}
 use Rattle.frame_core.specs.Schemas.{Schema}
@@ -24,22 +23,9 @@ use Rattle.frame_write.specs.declared.pieces.Piece.TheVariants as pieces
 use Rattle.frame_write.specs.Pieces.{begin_of, size_of, IsPiece, moved, fresh_slot, fresh_slots, laid, new_tiles}
 use Rattle.append_update.specs.Replacing.{appended}
 use Rattle.append_update.specs.RowBlocks.{run_cutting, sizes_in, new_blocks, AreParts}
+use Rattle.append_update.proofs.SlotSizes.{begins, row_sizes-append, row_sizes-cons}
 
 -- ---- the rows of slots
-
--- a slot begins a row block
-abbrev pub begins : Slot → Bool
-begins s = nat_eq s.part.first_col 0
-
-pub row_sizes-append : (xs ys : List Slot) → row_sizes (xs ++ ys) ≡ row_sizes xs ++ row_sizes ys
-row_sizes-append xs ys = ap (map (λ (s : Slot). s.part.rows)) (filter-append begins xs ys) ∙ map-append (λ (s : Slot). s.part.rows) (filter begins xs) (filter begins ys)
-
-pub row_sizes-cons : (s : Slot) (slots : List Slot) → row_sizes (s ∷ slots) ≡ cond (begins s) (s.part.rows ∷ row_sizes slots) (row_sizes slots)
-row_sizes-cons s slots =
-    elim (begins s) as (λ b. map (λ (x : Slot). x.part.rows) (cond b (s ∷ filter begins slots) (filter begins slots)) ≡ cond b (s.part.rows ∷ row_sizes slots) (row_sizes slots)) [
-      | true ↦ refl
-      | false ↦ refl
-    ]
 
 moved_rows : (from to : ℕ) (run : List Slot) → row_sizes (map (moved from to) run) ≡ row_sizes run
 moved_rows from to [] = refl
@@ -86,14 +72,14 @@ module _ (cutting : Sizes) (cut : IsCutting cutting) (client : ℕ) (symbol : Na
 
 -- ---- how many tiles are new
 
-fresh_all : (sizes : List ℕ) → fresh_in (map fresh sizes) ≡ length sizes
+pub fresh_all : (sizes : List ℕ) → fresh_in (map fresh sizes) ≡ length sizes
 fresh_all [] = refl
 fresh_all (n ∷ sizes) = ap (λ k. suc k) (fresh_all sizes)
 
 -- those of each new row block
 pub tiles_counted : (cutting : Sizes) (schema : Schema) (slots : List Slot) (list : List Piece) → AllByRecursion (IsPiece schema slots) list
     → new_tiles cutting list ≡ new_blocks (run_cutting cutting) list * tiles_across (run_cutting cutting) (length schema.columns)
-tiles_counted cutting schema slots [] each = refl
+tiles_counted cutting schema slots [] each = omega arith
 tiles_counted cutting schema slots (pieces.Shared run ∷ list) each = tiles_counted cutting schema slots list each.1
 tiles_counted cutting schema slots (pieces.Fresh frame ∷ list) each =
     let c = run_cutting cutting in
@@ -107,7 +93,7 @@ tiles_counted cutting schema slots (pieces.Fresh frame ∷ list) each =
 
 -- ---- the parts of a version
 
-rows_fresh : (sizes : List ℕ) → map part_rows (map fresh sizes) ≡ sizes
+pub rows_fresh : (sizes : List ℕ) → map part_rows (map fresh sizes) ≡ sizes
 rows_fresh [] = refl
 rows_fresh (n ∷ sizes) = ap (λ ns. n ∷ ns) (rows_fresh sizes)
 

@@ -159,7 +159,7 @@ module _ (client : ℕ) (sole : Bool) (symbol : Name) (wish : Wish) (options : O
             split = before_is ∙ (ap (λ h. added ++ h) at.split ∙ sym (append_assoc added at.later at.before));
             unmoved = subst (λ st. IsUnmoved st (state_of m.before symbol)) same i.unmoved;
             put = λ cut small.
-                let are = of.blocks small in
+                let are = of.blocks cut small in
                 let c = run_cutting options.cutting in
                 let across = ap (λ o. option_map_or (λ (v : Version). tiles_across c (length v.frame.schema.columns)) o 0) (sym of.fits.makes) in
                 record {

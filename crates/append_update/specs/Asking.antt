@@ -10,6 +10,7 @@ use Rattle.frame_core.specs.declared.refusal.Refusal.{Refusal}
 use Rattle.frame_core.specs.declared.refusal.Refusal.TheVariants as refusals
 use Rattle.frame_core.specs.Ranges.{Range, IsRange}
 use Rattle.frame_core.specs.Limits.{IsStorable}
+use Rattle.segment_cut.specs.Cuttings.{IsCutting}
 use Rattle.key_kind.specs.Names.{Name}
 use Rattle.bucket_core.specs.declared.event.Change.{Change}
 use Rattle.bucket_core.specs.declared.event.Change.TheVariants as changes
@@ -62,7 +63,7 @@ Wants symbol wish options h = (c : Change) × (answer_to wish options.prune opti
 pub record IsPlanOf (h : History) (symbol : Name) (options : Options) (answer : State → Result Answer Refusal) (plan : LinkPlan) : Type 0 where
   pub fits : FitsPlan h symbol options.at plan
   pub answered : answer (state_of h symbol) ≡ Ok (committed (state_of h symbol) options.prune plan.change)
-  pub blocks : AreSmall (run_cutting options.cutting) h symbol → AreParts (run_cutting options.cutting) plan.pieces (parts_laid (run_cutting options.cutting) h symbol plan.change)
+  pub blocks : IsCutting options.cutting → AreSmall (run_cutting options.cutting) h symbol → AreParts (run_cutting options.cutting) plan.pieces (parts_laid (run_cutting options.cutting) h symbol plan.change)
 
 -- the plan where there is no live version; none where the command wants one
 abbrev pub IsAlone : Wish → ℤ → Option LinkPlan → Type 0
