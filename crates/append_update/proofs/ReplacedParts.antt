@@ -79,7 +79,7 @@ edge_blocks c (Some f) less = omega (arith, ap (λ (ns : List ℕ). length ns) (
 
 -- what lies below a range does not lie above it
 below_by : (range : Range) → IsRange range → (t : ℤ) → is_below range t ≡ true → not (is_above range t) ≡ true
-below_by range order t e = by range.from range.to order.order e
+below_by range order t e = by range.from range.to order e
   where
     by : (from to : Option ℤ) → InOrder from to → is_below (record { from = from; to = to }) t ≡ true → not (is_above (record { from = from; to = to }) t) ≡ true
     by None to o e = absurd (true≢false (sym e))
