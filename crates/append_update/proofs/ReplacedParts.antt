@@ -213,8 +213,7 @@ module _ (base : Frame) (index : Index) (of : IsIndexOf base index) (range : Ran
     starts [] stamps pass = tt
     starts (s ∷ xs) stamps pass =
         let size : s.part.first_row + s.part.rows - s.part.first_row ≡ s.part.rows = omega arith in
-        let first : first_stamp (take s.part.rows (drop s.part.first_row base.rows)) ≡ Some s.first = subst (λ n. first_stamp (take n (drop s.part.first_row base.rows)) ≡ Some s.first) size stamps.0.first in
-        (
+        let first : first_stamp (take s.part.rows (drop s.part.first_row base.rows)) ≡ Some s.first = subst (λ n. first_stamp (take n (drop s.part.first_row base.rows)) ≡ Some s.first) size stamps.0.first in (
           omega (arith, few_above range s.part.first_row s.part.rows base.rows s.first rising first (not_true (is_above range s.first) pass.0), both_counted (λ (r : Row). is_above range r.stamp) base.rows),
           starts xs stamps.1 pass.1,
         )
@@ -226,10 +225,10 @@ module _ (base : Frame) (index : Index) (of : IsIndexOf base index) (range : Ran
       where
         by : (n : ℕ) (xs : List Slot) → AllByRecursion (IsSlot columns) xs → Cover (length base.rows) columns xs → IsRun columns (take n xs) → AllByRecursion (λ (s : Slot). suc s.part.first_row ≤ up_to) (take n xs)
             → Begin up_to 0 (row_sizes (take n xs))
-        by zero xs each cover run all = tt
-        by (suc n) [] each cover run all = tt
-        by (suc n) (s ∷ xs) each cover run all =
-            run_begins columns (end_of (s ∷ take n xs)) up_to s (take n xs) (each.0, take_all_of (IsSlot columns) n xs each.1) cover.0 run.0 run.1 all
+        by zero xs each covered run all = tt
+        by (suc n) [] each covered run all = tt
+        by (suc n) (s ∷ xs) each covered run all =
+            run_begins columns (end_of (s ∷ take n xs)) up_to s (take n xs) (each.0, take_all_of (IsSlot columns) n xs each.1) covered.0 run.0 run.1 all
 
     -- the pieces have the row blocks
     module _ (cutting : Sizes) (cut : IsCutting cutting) (order : IsRange range) (small : AllByRecursion (λ n. n ≤ cutting.rows) (row_sizes slots)) (frame : Frame) where
