@@ -187,12 +187,12 @@ module _ (client : ℕ) (sole : Bool) (symbol : Name) (wish : Wish) (options : O
       first_same (ap (λ (a : Answer). a.marks) (ok_same (sym d.last.asked.answered ∙ (here ∙ e))))
 
   pub commit_lays : (answer : State → Result Answer Refusal) → ((st : State) → answer st ≡ answer_to wish options.prune options.at st) → LaysAs c symbol answer done.place old new
-  commit_lays answer as all change rest outcome e =
-      subst (λ x. IsLaid c symbol x done.place old new) (change_is change rest outcome (sym (as (state_of old symbol)) ∙ e)) (laid all)
+  commit_lays answer same_as all change rest outcome e =
+      subst (λ x. IsLaid c symbol x done.place old new) (change_is change rest outcome (sym (same_as (state_of old symbol)) ∙ e)) (laid all)
 
 -- a commit of all tries
 pub tries_lay : (client : ℕ) (sole : Bool) (symbol : Name) (wish : Wish) (options : Options) (limit before now : ℕ) (old new : History) (r : Result Committed Refused) → IsCutting options.cutting → ∥ IsLawful new ∥₁ → GrowsAlone client old new
     → DidTries client sole symbol (IsAnswered symbol wish options) (Declines symbol wish options) (Wants symbol wish options) options.tries limit before now old new r
     → (answer : State → Result Answer Refusal) → ((st : State) → answer st ≡ answer_to wish options.prune options.at st) → IfOk r (λ done. LaysAs (run_cutting options.cutting) symbol answer done.place old new)
-tries_lay client sole symbol wish options limit before now old new (Err refused) cut lawful grows d answer as = tt
-tries_lay client sole symbol wish options limit before now old new (Ok done) cut lawful grows d answer as = commit_lays client sole symbol wish options limit before now old new done cut lawful grows d answer as
+tries_lay client sole symbol wish options limit before now old new (Err refused) cut lawful grows d answer same_as = tt
+tries_lay client sole symbol wish options limit before now old new (Ok done) cut lawful grows d answer same_as = commit_lays client sole symbol wish options limit before now old new done cut lawful grows d answer same_as
