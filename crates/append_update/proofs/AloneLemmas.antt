@@ -108,7 +108,7 @@ module _ (client : ℕ) (sole : Bool) (symbol : Name) (wish : Wish) (options : O
   abbrev c : Cutting
   c = run_cutting options.cutting
 
-  refer : Event
+  abbrev refer : Event
   refer = events.Refer client symbol d.last.was d.last.entry d.last.made.list
 
   own : AreOwn client (refer ∷ d.last.went.more) × AreOwn client d.refused.went.more
