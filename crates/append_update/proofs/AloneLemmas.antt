@@ -24,8 +24,8 @@ use Rattle.version_chain.specs.Traces.{own_of, met_in}
 use Rattle.version_chain.proofs.TraceLemmas.{append_assoc, same_front}
 use Rattle.reply_model.specs.declared.outcome.Outcome.{Outcome}
 use Rattle.reply_model.specs.Tries.{put_of}
-use Rattle.reply_model.specs.Answering.{Answer, committed, pruned}
-use Rattle.reply_model.specs.Blocks.{Cutting, Part, parts_of}
+use Rattle.reply_model.specs.Answering.{Answer, pruned}
+use Rattle.reply_model.specs.Blocks.{Cutting, parts_of}
 use Rattle.reply_model.specs.Standing.{GrowsAlone, row_sizes, IsCutBy, rows_of_version, base_rows, bare_block, part_rows, fresh_in, slices, parts_laid, IsLaid}
 use Rattle.reply_model.proofs.AloneWindows.{own_is_all, none_met, none_added}
 use Rattle.reply_model.proofs.LaidWrites.{link_with}

@@ -1,6 +1,6 @@
 -- The pieces of an update have the row blocks of the parts that its change makes of the base's.
 use Rattle.std.proofs.Common.{◌≡◌, ℕ, zero, suc, ◌+◌, ◌-◌, ◌≤◌, ℤ, Bool, true, false, not, List, [], ◌∷◌, ◌++◌, length, map, take, drop, refl, sym, ap, ◌∙◌, subst, arith, cond, Option, Some, None, length-append}
-use Rattle.std.specs.Prelude.{◌/◌, ◌%◌, replicate, count_by, slice_range}
+use Rattle.std.specs.Prelude.{◌%◌, replicate, slice_range}
 use Rattle.std.specs.List.{AllByRecursion}
 use Rattle.std.proofs.Math.Nat.{div-eq_of_lt, mod-eq_of_lt}
 use Rattle.std.proofs.lemmas.Bool.{true≢false}
@@ -17,7 +17,7 @@ use Rattle.key_kind.specs.Names.{Name}
 use Rattle.bucket_core.specs.declared.event.Change.TheVariants as changes
 use Rattle.bucket_core.specs.History.{History}
 use Rattle.store_model.specs.Commits.{HasSlotStamps}
-use Rattle.store_model.specs.Library.{Version, state_of, base_of}
+use Rattle.store_model.specs.Library.{Version}
 use Rattle.reply_model.specs.Blocks.{Cutting, Part, shared, some_rows, block_sizes, cut_rows, parts_before, parts_behind, parts_replaced, parts_of}
 use Rattle.reply_model.specs.Blocks as blocks
 use Rattle.reply_model.specs.Standing.{row_sizes, base_rows, bare_block, part_rows, fresh_in, parts_laid}

@@ -1,5 +1,5 @@
 -- A symbol whose versions are as they were has the links that it had.
-use Rattle.std.proofs.Common.{◌≡◌, ℕ, suc, ◌+◌, true, false, List, [], ◌∷◌, ◌++◌, length, refl, sym, ap, ◌∙◌, subst, arith, cond, length-append}
+use Rattle.std.proofs.Common.{◌≡◌, suc, ◌+◌, true, false, List, [], ◌∷◌, ◌++◌, length, refl, sym, ap, ◌∙◌, arith, cond, length-append}
 use Rattle.std.specs.List.{AllZip}
 use mathlib.Core.Logic.{∥∥₁_map}
 use denote.Struct.Props.{props}
