@@ -1,5 +1,5 @@
 -- Where nobody else makes events, it is known how the versions of appends, updates and deletes of a range are laid out.
-use Rattle.std.proofs.Common.{◌≡◌, ℕ, ℤ, Bool, List, [], ◌∷◌, ◌++◌, refl, sym, ap, ◌∙◌, subst, true, false, Option, Some, None, Result, Ok, Err, length}
+use Rattle.std.proofs.Common.{◌≡◌, ℕ, ℤ, Bool, List, [], ◌∷◌, ◌++◌, refl, sym, ap, ◌∙◌, subst, false, Option, Some, None, Result, Ok, Err, length}
 use Rattle.std.specs.Prelude.{⊤, IfOk, option_map}
 use Rattle.std.proofs.lemmas.Bool.{true≢false}
 use Rattle.frame_core.specs.declared.refusal.Refusal.{Refusal}

@@ -1,6 +1,10 @@
-use Rattle.std.proofs.Common.{ℕ, ℤ, Option, subst, sym}
+use Rattle.std.proofs.Common.{ℕ, ℤ, Option, Result, subst, sym}
+use Rattle.frame_core.specs.declared.refusal.Refusal.{Refusal}
+use Rattle.frame_core.specs.Frames.{Frame}
 use Rattle.frame_core.specs.RawFrames.{table_of}
 use Rattle.bucket_core.specs.History.{History}
+use Rattle.store_model.specs.Library.{State}
+use Rattle.reply_model.specs.Answering.{Answer}
 use Rattle.version_chain.proofs.Walked.{looks_none}
 use Rattle.expr_clause.specs.declared.command.Command.{Command}
 use Rattle.expr_clause.specs.declared.command.Command.TheVariants as commands
@@ -43,7 +47,7 @@ returns-in-Ok-clause-lays g c grows =
     let old : History = g.B.Bucket.seen c.args.bucket.now in
     let new : History = g.B.Bucket.seen c.update-done.new.bucket in
     let options = c.args.options.now in
-    let next = (λ frame st. update_answer st c.args.upsert options.prune options.at c.args.range frame) in
+    let next : Frame → State → Result Answer Refusal = (λ frame st. update_answer st c.args.upsert options.prune options.at c.args.range frame) in
     subst (LaysForTable options.cutting c.args.symbol.now (table_of c.args.raw.now) next old new) (sym c.committed.ensures)
     (result_lays options.cutting c.args.symbol.now old new (table_of c.args.raw.now) next c.in-Ok.prepared.frame c.update-done.result c.in-Ok.ensures.frame (c.update-done.ensures.lays grows))
 
@@ -51,6 +55,6 @@ pub returns-in-Err-clause-lays : goal.returns-in-Err-clause-lays
 returns-in-Err-clause-lays g c grows =
     let old : History = g.B.Bucket.seen c.args.bucket.now in
     let options = c.args.options.now in
-    let next = (λ frame st. update_answer st c.args.upsert options.prune options.at c.args.range frame) in
+    let next : Frame → State → Result Answer Refusal = (λ frame st. update_answer st c.args.upsert options.prune options.at c.args.range frame) in
     subst (LaysForTable options.cutting c.args.symbol.now (table_of c.args.raw.now) next old old) (sym c.refusal.ensures)
     (refused_lays options.cutting c.args.symbol.now old old (table_of c.args.raw.now) next c.in-Err.refused)
