@@ -95,7 +95,7 @@ good_answer (wishes.Clear range) prune at st =
 
 -- ---- more staged pieces change no answer
 
-answer_staged : (wish : Wish) (prune : Bool) (at : ℤ) (st : State) (more : List Piece) → answer_to wish prune at (record st { staged = more }) ≡ answer_to wish prune at st
+pub answer_staged : (wish : Wish) (prune : Bool) (at : ℤ) (st : State) (more : List Piece) → answer_to wish prune at (record st { staged = more }) ≡ answer_to wish prune at st
 answer_staged (wishes.Append frame) prune at st more = refl
 answer_staged (wishes.Replace frame range upsert) prune at st more = refl
 answer_staged (wishes.Clear range) prune at st more = refl

@@ -28,14 +28,14 @@ each_ends : (rows columns : ℕ) (s : Slot) (more : List Slot) → LeadOn rows c
 each_ends rows columns s [] lead = (lead-reaches rows columns s [] lead, tt)
 each_ends rows columns s (t ∷ more) lead = (lead-reaches rows columns s (t ∷ more) lead, each_ends rows columns t more lead.1)
 
-cover_ends : (rows columns : ℕ) (slots : List Slot) → Cover rows columns slots → AllByRecursion (λ (s : Slot). s.part.first_row + s.part.rows ≤ rows) slots
+pub cover_ends : (rows columns : ℕ) (slots : List Slot) → Cover rows columns slots → AllByRecursion (λ (s : Slot). s.part.first_row + s.part.rows ≤ rows) slots
 cover_ends rows columns [] covered = tt
 cover_ends rows columns (s ∷ more) covered = each_ends rows columns s more covered.2
 
-slice_count : (rows : List Row) (from to : ℕ) → to ≤ length rows → length (slice_range rows from to) ≡ to - from
+pub slice_count : (rows : List Row) (from to : ℕ) → to ≤ length rows → length (slice_range rows from to) ≡ to - from
 slice_count rows from to le = omega (arith, le, length-take (to - from) (drop from rows), length-drop from rows)
 
-left_count : (base : Frame) (rows : List Row) (o : Option Frame) → IsLeft base rows o → length rows ≡ left_rows o
+pub left_count : (base : Frame) (rows : List Row) (o : Option Frame) → IsLeft base rows o → length rows ≡ left_rows o
 left_count base rows None is = ap length is
 left_count base rows (Some f) is = sym (ap (λ (g : Frame). length g.rows) is)
 

@@ -1,6 +1,6 @@
 -- Frames whose rows are some of a frame's, and rows of two frames.
 use Rattle.std.proofs.Common.{◌≡◌, ℕ, ◌+◌, ◌*◌, ◌≤◌, max, ℤ, ◌≤ℤ◌, Bool, true, false, List, [], ◌∷◌, ◌++◌, length, map, None, refl, ap, ◌∙◌, arith}
-use Rattle.std.specs.Prelude.{sum_by, fold, filter}
+use Rattle.std.specs.Prelude.{fold, filter}
 use Rattle.std.specs.List.{AllByRecursion}
 use Rattle.std.proofs.lemmas.Int.{ints}
 use Rattle.std.proofs.lemmas.Nat.{mul-le}

@@ -5,6 +5,14 @@ pub mod RunLemmas
 pub mod FrameLemmas
 pub mod ReplaceLemmas
 pub mod ToldLemmas
+pub mod SameLinks
+pub mod PartLists
+pub mod SlotSizes
+pub mod RangeCounts
+pub mod RowSizes
+pub mod ReplacedParts
+pub mod MadeLemmas
+pub mod AloneLemmas
 pub mod NewestLemmas
 pub mod LastLemmas
 pub mod GoneLemmas

@@ -1,8 +1,9 @@
 -- The newest live link is that of the newest live version, whose frame its index tells.
 use Rattle.std.proofs.Common.{◌≡◌, ℕ, Bool, true, false, not, List, [], ◌∷◌, ◌++◌, length, map, reverse, cond, refl, sym, ap, ◌∙◌, subst, inl, inr, Option, Some, None}
-use Rattle.std.specs.Prelude.{Contains, find, filter, fold}
+use Rattle.std.specs.Prelude.{Contains, find, filter, fold, nat_eq}
+use Rattle.std.specs.Option.{option_map_or}
 use Rattle.std.specs.List.{AllZip, AllByRecursion}
-use Rattle.std.proofs.lemmas.Bool.{true≢false}
+use Rattle.std.proofs.lemmas.Bool.{true≢false, eq-eqb, ne_eqb}
 use Rattle.std.proofs.lemmas.List.{reverse-reverse}
 use mathlib.Core.Logic.{∥∥₁_elim, ∥∥₁_map}
 use mathlib.Core.HLevel.{⊥_prop}
@@ -27,6 +28,7 @@ use Rattle.store_model.proofs.Referring.{at_symbol}
 use Rattle.store_model.proofs.Lists.{contains_first, contains_later}
 use Rattle.version_chain.specs.declared.state.SymbolState.{SymbolState}
 use Rattle.version_chain.specs.States.{is_tomb, newest_link, IsStateOf}
+use Rattle.reply_model.specs.Standing.{row_sizes, rows_of_version, base_rows}
 use Rattle.frame_read.proofs.StampLemmas.{IsStamped, lawful_is_stamped}
 use Rattle.append_update.specs.Newest.{IsNewest}
 use Rattle.append_update.proofs.ToldLemmas.{Told, told_prop, told_all, storable_told, stamps_told}
@@ -98,6 +100,7 @@ module _ (tombs : List ℕ) where
     pub first : first_of (filter (λ (v : Version). lives v.number) vs) ≡ Some version
     pub pair : ∥ IsPaired link version ∥₁
     pub live : lives row.version ≡ true
+    pub found : find (λ (l : Linked). nat_eq row.version l.row.version) ls ≡ Some link
 
   first_live : (ls : List Linked) (vs : List Version) → ∥ AllZip IsPaired ls vs ∥₁ → (row : LinkRow) → find (λ (r : LinkRow). lives r.version) (map (λ (l : Linked). l.row) ls) ≡ Some row → First ls vs row
   first_live [] vs pairs row e = absurd cc
@@ -119,6 +122,7 @@ module _ (tombs : List ℕ) where
             first = ap (λ b. first_of (cond b (v ∷ filter (λ (v : Version). lives v.number) vs) (filter (λ (v : Version). lives v.number) vs))) here;
             pair = ∥∥₁_map pairs (λ p. p.0);
             live = subst (λ (r : LinkRow). lives r.version ≡ true) (some_same found) live;
+            found = ap (λ b. cond b (Some l) (find (λ (l : Linked). nat_eq row.version l.row.version) ls)) (eq-eqb row.version l.row.version (ap (λ (r : LinkRow). r.version) (sym (some_same found))));
           }
         where
           some_same : {x y : LinkRow} → Some x ≡ Some y → x ≡ y
@@ -134,6 +138,7 @@ module _ (tombs : List ℕ) where
             first = ap (λ b. first_of (cond b (v ∷ filter (λ (v : Version). lives v.number) vs) (filter (λ (v : Version). lives v.number) vs))) gone ∙ found.first;
             pair = found.pair;
             live = found.live;
+            found = ap (λ b. cond b (Some l) (find (λ (l : Linked). nat_eq row.version l.row.version) ls)) (ne_eqb row.version l.row.version (λ e. true≢false (sym found.live ∙ (ap lives e ∙ dead)))) ∙ found.found;
           }
 
   none_live : (ls : List Linked) (vs : List Version) → ∥ AllZip IsPaired ls vs ∥₁ → find (λ (r : LinkRow). lives r.version) (map (λ (l : Linked). l.row) ls) ≡ None → first_of (filter (λ (v : Version). lives v.number) vs) ≡ None
@@ -168,6 +173,14 @@ newest_found h symbol state is o e =
 pub no_newest : (h : History) (symbol : Name) (state : SymbolState) → ∥ IsLawful h ∥₁ → IsStateOf h symbol state → newest_link state ≡ None → base_of (state_of h symbol) ≡ None
 no_newest h symbol state lawful is e = none_live (state_of h symbol).buried (links h symbol) (state_of h symbol).versions (lawful_is_paired h symbol lawful) (newest_found h symbol state is None e)
 
+-- the base's rows are those of the index of its link
+base_has : (h : History) (symbol : Name) (v : Version) (link : Linked) (index : Index) → base_of (state_of h symbol) ≡ Some v → link.row.version ≡ v.number
+    → find (λ (l : Linked). nat_eq link.row.version l.row.version) (links h symbol) ≡ Some link → link.index ≡ index → base_rows h symbol ≡ row_sizes index.slots
+base_has h symbol v link index is number found index_is =
+    ap (rows_of_version (links h symbol)) is
+    ∙ (ap (λ n. option_map_or (λ (l : Linked). row_sizes l.index.slots) (find (λ (l : Linked). nat_eq n l.row.version) (links h symbol)) []) (sym number)
+    ∙ (ap (λ o. option_map_or (λ (l : Linked). row_sizes l.index.slots) o []) found ∙ ap (λ (i : Index). row_sizes i.slots) index_is))
+
 -- and with one, whose index was put under its key
 pub newest_is : (h : History) (symbol : Name) (state : SymbolState) (row : LinkRow) (index : Index) → ∥ IsLawful h ∥₁ → IsStateOf h symbol state → newest_link state ≡ Some row
     → IsIndex index → ((l : Linked) → Contains (links h symbol) l → l.row ≡ row → l.index ≡ index) → (v : Version) × IsNewest h symbol v index
@@ -189,6 +202,7 @@ newest_is h symbol state row index lawful is e rules same =
         link_is = found.link_is;
         number = nat_told found.link.row.version v.number (∥∥₁_map found.pair (λ p. p.link.number));
         index_is = index_is;
+        rows_are = base_has h symbol v found.link index found.first (nat_told found.link.row.version v.number (∥∥₁_map found.pair (λ p. p.link.number))) (subst (λ n. find (λ (l : Linked). nat_eq n l.row.version) (links h symbol) ≡ Some found.link) (ap (λ (r : LinkRow). r.version) (sym found.row_is)) found.found) index_is;
         tiled = ∥∥₁_map found.pair (λ p. p.link.assembled);
       },
     )

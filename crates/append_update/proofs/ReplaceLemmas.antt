@@ -159,6 +159,17 @@ module _ (base : Frame) (index : Index) (of_base : IsIndexOf base index) (range 
   pub run_above : IsRun columns (drop (passing begins_by slots) slots)
   run_above = run-drop columns begins_by begins_by_of_blocks slots is_run falls-begins_by
 
+  -- those behind the ones that end below the range begin a row block, and do not end below it
+  pub run_behind : IsRun columns (drop (passing ends_below slots) slots)
+  run_behind = run-drop columns ends_below ends_of_blocks slots is_run falls-ends
+
+  pub behind_fail : AllByRecursion (λ (s : Slot). is_below range s.last ≡ false) (drop (passing ends_below slots) slots)
+  behind_fail = (divided ends_below slots falls-ends).fail
+
+  -- those up to the last that begins not above the range do so
+  pub reached_pass : AllByRecursion (λ (s : Slot). not (is_above range s.first) ≡ true) (take (passing begins_by slots) slots)
+  reached_pass = (divided begins_by slots falls-begins_by).pass
+
   pub run_reached : IsRun columns (take (passing begins_by slots) slots)
   run_reached = run-take columns begins_by begins_by_of_blocks slots is_run falls-begins_by
 

@@ -55,7 +55,7 @@ append_is_legal client sole symbol frame wish options limit before now old new r
     b.client_is b.tries_are d
 
 -- an update whose range is known
-same_range : (st : State) (upsert prune : Bool) (at : ℤ) (asked : Option Range) (range : Range) (frame : Frame) → update_range asked frame ≡ Ok range → outside 1 range frame.rows ≡ None
+pub same_range : (st : State) (upsert prune : Bool) (at : ℤ) (asked : Option Range) (range : Range) (frame : Frame) → update_range asked frame ≡ Ok range → outside 1 range frame.rows ≡ None
     → update_answer st upsert prune at asked frame ≡ update_answer st upsert prune at (Some range) frame
 same_range st upsert prune at asked range frame e inside = rw (e, inside) refl
 

@@ -1,6 +1,7 @@
 -- One try: what a walk, a plan and a commit over it did.
 use Rattle.std.proofs.Common.{◌≡◌, ℕ, ◌≤◌, Bool, [], ◌++◌, length, sym, ap, ◌∙◌, subst, inl, inr, arith, Result, Ok, Err, length-append}
-use Rattle.std.specs.Prelude.{◌+◌}
+use Rattle.std.specs.Prelude.{◌+◌, ◌*◌}
+use Rattle.std.specs.Option.{option_map_or}
 use Rattle.std.proofs.lemmas.List.{append_assoc}
 use Rattle.frame_core.specs.declared.refusal.Refusal.{Refusal}
 use Rattle.frame_core.specs.declared.refusal.Refusal.TheVariants as refusals
@@ -8,9 +9,11 @@ use Rattle.frame_core.specs.declared.refusal.Refused.{Refused}
 use Rattle.key_kind.specs.Names.{Name}
 use Rattle.bucket_core.specs.History.{History, history_at}
 use Rattle.bucket_core.specs.Laws.{Looks}
-use Rattle.store_model.specs.Library.{State, state_of}
+use Rattle.store_model.specs.Library.{State, Version, state_of}
 use Rattle.store_model.specs.Law.{IsClaimed}
 use Rattle.reply_model.specs.Answering.{Answer, committed}
+use Rattle.reply_model.specs.Blocks.{tiles_across}
+use Rattle.reply_model.specs.Standing.{row_sizes, fresh_in, parts_laid}
 use Rattle.version_chain.specs.declared.state.SymbolState.{SymbolState}
 use Rattle.version_chain.specs.States.{IsStateAt, IsLookRefusal, RefusesWalk}
 use Rattle.version_chain.specs.Traces.{Went}
@@ -23,13 +26,16 @@ use Rattle.frame_write.specs.Links.{IsLinkMade}
 use Rattle.frame_write.specs.Tries.{Made, DidTry, DidFail, IsBusy}
 use Rattle.frame_write.proofs.MeetLemmas.{met_sooner}
 use Rattle.frame_write.proofs.CommitLemmas.{walk_stops}
-use Rattle.frame_write.proofs.TriesLemmas.{try_weaker, try_from}
+use Rattle.frame_write.proofs.TriesLemmas.{try_from}
 use Rattle.append_update.specs.declared.wish.Wish.{Wish}
 use Rattle.append_update.specs.Asking.{answer_to, IsAnswered, Declines, Wants, IsPlanOf}
 use Rattle.append_update.specs.Attempts.{DidAttempt}
 use Rattle.append_update.specs.Looking.{RefusesPlan}
 use Rattle.append_update.proofs.BaseLemmas.{walked_here, walk_wider}
+use Rattle.append_update.specs.RowBlocks.{run_cutting}
 use Rattle.append_update.proofs.AskedLemmas.{answer_unmoved}
+use Rattle.append_update.proofs.MadeLemmas.{makes_version, try_on}
+use Rattle.append_update.proofs.RowSizes.{laid_rows, tiles_counted}
 
 -- ---- a state that was walked, later
 
@@ -139,13 +145,29 @@ module _ (client : ℕ) (sole : Bool) (symbol : Name) (wish : Wish) (options : O
   -- a commit was tried
   module _ (mid new : History) (looks : Went client sole old mid []) (state : SymbolState) (at : IsStateAt mid symbol state) (from : length old ≤ state.place)
       (plan : LinkPlan) (of : IsPlanOf at.before symbol options (answer_to wish options.prune options.at) plan) (more : History) (is : new ≡ more ++ mid) where
-    made : (serial : ℕ) (m : Made) → IsLinkMade client serial symbol (state_of (history_at mid state.place) symbol) plan options m → IsAnswered symbol wish options m
-    made serial m i =
+    made : (serial : ℕ) (m : Made) (added : History) → m.before ≡ added ++ mid → IsLinkMade client serial symbol (state_of (history_at mid state.place) symbol) plan options m → IsAnswered symbol wish options m
+    made serial m added before_is i =
         let same : state_of (history_at mid state.place) symbol ≡ state_of at.before symbol = ap (λ h. state_of h symbol) (walked_here mid symbol state at) in
         record {
           change = plan.change;
           list = i.list;
           answered = answer_unmoved wish options (state_of at.before symbol) (state_of m.before symbol) plan.change (subst (λ st. IsUnmoved st (state_of m.before symbol)) same i.unmoved) of.answered;
+          built = record {
+            version = makes_version (state_of at.before symbol) plan.change of.fits.version of.fits.makes;
+            walked = at.before;
+            later = added ++ at.later;
+            split = before_is ∙ (ap (λ h. added ++ h) at.split ∙ sym (append_assoc added at.later at.before));
+            unmoved = subst (λ st. IsUnmoved st (state_of m.before symbol)) same i.unmoved;
+            put = λ cut small.
+                let are = of.blocks cut small in
+                let c = run_cutting options.cutting in
+                let across = ap (λ o. option_map_or (λ (v : Version). tiles_across c (length v.frame.schema.columns)) o 0) (sym of.fits.makes) in
+                record {
+                  tiles = i.puts ∙ ap (λ n. n + 2) (tiles_counted options.cutting of.fits.version.frame.schema of.fits.pieces.slots plan.pieces of.fits.pieces.each
+                      ∙ (ap (λ n. n * tiles_across c (length of.fits.version.frame.schema.columns)) are.fresh ∙ ap (λ n. fresh_in (parts_laid c at.before symbol plan.change) * n) across));
+                  rows = ap row_sizes i.slots ∙ (laid_rows options.cutting cut client symbol _ 0 serial plan.pieces ∙ are.rows);
+                };
+          };
         }
 
     within : (Asked : Made → Type 0) (refused : Refused) → DidFail client sole symbol Asked limit before now state.place mid new refused → length mid ≤ refused.place
@@ -156,7 +178,7 @@ module _ (client : ℕ) (sole : Bool) (symbol : Name) (wish : Wish) (options : O
 
     pub commit_ends : (serial : ℕ) (r : Result Committed Refused)
         → DidTry client sole symbol (IsLinkMade client serial symbol (state_of (history_at mid state.place) symbol) plan options) limit before now state.place mid new r → Did new r
-    commit_ends serial r d = by r (try_weaker client sole symbol _ (IsAnswered symbol wish options) (made serial) limit before now state.place mid new r d)
+    commit_ends serial r d = by r (try_on client sole symbol _ (IsAnswered symbol wish options) mid (made serial) limit before now state.place new r d)
       where
         by : (r : Result Committed Refused) → DidTry client sole symbol (IsAnswered symbol wish options) limit before now state.place mid new r → Did new r
         by (Ok done) d = try_from client sole symbol (IsAnswered symbol wish options) limit before now state.place (length old) old mid new from looks (Ok done) d

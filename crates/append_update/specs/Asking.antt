@@ -1,5 +1,5 @@
 -- What a command asks of the newest live version of its symbol.
---     answer_to           what the one-thread library answers
+--     clear_answer, answer_to      what the one-thread library answers
 --     IsWish              when a command may ask so
 --     IsAnswered, Declines, Wants      a commit that makes what is asked; a refusal; a history in which there is a version to make
 --     IsPlanOf            a plan of what is asked
@@ -8,8 +8,9 @@ use Rattle.std.specs.Prelude.{◌≡◌, ℤ, Bool, true, false, if◌then◌els
 use Rattle.frame_core.specs.declared.refusal.Asked.TheVariants as asks
 use Rattle.frame_core.specs.declared.refusal.Refusal.{Refusal}
 use Rattle.frame_core.specs.declared.refusal.Refusal.TheVariants as refusals
-use Rattle.frame_core.specs.Ranges.{IsRange}
+use Rattle.frame_core.specs.Ranges.{Range, IsRange}
 use Rattle.frame_core.specs.Limits.{IsStorable}
+use Rattle.segment_cut.specs.Cuttings.{IsCutting}
 use Rattle.key_kind.specs.Names.{Name}
 use Rattle.bucket_core.specs.declared.event.Change.{Change}
 use Rattle.bucket_core.specs.declared.event.Change.TheVariants as changes
@@ -17,6 +18,7 @@ use Rattle.bucket_core.specs.History.{History}
 use Rattle.store_model.specs.Library.{State, state_of}
 use Rattle.reply_model.specs.Answering.{Answer, ◌then◌, committed, pruned, base_or}
 use Rattle.reply_model.specs.CommitAnswers.{append_answer, update_answer, outside}
+use Rattle.reply_model.specs.Standing.{parts_laid}
 use Rattle.frame_write.specs.declared.options.Options.{Options}
 use Rattle.frame_write.specs.declared.pieces.LinkPlan.{LinkPlan}
 use Rattle.frame_write.specs.declared.pieces.Piece.TheVariants as pieces
@@ -24,12 +26,17 @@ use Rattle.frame_write.specs.Links.{FitsPlan}
 use Rattle.frame_write.specs.Tries.{Made}
 use Rattle.append_update.specs.declared.wish.Wish.{Wish}
 use Rattle.append_update.specs.declared.wish.Wish.TheVariants as wishes
+use Rattle.append_update.specs.RowBlocks.{run_cutting, AreParts, AreSmall, IsBuiltOn}
+
+-- the answer to a delete of a range: that to an update by no rows of the base's columns
+abbrev pub clear_answer : Range → Bool → ℤ → State → Result Answer Refusal
+clear_answer range prune at st = base_or st then λ v. update_answer st false prune at (Some range) (record v.frame { rows = [] })
 
 -- the answer in a state of the symbol
 abbrev pub answer_to : Wish → Bool → ℤ → State → Result Answer Refusal
 answer_to (wishes.Append frame) prune at st = append_answer st prune at frame.now
 answer_to (wishes.Replace frame range upsert) prune at st = update_answer st upsert prune at (Some range) frame.now
-answer_to (wishes.Clear range) prune at st = base_or st then λ v. update_answer st false prune at (Some range) (record v.frame { rows = [] })
+answer_to (wishes.Clear range) prune at st = clear_answer range prune at st
 
 -- the frame may be written, and its rows lie in the range, which is in order
 abbrev pub IsWish : Wish → Type 0
@@ -37,11 +44,12 @@ IsWish (wishes.Append frame) = IsStorable frame.now
 IsWish (wishes.Replace frame range upsert) = IsStorable frame.now × IsRange range × (outside 1 range frame.now.rows ≡ None)
 IsWish (wishes.Clear range) = IsRange range
 
--- the commit has one change, and what it buries; the library answers so just before it
+-- the commit has one change, and what it buries; the library answers so just before it; its row blocks are those of the change
 pub record IsAnswered (symbol : Name) (wish : Wish) (options : Options) (m : Made) : Type 0 where
   pub change : Change
   pub list : m.list ≡ change ∷ pruned (state_of m.before symbol) options.prune
   pub answered : answer_to wish options.prune options.at (state_of m.before symbol) ≡ Ok (committed (state_of m.before symbol) options.prune change)
+  pub built : IsBuiltOn options.cutting symbol change m
 
 -- the library refuses so
 abbrev pub Declines : Name → Wish → Options → History → Refusal → Type 0
@@ -51,10 +59,11 @@ Declines symbol wish options h why = answer_to wish options.prune options.at (st
 abbrev pub Wants : Name → Wish → Options → History → Type 0
 Wants symbol wish options h = (c : Change) × (answer_to wish options.prune options.at (state_of h symbol) ≡ Ok (committed (state_of h symbol) options.prune c))
 
--- the plan may be tried in this history, in which the library answers its change
+-- the plan may be tried in this history, in which the library answers its change; its pieces have the row blocks of the change
 pub record IsPlanOf (h : History) (symbol : Name) (options : Options) (answer : State → Result Answer Refusal) (plan : LinkPlan) : Type 0 where
   pub fits : FitsPlan h symbol options.at plan
   pub answered : answer (state_of h symbol) ≡ Ok (committed (state_of h symbol) options.prune plan.change)
+  pub blocks : IsCutting options.cutting → AreSmall (run_cutting options.cutting) h symbol → AreParts (run_cutting options.cutting) plan.pieces (parts_laid (run_cutting options.cutting) h symbol plan.change)
 
 -- the plan where there is no live version; none where the command wants one
 abbrev pub IsAlone : Wish → ℤ → Option LinkPlan → Type 0

@@ -4,6 +4,7 @@ pub mod Replies
 pub mod Newest
 pub mod Looking
 pub mod Attempts
+pub mod RowBlocks
 pub mod Asking
 pub mod Sizes
 pub mod Blocks

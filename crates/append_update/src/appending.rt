@@ -1,10 +1,13 @@
 //! Rows behind those of the newest live version.
 
-ghost use Rattle.std.specs.Prelude.{◌≤◌};
+ghost use Rattle.std.specs.Prelude.{◌≤◌, IfOk};
 ghost use Rattle.frame_core.specs.Limits.{IsStorable};
 ghost use Rattle.bucket_core.specs.Calls.{IsSteady};
 ghost use Rattle.version_chain.specs.Traces.{GoesOn};
+ghost use Rattle.reply_model.specs.CommitAnswers.{append_answer};
+ghost use Rattle.reply_model.specs.Standing.{GrowsAlone};
 ghost use Rattle.append_update.specs.Replies.{IsLegalAppend};
+ghost use Rattle.append_update.specs.RowBlocks.{run_cutting, LaysAs};
 
 use crate::attempt::try_all;
 use crate::wish::Wish;
@@ -36,6 +39,8 @@ pub fn append<R: Wait, B: Bucket<StoreLaw>>(
     ensures steady { IsSteady B.number B.limit B.faults B.sole bucket.old bucket.new }
     ensures grown { GoesOn (B.number bucket.old) (B.sole bucket.old) (B.seen bucket.old) (B.seen bucket.new) }
     ensures legal { IsLegalAppend (B.limit bucket.old) (B.number bucket.old) symbol.now frame.now options.now (B.faults bucket.old) (B.faults bucket.new) (B.seen bucket.old) (B.seen bucket.new) result }
+    // Where nobody else makes events, the place and the row blocks of the commit are known.
+    ensures lays { GrowsAlone (B.number bucket.old) (B.seen bucket.old) (B.seen bucket.new) → IfOk result (λ done. LaysAs (run_cutting options.now.cutting) symbol.now (λ st. append_answer st options.now.prune options.now.at frame.now) done.place (B.seen bucket.old) (B.seen bucket.new)) }
 {
     try_all(rt, alloc, bucket, symbol, &Wish::Append(frame), options)
 }

@@ -1,6 +1,7 @@
 //! The tries of a command that makes a version on the newest live one.
 
 ghost use Rattle.std.specs.Prelude.{◌≤◌};
+ghost use Rattle.segment_cut.specs.Cuttings.{IsCutting};
 ghost use Rattle.bucket_core.specs.Calls.{IsSteady};
 ghost use Rattle.frame_write.specs.Tries.{DidTries};
 ghost use Rattle.append_update.specs.Asking.{IsWish, IsAnswered, Declines, Wants};
@@ -27,9 +28,11 @@ pub(crate) fn try_all<R: Wait, B: Bucket<StoreLaw>>(
 ) -> Result<Committed, Refused>
     requires wish { IsWish wish.now }
     requires some_tries { 1 ≤ options.now.tries }
+    ensures cutting { IsCutting options.now.cutting }
     ensures steady { IsSteady B.number B.limit B.faults B.sole bucket.old bucket.new }
     ensures did { DidTries (B.number bucket.old) (B.sole bucket.old) symbol.now (IsAnswered symbol.now wish.now options.now) (Declines symbol.now wish.now options.now) (Wants symbol.now wish.now options.now) options.now.tries (B.limit bucket.old) (B.faults bucket.old) (B.faults bucket.new) (B.seen bucket.old) (B.seen bucket.new) result }
 {
+    let _rows = options.cutting.rows();
     let mut met = 0;
     for _ in 0..options.tries {
         let refused = match attempt(rt, alloc, bucket, symbol, wish, options) {

@@ -5,8 +5,11 @@ ghost use Rattle.frame_core.specs.Ranges.{IsRange, is_within};
 ghost use Rattle.frame_core.specs.Limits.{IsStorable};
 ghost use Rattle.bucket_core.specs.Calls.{IsSteady};
 ghost use Rattle.version_chain.specs.Traces.{GoesOn};
-ghost use Rattle.reply_model.specs.CommitAnswers.{update_range, outside};
+ghost use Rattle.reply_model.specs.CommitAnswers.{update_answer, update_range, outside};
+ghost use Rattle.reply_model.specs.Standing.{GrowsAlone};
+ghost use Rattle.append_update.specs.Asking.{clear_answer};
 ghost use Rattle.append_update.specs.Replies.{IsLegalUpdate, IsLegalDelete};
+ghost use Rattle.append_update.specs.RowBlocks.{run_cutting, LaysAs};
 
 use crate::attempt::try_all;
 use crate::cuts::{above, below};
@@ -42,6 +45,8 @@ pub fn update<R: Wait, B: Bucket<StoreLaw>>(
     ensures steady { IsSteady B.number B.limit B.faults B.sole bucket.old bucket.new }
     ensures grown { GoesOn (B.number bucket.old) (B.sole bucket.old) (B.seen bucket.old) (B.seen bucket.new) }
     ensures legal { IsLegalUpdate (B.limit bucket.old) (B.number bucket.old) symbol.now frame.now range upsert options.now (B.faults bucket.old) (B.faults bucket.new) (B.seen bucket.old) (B.seen bucket.new) result }
+    // Where nobody else makes events, the place and the row blocks of the commit are known.
+    ensures lays { GrowsAlone (B.number bucket.old) (B.seen bucket.old) (B.seen bucket.new) → IfOk result (λ done. LaysAs (run_cutting options.now.cutting) symbol.now (λ st. update_answer st upsert options.now.prune options.now.at range frame.now) done.place (B.seen bucket.old) (B.seen bucket.new)) }
 {
     match range_of(frame, range) {
         Ok(range) => try_all(
@@ -78,6 +83,8 @@ pub fn delete_range<R: Wait, B: Bucket<StoreLaw>>(
     ensures steady { IsSteady B.number B.limit B.faults B.sole bucket.old bucket.new }
     ensures grown { GoesOn (B.number bucket.old) (B.sole bucket.old) (B.seen bucket.old) (B.seen bucket.new) }
     ensures legal { IsLegalDelete (B.limit bucket.old) (B.number bucket.old) symbol.now range options.now (B.faults bucket.old) (B.faults bucket.new) (B.seen bucket.old) (B.seen bucket.new) result }
+    // Where nobody else makes events, the place and the row blocks of the commit are known.
+    ensures lays { GrowsAlone (B.number bucket.old) (B.seen bucket.old) (B.seen bucket.new) → IfOk result (λ done. LaysAs (run_cutting options.now.cutting) symbol.now (clear_answer range options.now.prune options.now.at) done.place (B.seen bucket.old) (B.seen bucket.new)) }
 {
     let range = ordered(range);
     try_all(rt, alloc, bucket, symbol, &Wish::Clear(range), options)

@@ -5,6 +5,7 @@ pub mod GoneLemmas
 pub mod ReadLemmas
 pub mod WriteLemmas
 pub mod KeyLemmas
+pub mod LayLemmas
 pub mod StepLemmas
 pub mod BuryLemmas
 pub mod VersionsLemmas

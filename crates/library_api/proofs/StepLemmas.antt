@@ -1,10 +1,10 @@
 -- The reply of an arm is the reply of the step.
-use Rattle.std.proofs.Common.{◌≡◌, ℕ, ℤ, Bool, true, false, Result, Ok, List, refl, ap, sym, ◌∙◌, subst, Option, Some, map}
+use Rattle.std.proofs.Common.{◌≡◌, ℕ, ℤ, Bool, true, Result, Ok, List, refl, ap, sym, ◌∙◌, subst, Option, Some, map}
 use Rattle.std.specs.Prelude.{slice_get, unwrap_or, option_map}
-use Rattle.std.proofs.lemmas.Bool.{true≢false}
 use Rattle.std.proofs.lemmas.Option.{slice_get-map}
 use Rattle.frame_core.specs.declared.raw.RawFrame.{RawFrame}
 use Rattle.frame_core.specs.declared.refusal.Refusal.{Refusal}
+use Rattle.frame_core.specs.Ranges.{Range}
 use Rattle.frame_core.specs.Frames.{Frame}
 use Rattle.frame_core.specs.RawFrames.{table_of, frame_of_table}
 use Rattle.index_tree.specs.declared.index.Slot.{Slot}
@@ -12,21 +12,25 @@ use Rattle.index_tree.specs.declared.index.Index.{Index}
 use Rattle.key_kind.specs.Names.{Name}
 use Rattle.bucket_core.specs.declared.event.Change.TheVariants as changes
 use Rattle.bucket_core.specs.History.{History}
-use Rattle.store_model.specs.Library.{first_of}
+use Rattle.store_model.specs.Library.{State, first_of}
+use Rattle.store_model.specs.Snapshots.{Library}
 use Rattle.store_model.specs.Links.{links}
 use Rattle.expr_clause.specs.declared.command.Command.{Command}
 use Rattle.expr_clause.specs.declared.command.Command.TheVariants as commands
 use Rattle.reply_model.specs.declared.reply.Reply.{Reply}
-use Rattle.reply_model.specs.Answering.{Session, stamp_of}
-use Rattle.reply_model.specs.Windows.{Client}
-use Rattle.reply_model.specs.Standing.{GrowsAlone, is_served, IsLaid, LaysOut, LegalAloneSteps}
+use Rattle.reply_model.specs.Answering.{Session, Answer, ◌then◌, answered, frame_of, stamp_of}
+use Rattle.reply_model.specs.Answers.{answer}
+use Rattle.reply_model.specs.Windows.{Client, symbol_of}
+use Rattle.reply_model.specs.Standing.{GrowsAlone, IsLaid, LaysOut, LegalAloneSteps}
 use Rattle.reply_model.proofs.GridCounts.{write_is_laid}
 use Rattle.reply_model.proofs.LaidWrites.{link_with, write_lays_out, makes_none, none_lays_out}
 use Rattle.version_chain.specs.Traces.{GoesOn}
 use Rattle.frame_write.specs.declared.options.Options.{Options}
+use Rattle.append_update.specs.Asking.{clear_answer}
 use Rattle.library_api.specs.declared.settings.Settings.{Settings}
 use Rattle.library_api.specs.Steps.{client_of, IsLegalIn, IsLegalForAll, IsLegalWithTries, run_cutting, is_told_alone, IsStepAlone}
-use Rattle.library_api.specs.Frames.{IsLegalForTable, IsLegalWithStamp, IsWrittenAlone, StandsBehindPuts}
+use Rattle.library_api.specs.Frames.{IsLegalForTable, IsLegalWithStamp, IsWrittenAlone, StandsBehindPuts, LaysDone, LaysForTable}
+use Rattle.library_api.proofs.LayLemmas.{IsDone, frame_lays, clear_lays}
 
 -- how a frame is written by a command of these settings
 abbrev pub options_of : Settings → Option ℤ → Bool → Options
@@ -66,36 +70,12 @@ module _ (frames : List RawFrame) (settings : Settings) (number limit before now
 
 -- ---- one client alone
 
--- what is told of one client alone is shown
-told-served : (c : Command) → is_told_alone c ≡ true → is_served c ≡ true
-told-served (commands.Write symbol frame at prune) e = refl
-told-served (commands.Append symbol frame at prune) e = refl
-told-served (commands.Update symbol frame range upsert at prune) e = refl
-told-served (commands.DeleteRange symbol range at prune) e = refl
-told-served (commands.Stage symbol frame) e = e
-told-served (commands.Finalize symbol append sorted at prune) e = e
-told-served (commands.Discard symbol) e = e
-told-served (commands.Delete symbol versions) e = e
-told-served (commands.Prune symbol) e = e
-told-served (commands.Reclaim symbol) e = e
-told-served (commands.Versions symbol) e = e
-told-served (commands.Keys symbol) e = e
-told-served (commands.Snapshot snap picks) e = e
-told-served (commands.DeleteSnapshot snap) e = e
-told-served commands.Symbols e = e
-told-served commands.Snapshots e = e
-told-served (commands.Read symbol as_of range columns) e = e
-
--- nothing is told of a command that shares row blocks
-pub told-not : (command c : Command) → command ≡ c → is_told_alone c ≡ false → is_told_alone command ≡ true → ⊥
-told-not command c is untold told = true≢false (sym told ∙ (ap is_told_alone is ∙ untold))
-
 -- a legal step without events of others is one of a run alone
 pub step_alone : LegalAloneSteps → (client : Client) (settings : Settings) (before now : ℕ) (sole : Bool) (old new : History) (command : Command) (reply : Reply)
     → GoesOn client.session.client sole old new → IsLegalIn client before now old new command reply
     → (is_told_alone command ≡ true → GrowsAlone client.session.client old new → LaysOut (run_cutting settings.cutting) client.session command reply old new) → IsStepAlone settings client old new command reply
 step_alone theorem client settings before now sole old new command reply grown legal lays lawful own told whole =
-    theorem old new (run_cutting settings.cutting) client command reply true (grown.lawful lawful) own (legal true (λ rose. refl)) (told-served command told) whole (lays told own)
+    theorem old new (run_cutting settings.cutting) client command reply true (grown.lawful lawful) own (legal true (λ rose. refl)) told whole (lays told own)
 
 -- what is said of the one command is said of the other
 lays_as : (settings : Settings) (s : Session) (old new : History) (command c : Command) (reply : Reply) → command ≡ c → LaysOut (run_cutting settings.cutting) s c reply old new → LaysOut (run_cutting settings.cutting) s command reply old new
@@ -124,3 +104,29 @@ write_lays frames settings number limit old new command reply symbol n at prune 
         let newest = link_with (first_of (links new symbol)) w.linked.index w.linked.newest in
         write_is_laid (run_cutting settings.cutting) symbol whole (stamp_of (client_of frames settings number limit).session at) reply.place old new newest.0 w.linked.cutting_is.some_rows w.linked.cutting_is.some_cols newest.1
         (ap (λ (i : Index). map (λ (s : Slot). s.part) i.slots) newest.2 ∙ w.linked.parts_are) w.stands
+
+-- how the version of a command that brings a frame and shares row blocks is laid out
+pub table_lays : (frames : List RawFrame) (settings : Settings) (number limit : ℕ) (old new : History) (command : Command) (reply : Reply) (symbol : Name) (n : ℕ) (at : Option ℤ) (prune : Bool) (options : Options) (raw : RawFrame)
+    → (c : Command) (next : Options → Frame → State → Result Answer Refusal) → symbol_of c ≡ Some symbol → command ≡ c → options ≡ options_of settings at prune → slice_get frames n ≡ Some raw
+    → ((l : Library) (q : ℕ) → answer (client_of frames settings number limit).session l l q c ≡ option_map (λ f. answered (f then λ g. next (options_of settings at prune) g (l.state symbol))) (frame_of (client_of frames settings number limit).session n))
+    → ((o : Options) (f : Frame) (st : State) → IsDone (next o f st)) → LaysForTable options.cutting symbol (table_of raw) (next options) old new reply
+    → LaysOut (run_cutting settings.cutting) (client_of frames settings number limit).session command reply old new
+table_lays frames settings number limit old new command reply symbol n at prune options raw c next named is chosen got answers done lays =
+    let s = (client_of frames settings number limit).session in
+    let o = options_of settings at prune in
+    lays_as settings s old new command c reply is
+    (frame_lays (run_cutting settings.cutting) s c symbol reply old new named n (next o) answers (done o)
+    (λ whole brought. subst (λ x. LaysForTable x.cutting symbol (table_of raw) (next x) old new reply) chosen lays whole
+    (made whole (frame_of_table (table_of raw)) (sym (ap (option_map frame_of_table) (frame_there frames n raw got)) ∙ brought))))
+  where
+    made : (whole : Frame) (r : Result Frame Refusal) → Some r ≡ Some (Ok whole) → r ≡ Ok whole
+    made whole r e = cc
+
+-- and that of a delete of a range
+pub range_lays : (frames : List RawFrame) (settings : Settings) (number limit : ℕ) (old new : History) (command : Command) (reply : Reply) (symbol : Name) (range : Range) (at : Option ℤ) (prune : Bool) (options : Options)
+    → command ≡ commands.DeleteRange symbol range at prune → options ≡ options_of settings at prune → LaysDone options.cutting symbol (clear_answer range options.prune options.at) old new reply
+    → LaysOut (run_cutting settings.cutting) (client_of frames settings number limit).session command reply old new
+range_lays frames settings number limit old new command reply symbol range at prune options is chosen lays =
+    let s = (client_of frames settings number limit).session in
+    lays_as settings s old new command (commands.DeleteRange symbol range at prune) reply is
+    (clear_lays (run_cutting settings.cutting) s symbol range at prune reply old new (subst (λ o. LaysDone o.cutting symbol (clear_answer range o.prune o.at) old new reply) chosen lays))

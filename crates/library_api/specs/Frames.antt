@@ -4,7 +4,9 @@
 --     IsLegalWithStamp    the reply of a command without a frame is legal for each session that gives it a stamp
 --     RefusesTable        raw columns are refused before any call
 --     IsWrittenAlone, StandsBehindPuts      the commit of a write, if nobody else makes events
-use Rattle.std.specs.Prelude.{◌≡◌, ℕ, ◌+◌, ℤ, false, length, slice_get, Option, Some, Ok, Err}
+--     LaysDone, LaysForTable      that of a command that shares row blocks of the base
+use Rattle.std.specs.Prelude.{◌≡◌, ℕ, ◌+◌, ℤ, false, length, slice_get, Option, Some, Result, Ok, Err}
+use Rattle.frame_core.specs.declared.refusal.Refusal.{Refusal}
 use Rattle.frame_core.specs.declared.refusal.Refused.{Refused}
 use Rattle.frame_core.specs.Refusals.{Answers}
 use Rattle.frame_core.specs.Frames.{Frame}
@@ -15,10 +17,12 @@ use Rattle.key_kind.specs.Names.{Name}
 use Rattle.bucket_core.specs.History.{History}
 use Rattle.expr_clause.specs.declared.command.Command.{Command}
 use Rattle.reply_model.specs.declared.reply.Reply.{Reply}
-use Rattle.reply_model.specs.Answering.{Session, stamp_of}
+use Rattle.store_model.specs.Library.{State}
+use Rattle.reply_model.specs.Answering.{Session, Answer, stamp_of}
 use Rattle.reply_model.specs.Windows.{is_refused}
 use Rattle.frame_write.specs.Writes.{IsGridLinked}
 use Rattle.append_update.specs.Replies.{Runs}
+use Rattle.append_update.specs.RowBlocks.{run_cutting, LaysAs}
 use Rattle.library_api.specs.Steps.{IsLegalIn}
 
 -- a session of this client, with so many tries, whose frame n is this table; a command of it that asks for this stamp has that one
@@ -53,3 +57,11 @@ pub record IsWrittenAlone (symbol : Name) (whole : Frame) (cutting : Cutting) (o
 abbrev pub StandsBehindPuts : Name → Table → Cutting → History → History → Reply → Type 0
 StandsBehindPuts symbol table cutting old new reply =
     (whole : Frame) → frame_of_table table ≡ Ok whole → is_refused reply.outcome ≡ false → IsWrittenAlone symbol whole cutting old new reply.place
+
+-- a command that is not refused lays out the version that the library answers
+abbrev pub LaysDone : Cutting → Name → (State → Result Answer Refusal) → History → History → Reply → Type 0
+LaysDone cutting symbol answer old new reply = is_refused reply.outcome ≡ false → LaysAs (run_cutting cutting) symbol answer reply.place old new
+
+-- so does one that brings a frame, for the table's
+abbrev pub LaysForTable : Cutting → Name → Table → (Frame → State → Result Answer Refusal) → History → History → Reply → Type 0
+LaysForTable cutting symbol table answer old new reply = (whole : Frame) → frame_of_table table ≡ Ok whole → LaysDone cutting symbol (answer whole) old new reply

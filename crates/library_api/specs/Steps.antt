@@ -26,6 +26,7 @@ use Rattle.reply_model.specs.Windows.{Client, is_cut}
 use Rattle.reply_model.specs.Blocks.{Cutting}
 use Rattle.reply_model.specs.Standing.{GrowsAlone, is_served, IsStep}
 use Rattle.reply_model.specs.Legal.{IsLegalReply}
+use Rattle.append_update.specs.RowBlocks as row_blocks
 use Rattle.library_api.specs.declared.settings.Settings.{Settings}
 
 -- ---- commands
@@ -94,14 +95,10 @@ IsLegalWithTries limit number tries before now old new command reply =
 
 -- the cutting of the settings, as a run alone has it
 abbrev pub run_cutting : Sizes → Cutting
-run_cutting c = record { rows = c.rows; columns = c.cols }
+run_cutting c = row_blocks.run_cutting c
 
--- the commands of which a step tells what one client alone gets: not those that share row blocks of the base, since how their versions are laid
--- out is not told
+-- the commands of which a step tells what one client alone gets: those whose legal replies are shown to be those of a run alone
 abbrev pub is_told_alone : Command → Bool
-is_told_alone (commands.Append symbol frame at prune) = false
-is_told_alone (commands.Update symbol frame range upsert at prune) = false
-is_told_alone (commands.DeleteRange symbol range at prune) = false
 is_told_alone command = is_served command
 
 -- behind a lawful history, and where nobody else makes events, the reply is the one that a run of this client alone gives, and the run then

@@ -4,7 +4,9 @@ ghost use Rattle.std.specs.Prelude.{◌≤◌};
 ghost use Rattle.frame_core.specs.RawFrames.{table_of};
 ghost use Rattle.bucket_core.specs.Calls.{IsSteady};
 ghost use Rattle.version_chain.specs.Traces.{GoesOn};
-ghost use Rattle.library_api.specs.Frames.{IsLegalForTable};
+ghost use Rattle.reply_model.specs.CommitAnswers.{append_answer};
+ghost use Rattle.reply_model.specs.Standing.{GrowsAlone};
+ghost use Rattle.library_api.specs.Frames.{IsLegalForTable, LaysForTable};
 
 use crate::preparing::{committed, prepare};
 use crate::reply::refusal;
@@ -33,6 +35,8 @@ pub(crate) fn append<R: Wait, B: Bucket<StoreLaw>>(
     ensures steady { IsSteady B.number B.limit B.faults B.sole bucket.old bucket.new }
     ensures grown { GoesOn (B.number bucket.old) (B.sole bucket.old) (B.seen bucket.old) (B.seen bucket.new) }
     ensures legal { IsLegalForTable (B.limit bucket.old) (B.number bucket.old) options.now.tries (table_of raw.now) options.now.at (λ n asked. Command.Append symbol.now n asked options.now.prune) (B.faults bucket.old) (B.faults bucket.new) (B.seen bucket.old) (B.seen bucket.new) result }
+    // Where nobody else makes events, the place and the row blocks are known.
+    ensures lays { GrowsAlone (B.number bucket.old) (B.seen bucket.old) (B.seen bucket.new) → LaysForTable options.now.cutting symbol.now (table_of raw.now) (λ frame st. append_answer st options.now.prune options.now.at frame) (B.seen bucket.old) (B.seen bucket.new) result }
 {
     match prepare(alloc, bucket.place(), raw) {
         Ok(prepared) => {

@@ -4,7 +4,10 @@ ghost use Rattle.std.specs.Prelude.{◌≤◌};
 ghost use Rattle.frame_core.specs.RawFrames.{table_of};
 ghost use Rattle.bucket_core.specs.Calls.{IsSteady};
 ghost use Rattle.version_chain.specs.Traces.{GoesOn};
-ghost use Rattle.library_api.specs.Frames.{IsLegalForTable, IsLegalWithStamp};
+ghost use Rattle.reply_model.specs.CommitAnswers.{update_answer};
+ghost use Rattle.reply_model.specs.Standing.{GrowsAlone};
+ghost use Rattle.append_update.specs.Asking.{clear_answer};
+ghost use Rattle.library_api.specs.Frames.{IsLegalForTable, IsLegalWithStamp, LaysForTable, LaysDone};
 
 use crate::commit_place::CommitPlace;
 use crate::preparing::{committed, prepare};
@@ -37,6 +40,8 @@ pub(crate) fn update<R: Wait, B: Bucket<StoreLaw>>(
     ensures steady { IsSteady B.number B.limit B.faults B.sole bucket.old bucket.new }
     ensures grown { GoesOn (B.number bucket.old) (B.sole bucket.old) (B.seen bucket.old) (B.seen bucket.new) }
     ensures legal { IsLegalForTable (B.limit bucket.old) (B.number bucket.old) options.now.tries (table_of raw.now) options.now.at (λ n asked. Command.Update symbol.now n range upsert asked options.now.prune) (B.faults bucket.old) (B.faults bucket.new) (B.seen bucket.old) (B.seen bucket.new) result }
+    // Where nobody else makes events, the place and the row blocks are known.
+    ensures lays { GrowsAlone (B.number bucket.old) (B.seen bucket.old) (B.seen bucket.new) → LaysForTable options.now.cutting symbol.now (table_of raw.now) (λ frame st. update_answer st upsert options.now.prune options.now.at range frame) (B.seen bucket.old) (B.seen bucket.new) result }
 {
     match prepare(alloc, bucket.place(), raw) {
         Ok(prepared) => {
@@ -70,6 +75,8 @@ pub(crate) fn delete_range<R: Wait, B: Bucket<StoreLaw>>(
     ensures steady { IsSteady B.number B.limit B.faults B.sole bucket.old bucket.new }
     ensures grown { GoesOn (B.number bucket.old) (B.sole bucket.old) (B.seen bucket.old) (B.seen bucket.new) }
     ensures legal { IsLegalWithStamp (B.limit bucket.old) (B.number bucket.old) options.now.tries options.now.at (λ asked. Command.DeleteRange symbol.now range asked options.now.prune) (B.faults bucket.old) (B.faults bucket.new) (B.seen bucket.old) (B.seen bucket.new) result }
+    // Where nobody else makes events, the place and the row blocks are known.
+    ensures lays { GrowsAlone (B.number bucket.old) (B.seen bucket.old) (B.seen bucket.new) → LaysDone options.now.cutting symbol.now (clear_answer range options.now.prune options.now.at) (B.seen bucket.old) (B.seen bucket.new) result }
 {
     let Ok(commit) = CommitPlace::new(alloc) else {
         return refusal(alloc, out_of_memory(bucket.place()));

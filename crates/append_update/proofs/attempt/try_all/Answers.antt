@@ -1,5 +1,6 @@
-use Rattle.std.proofs.Common.{◌<◌, inr, length, subst, Ok, Err, rules}
+use Rattle.std.proofs.Common.{◌<◌, inr, length, refl, arith, subst, Ok, Err, rules}
 use Rattle.frame_write.specs.Tries.{IsMet}
+use Rattle.frame_write.proofs.TriesLemmas.{tries_none}
 use Rattle.version_chain.proofs.SteadyLemmas.{steady_then}
 use Rattle.append_update.proofs.LoopLemmas.{attempt_steady, end_else, met_place, met_more, met_last}
 use Rattle.append_update.proofs.attempt.try_all.Goals as goal
@@ -27,6 +28,13 @@ returns-in_default-clause-did g c =
           (attempt_steady g.B.Bucket.number g.B.Bucket.limit g.B.Bucket.faults g.B.Bucket.sole c.args.bucket.now c.loop.bucket c.loop.invariant.steady c.args.symbol.now c.args.wish.now c.args.options.now (g.B.Bucket.faults c.attempt.new.bucket) (g.B.Bucket.seen c.loop.bucket) (g.B.Bucket.seen c.attempt.new.bucket) (Err c.in-Err.refused) c.in-Err.ensures.did)
           c.in_default.not-Moved;
     })
+
+pub loop-init : goal.loop-init
+loop-init g c = record {
+  steady = record { same_number = refl; same_limit = refl; faults_rise = omega arith; stays_sole = λ s. s };
+  so_far = tries_none (g.B.Bucket.number c.args.bucket.now) (g.B.Bucket.sole c.args.bucket.now) c.args.symbol.now (g.B.Bucket.seen c.args.bucket.now);
+  met = λ some. absurd (omega (arith, some));
+}
 
 pub loop-preserved : goal.loop-preserved
 loop-preserved g c =

@@ -1,7 +1,8 @@
-use Rattle.std.proofs.Common.{ap}
+use Rattle.std.proofs.Common.{sym, ap}
 use Rattle.frame_write.proofs.ReplyLemmas.{goes_on}
 use Rattle.append_update.specs.declared.wish.Wish.TheVariants as wishes
-use Rattle.append_update.specs.Asking.{IsAnswered, Declines, Wants}
+use Rattle.append_update.specs.Asking.{clear_answer, IsAnswered, Declines, Wants}
+use Rattle.append_update.proofs.AloneLemmas.{tries_lay}
 use Rattle.append_update.proofs.ReplyLemmas.{delete_is_legal}
 use Rattle.append_update.proofs.updating.delete_range.Goals as goal
 
@@ -15,3 +16,10 @@ pub returns-clause-legal : goal.returns-clause-legal
 returns-clause-legal g c =
     delete_is_legal (g.B.Bucket.number c.args.bucket.now) (g.B.Bucket.sole c.args.bucket.now) c.args.symbol.now c.args.range (wishes.Clear c.ordered-range.result) c.args.options.now (g.B.Bucket.limit c.args.bucket.now) _ _ _ _ _
     (ap (λ r. wishes.Clear r) c.ordered-range.ensures.same) c.try_all.ensures.did
+
+pub returns-clause-lays : goal.returns-clause-lays
+returns-clause-lays g c = λ grows.
+    let options = c.args.options.now in
+    tries_lay (g.B.Bucket.number c.args.bucket.now) (g.B.Bucket.sole c.args.bucket.now) c.args.symbol.now (wishes.Clear c.ordered-range.result) options (g.B.Bucket.limit c.args.bucket.now) _ _ _ _ _
+    c.try_all.ensures.cutting (g.met.B.Bucket.lawful c.try_all.new.bucket) grows c.try_all.ensures.did (clear_answer c.args.range options.prune options.at)
+    (λ st. ap (λ range. clear_answer range options.prune options.at st) (sym c.ordered-range.ensures.same))

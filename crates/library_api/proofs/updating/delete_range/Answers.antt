@@ -4,7 +4,9 @@ use Rattle.version_chain.proofs.Walked.{looks_none}
 use Rattle.expr_clause.specs.declared.command.Command.{Command}
 use Rattle.expr_clause.specs.declared.command.Command.TheVariants as commands
 use Rattle.library_api.specs.Steps.{refusal_reply}
-use Rattle.library_api.specs.Frames.{IsLegalWithStamp}
+use Rattle.append_update.specs.Asking.{clear_answer}
+use Rattle.library_api.specs.Frames.{IsLegalWithStamp, LaysDone}
+use Rattle.library_api.proofs.LayLemmas.{refused_done, result_done}
 use Rattle.library_api.proofs.NoEvents.{looks_go_on}
 use Rattle.library_api.proofs.WriteLemmas.{stamp_wants_memory}
 use Rattle.library_api.proofs.updating.delete_range.Goals as goal
@@ -34,3 +36,18 @@ returns-clause-legal g c =
     let options = c.args.options.now in
     let command : Option ℤ → Command = λ asked. commands.DeleteRange c.args.symbol.now c.args.range asked options.prune in
     subst (IsLegalWithStamp limit number options.tries options.at command before now old new) (sym c.committed.ensures) c.delete_range-done.ensures.legal
+
+pub returns-in_default-clause-lays : goal.returns-in_default-clause-lays
+returns-in_default-clause-lays g c grows =
+    let old : History = g.B.Bucket.seen c.args.bucket.now in
+    let options = c.args.options.now in
+    let next = clear_answer c.args.range options.prune options.at in
+    subst (LaysDone options.cutting c.args.symbol.now next old old) (sym c.refusal.ensures) (refused_done options.cutting c.args.symbol.now old old next c.out_of_memory.result)
+
+pub returns-clause-lays : goal.returns-clause-lays
+returns-clause-lays g c grows =
+    let old : History = g.B.Bucket.seen c.args.bucket.now in
+    let new : History = g.B.Bucket.seen c.delete_range-done.new.bucket in
+    let options = c.args.options.now in
+    let next = clear_answer c.args.range options.prune options.at in
+    subst (LaysDone options.cutting c.args.symbol.now next old new) (sym c.committed.ensures) (result_done options.cutting c.args.symbol.now old new next c.delete_range-done.result (c.delete_range-done.ensures.lays grows))

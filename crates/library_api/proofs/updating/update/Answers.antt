@@ -1,10 +1,16 @@
-use Rattle.std.proofs.Common.{ℕ, ℤ, Option, subst, sym}
+use Rattle.std.proofs.Common.{ℕ, ℤ, Option, Result, subst, sym}
+use Rattle.frame_core.specs.declared.refusal.Refusal.{Refusal}
+use Rattle.frame_core.specs.Frames.{Frame}
 use Rattle.frame_core.specs.RawFrames.{table_of}
 use Rattle.bucket_core.specs.History.{History}
+use Rattle.store_model.specs.Library.{State}
+use Rattle.reply_model.specs.Answering.{Answer}
 use Rattle.version_chain.proofs.Walked.{looks_none}
 use Rattle.expr_clause.specs.declared.command.Command.{Command}
 use Rattle.expr_clause.specs.declared.command.Command.TheVariants as commands
-use Rattle.library_api.specs.Frames.{IsLegalForTable}
+use Rattle.reply_model.specs.CommitAnswers.{update_answer}
+use Rattle.library_api.specs.Frames.{IsLegalForTable, LaysForTable}
+use Rattle.library_api.proofs.LayLemmas.{refused_lays, result_lays}
 use Rattle.library_api.proofs.NoEvents.{looks_go_on}
 use Rattle.library_api.proofs.WriteLemmas.{update_takes, unmade_legal, tried_legal}
 use Rattle.library_api.proofs.updating.update.Goals as goal
@@ -35,3 +41,20 @@ returns-in-Err-clause-legal g c =
     let command : ℕ → Option ℤ → Command = λ n asked. commands.Update c.args.symbol.now n c.args.range c.args.upsert asked options.prune in
     subst (IsLegalForTable limit number options.tries (table_of c.args.raw.now) options.at command faults faults old old) (sym c.refusal.ensures)
     (unmade_legal command (update_takes c.args.symbol.now c.args.range c.args.upsert options.prune) limit number options.tries (table_of c.args.raw.now) options.at faults old c.place.result c.in-Err.refused c.place.ensures c.in-Err.ensures.refused)
+
+pub returns-in-Ok-clause-lays : goal.returns-in-Ok-clause-lays
+returns-in-Ok-clause-lays g c grows =
+    let old : History = g.B.Bucket.seen c.args.bucket.now in
+    let new : History = g.B.Bucket.seen c.update-done.new.bucket in
+    let options = c.args.options.now in
+    let next : Frame → State → Result Answer Refusal = (λ frame st. update_answer st c.args.upsert options.prune options.at c.args.range frame) in
+    subst (LaysForTable options.cutting c.args.symbol.now (table_of c.args.raw.now) next old new) (sym c.committed.ensures)
+    (result_lays options.cutting c.args.symbol.now old new (table_of c.args.raw.now) next c.in-Ok.prepared.frame c.update-done.result c.in-Ok.ensures.frame (c.update-done.ensures.lays grows))
+
+pub returns-in-Err-clause-lays : goal.returns-in-Err-clause-lays
+returns-in-Err-clause-lays g c grows =
+    let old : History = g.B.Bucket.seen c.args.bucket.now in
+    let options = c.args.options.now in
+    let next : Frame → State → Result Answer Refusal = (λ frame st. update_answer st c.args.upsert options.prune options.at c.args.range frame) in
+    subst (LaysForTable options.cutting c.args.symbol.now (table_of c.args.raw.now) next old old) (sym c.refusal.ensures)
+    (refused_lays options.cutting c.args.symbol.now old old (table_of c.args.raw.now) next c.in-Err.refused)

@@ -1,0 +1,68 @@
+-- The row blocks of the version that a commit makes.
+--     run_cutting         a cutting, as a run of one client alone has it
+--     sizes_in, new_blocks      the rows of the row blocks of pieces; how many of them are new
+--     AreParts            pieces that have the row blocks of these parts
+--     AreSmall            no row block of the base has more rows than the cutting's
+--     IsPutAs, IsBuiltOn  what a commit put and what it built, by the row blocks of its version
+--     LaysAs              where nobody else makes events, the version that the library answers is laid out so
+use Rattle.std.specs.Prelude.{◌≡◌, ◌≤◌, ℕ, ◌+◌, ◌*◌, true, List, [], ◌∷◌, ◌++◌, map, length, Result, Ok}
+use Rattle.std.specs.List.{AllByRecursion}
+use Rattle.frame_core.specs.declared.refusal.Refusal.{Refusal}
+use Rattle.segment_cut.specs.Cuttings.{Cutting as Sizes, IsCutting}
+use Rattle.key_kind.specs.Names.{Name}
+use Rattle.bucket_core.specs.declared.event.Change.{Change}
+use Rattle.bucket_core.specs.History.{History}
+use Rattle.store_model.specs.Commits.{is_version}
+use Rattle.store_model.specs.Library.{State, state_of}
+use Rattle.reply_model.specs.declared.outcome.Outcome.{Outcome}
+use Rattle.reply_model.specs.Answering.{Answer}
+use Rattle.reply_model.specs.Blocks.{Cutting, Part, block_sizes}
+use Rattle.reply_model.specs.Standing.{row_sizes, IsCutBy, base_rows, part_rows, fresh_in, slices, parts_laid, IsLaid}
+use Rattle.frame_write.specs.declared.pieces.Piece.{Piece}
+use Rattle.frame_write.specs.declared.pieces.Piece.TheVariants as pieces
+use Rattle.frame_write.specs.Plans.{IsUnmoved}
+use Rattle.frame_write.specs.Tries.{Made}
+
+-- the cutting, as a run of one client alone has it
+abbrev pub run_cutting : Sizes → Cutting
+run_cutting c = record { rows = c.rows; columns = c.cols }
+
+-- the rows of the row blocks of pieces
+abbrev pub sizes_in : Cutting → List Piece → List ℕ
+sizes_in c [] = []
+sizes_in c (pieces.Shared run ∷ list) = row_sizes run ++ sizes_in c list
+sizes_in c (pieces.Fresh frame ∷ list) = block_sizes c (length frame.rows) ++ sizes_in c list
+
+-- how many of these row blocks are new
+abbrev pub new_blocks : Cutting → List Piece → ℕ
+new_blocks c [] = 0
+new_blocks c (pieces.Shared run ∷ list) = new_blocks c list
+new_blocks c (pieces.Fresh frame ∷ list) = length (block_sizes c (length frame.rows)) + new_blocks c list
+
+-- the pieces have the row blocks of these parts
+pub record AreParts (c : Cutting) (list : List Piece) (parts : List Part) : Type 0 where
+  pub rows : sizes_in c list ≡ map part_rows parts
+  pub fresh : new_blocks c list ≡ fresh_in parts
+
+-- no row block of the base has more rows than a full one
+abbrev pub AreSmall : Cutting → History → Name → Type 0
+AreSmall c h symbol = AllByRecursion (λ n. n ≤ c.rows) (base_rows h symbol)
+
+-- a put for each tile of the new row blocks of a version on the base, the index and the element; the index has the rows of all blocks
+pub record IsPutAs (c : Cutting) (h : History) (symbol : Name) (change : Change) (m : Made) : Type 0 where
+  pub tiles : length m.puts ≡ fresh_in (parts_laid c h symbol change) * slices c (state_of h symbol) change + 2
+  pub rows : row_sizes m.index.slots ≡ map part_rows (parts_laid c h symbol change)
+
+-- the change makes a version on the base of a history that was walked, whose state was left as it was; its row blocks were put
+pub record IsBuiltOn (cutting : Sizes) (symbol : Name) (change : Change) (m : Made) : Type 0 where
+  pub version : is_version change ≡ true
+  pub walked : History
+  pub later : History
+  pub split : m.before ≡ later ++ walked
+  pub unmoved : IsUnmoved (state_of walked symbol) (state_of m.before symbol)
+  pub put : IsCutting cutting → AreSmall (run_cutting cutting) walked symbol → IsPutAs (run_cutting cutting) walked symbol change m
+
+-- where all versions were cut so, the version that the library answers in the old history is laid out by the commit at the place
+abbrev pub LaysAs : Cutting → Name → (State → Result Answer Refusal) → ℕ → History → History → Type 0
+LaysAs c symbol answer place old new = IsCutBy c old → (change : Change) (rest : List Change) (outcome : Outcome)
+    → answer (state_of old symbol) ≡ Ok (record { outcome = outcome; marks = change ∷ rest }) → IsLaid c symbol change place old new
