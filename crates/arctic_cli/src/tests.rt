@@ -272,7 +272,11 @@ fn a_reclaim_keeps_the_tiles_that_an_append_shares(rt: HostRuntime) -> Result<()
 }
 
 /// The status of `run day.arc --rows 2` over the files six, mid and e, and what it printed.
-fn ran_six<R: Threads + Wait + Sync>(rt: &R, alloc: Global, script: &str) -> Result<(u8, MemorySink), Fail> {
+fn ran_six<R: Threads + Wait + Sync>(
+    rt: &R,
+    alloc: Global,
+    script: &str,
+) -> Result<(u8, MemorySink), Fail> {
     let files = [
         ("day.arc", script),
         (
@@ -504,7 +508,14 @@ fn read_meanwhile<R: Threads + Wait + Sync>(
         done: GatePoint::behind(3, Step::Drop),
         counts: Mutex::new(Counts { held: 0, done: 0 }),
     };
-    ran_by(rt, alloc, &["run", "day.arc"], shelf, Vec::new(alloc), &gate)
+    ran_by(
+        rt,
+        alloc,
+        &["run", "day.arc"],
+        shelf,
+        Vec::new(alloc),
+        &gate,
+    )
 }
 
 #[test]
@@ -522,8 +533,7 @@ fn a_read_gives_a_whole_frame_or_tells_that_it_is_gone(rt: HostRuntime) -> Resul
         assert_eq!(rt; ended, status);
         let rest = out.bytes().strip_prefix(b"first.1 @4 ok v0\n");
         let rest = rest.and_then(|bytes| bytes.strip_prefix(read.as_bytes()));
-        let wanted =
-            b"b.1 @8 ok v1\nb.2 @8 ok freed data=1 index=1 staged=0\nend @10\n".as_slice();
+        let wanted = b"b.1 @8 ok v1\nb.2 @8 ok freed data=1 index=1 staged=0\nend @10\n".as_slice();
         assert!(rt; rest == Some(wanted));
     }
     Ok(())
