@@ -306,8 +306,8 @@ pub fn run<R: Threads + Wait + Sync, F: Shelf, S: Sink, C: Clock, G: Gate>(
     ensures limit { limit_of result.pass ≡ limit_of pass }
     ensures sole { sole_of result.pass ≡ true }
 
-    // Where nothing hinders one client alone, the script has at most one client, and no command is an append, an update, a delete of
-    // a range or a reclaim, there is no other answer than this run, or want of memory.
+    // Where nothing hinders one client alone, the script has at most one client, and no command is a reclaim, there is no other answer
+    // than this run, or want of memory.
     ensures complete { (held : Files) (told : Bytes) (moment : ℤ) → IsUnhindered (start_of (map string_bytes words.now) (F.holds shelf.old) (C.reading clock.old) pass) (F.faults shelf.old) (F.faults shelf.new) (S.faults out.old) (S.faults out.new) held told moment (S.written out.old) (seen_of result.pass) → (result.status ≡ 6) ⊎ IsRun (run_alone moment held (map string_bytes words.now)) told (S.written out.new) result.status }
 {
     let moment = clock.now();
