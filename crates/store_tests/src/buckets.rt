@@ -3,11 +3,11 @@ ghost use Rattle.std.specs.Arc.{arc_value};
 ghost use Rattle.key_kind.specs.Keys.{IsKey};
 ghost use Rattle.key_kind.specs.KeyText.{key_text};
 
-use crate::{
+use base_types::{Items, Keep};
+use bucket_core::{
     Body, Bucket, Changes, Counting, Flaky, Gate, GatePoint, Gated, Law, PlainBucket, Step,
     StoreErr, When,
 };
-use base_types::{Items, Keep};
 use key_kind::{Key, KeyKind, SnapName, Symbol};
 use std::alloc::Global;
 use std::sync::{Arc, Mutex, Wait};

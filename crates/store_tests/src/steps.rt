@@ -1,0 +1,184 @@
+use crate::stores::{everything, library, raw_rows, read, store, symbol};
+use base_types::Items;
+use bucket_core::{Bucket, Flaky, PlainBucket, When};
+use expr_clause::{AsOf, Command};
+use frame_core::{Asked, RawFrame, Refusal};
+use library_api::Library;
+use reply_model::{Outcome, Reply};
+use std::alloc::Global;
+use std::sync::Wait;
+use std::test::Fail;
+use version_chain::StoreLaw;
+
+// The columns price and size of five rows, whose stamps are 1, 2, 2, 4 and 9.
+fn raw_five_rows(alloc: Global) -> Result<RawFrame, Fail> {
+    raw_rows(
+        alloc,
+        &["price", "size"],
+        &[1, 2, 2, 4, 9],
+        &[100, 101, 102, 99, 105],
+    )
+}
+
+// What the library answers to a write of the five rows.
+fn write<R: Wait, B: Bucket<StoreLaw>>(
+    rt: &R,
+    alloc: Global,
+    library: &mut Library<B>,
+    at: Option<i64>,
+) -> Result<Reply, Fail> {
+    let mut frames = Items::new(alloc);
+    frames.push(raw_five_rows(alloc)?)?;
+    let command = Command::Write {
+        symbol: symbol(alloc)?,
+        frame: 0,
+        at,
+        prune: false,
+    };
+    Ok(library.step(rt, alloc, &command, frames.items()))
+}
+
+// What it answers to a question for the number of keys.
+fn keys<R: Wait, B: Bucket<StoreLaw>>(
+    rt: &R,
+    alloc: Global,
+    library: &mut Library<B>,
+) -> Result<Reply, Fail> {
+    let command = Command::Keys {
+        symbol: symbol(alloc)?,
+    };
+    Ok(library.step(rt, alloc, &command, &[]))
+}
+
+// The place and the version of a new version, or of one that was read with its number of rows.
+fn version(reply: &Reply) -> Option<(u64, u64, u64)> {
+    match &reply.outcome {
+        Outcome::Committed { version } => Some((reply.place, *version, 0)),
+        Outcome::Whole { version, frame } => Some((reply.place, *version, frame.rows())),
+        _ => None,
+    }
+}
+
+// The place and the refusal.
+fn refused(reply: &Reply) -> Option<(u64, Refusal)> {
+    match &reply.outcome {
+        Outcome::Refused { why } => Some((reply.place, *why)),
+        _ => None,
+    }
+}
+
+// The place, the version and the number of rows that a read gives.
+fn read_version<R: Wait, B: Bucket<StoreLaw>>(
+    rt: &R,
+    alloc: Global,
+    library: &mut Library<B>,
+    as_of: AsOf,
+) -> Result<Option<(u64, u64, u64)>, Fail> {
+    Ok(version(&read(rt, alloc, library, as_of, everything())?))
+}
+
+// Whether a read is refused at this place, since there is no version that is asked so.
+fn lacks_version<R: Wait, B: Bucket<StoreLaw>>(
+    rt: &R,
+    alloc: Global,
+    library: &mut Library<B>,
+    as_of: AsOf,
+    asked: Asked,
+    place: u64,
+) -> Result<bool, Fail> {
+    let reply = read(rt, alloc, library, as_of, everything())?;
+    Ok(refused(&reply) == Some((place, Refusal::NoSuchVersion { asked })))
+}
+
+// How many events a store has.
+fn length(store: &PlainBucket<StoreLaw>) -> usize {
+    store.events().len()
+}
+
+#[test]
+fn what_was_written_is_read(rt: HostRuntime) -> Result<(), Fail> {
+    let alloc = rt.alloc();
+    let mut library = library(store(alloc, 1_000)?);
+    assert!(rt; version(&write(&rt, alloc, &mut library, Some(50))?) == Some((4, 0, 0)));
+    assert!(rt; read_version(&rt, alloc, &mut library, AsOf::Back(1))? == Some((4, 0, 5)));
+    assert!(rt; length(&library.into_bucket()) == 4);
+    Ok(())
+}
+
+// The library after two writes, at the moments 50 and 60.
+fn written_twice<R: Wait>(rt: &R, alloc: Global) -> Result<Library<PlainBucket<StoreLaw>>, Fail> {
+    let mut library = library(store(alloc, 1_000)?);
+    write(rt, alloc, &mut library, Some(50))?;
+    write(rt, alloc, &mut library, Some(60))?;
+    Ok(library)
+}
+
+#[test]
+fn a_read_takes_the_version_that_is_asked(rt: HostRuntime) -> Result<(), Fail> {
+    let alloc = rt.alloc();
+    let mut library = written_twice(&rt, alloc)?;
+    assert!(rt; read_version(&rt, alloc, &mut library, AsOf::Back(1))? == Some((8, 1, 5)));
+    assert!(rt; read_version(&rt, alloc, &mut library, AsOf::Back(2))? == Some((8, 0, 5)));
+    assert!(rt; read_version(&rt, alloc, &mut library, AsOf::Moment(55))? == Some((8, 0, 5)));
+    Ok(())
+}
+
+#[test]
+fn a_version_that_is_not_there_is_refused_as_it_was_asked(rt: HostRuntime) -> Result<(), Fail> {
+    let alloc = rt.alloc();
+    let mut library = written_twice(&rt, alloc)?;
+    let (number, moment) = (Asked::Number(7), Asked::Moment(49));
+    assert!(rt; lacks_version(&rt, alloc, &mut library, AsOf::Number(7), number, 8)?);
+    assert!(rt; lacks_version(&rt, alloc, &mut library, AsOf::Moment(49), moment, 8)?);
+    Ok(())
+}
+
+#[test]
+fn the_moment_of_the_session_is_the_stamp_where_none_is_given(rt: HostRuntime) -> Result<(), Fail> {
+    let alloc = rt.alloc();
+    let mut library = library(store(alloc, 1_000)?);
+    write(&rt, alloc, &mut library, None)?;
+    assert!(rt; read_version(&rt, alloc, &mut library, AsOf::Moment(70))? == Some((4, 0, 5)));
+    let early = Asked::Moment(69);
+    assert!(rt; lacks_version(&rt, alloc, &mut library, AsOf::Moment(69), early, 4)?);
+    Ok(())
+}
+
+#[test]
+fn a_full_store_refuses_a_write(rt: HostRuntime) -> Result<(), Fail> {
+    let alloc = rt.alloc();
+    let mut library = library(store(alloc, 3)?);
+    let full = write(&rt, alloc, &mut library, Some(50))?;
+    assert!(rt; refused(&full) == Some((3, Refusal::Spent { count: 3 })));
+    Ok(())
+}
+
+// A store whose fifth call fails after its effect.
+fn flaky(alloc: Global) -> Result<Flaky<PlainBucket<StoreLaw>>, Fail> {
+    let mut fails = Items::new(alloc);
+    fails.push((5, When::After))?;
+    Ok(Flaky::make(store(alloc, 1_000)?, fails))
+}
+
+#[test]
+fn a_commit_whose_answer_was_lost_stands(rt: HostRuntime) -> Result<(), Fail> {
+    let alloc = rt.alloc();
+    let mut library = library(flaky(alloc)?);
+    let lost = write(&rt, alloc, &mut library, Some(50))?;
+    assert!(rt; refused(&lost) == Some((3, Refusal::StoreFault)));
+    assert!(rt; read_version(&rt, alloc, &mut library, AsOf::Back(1))? == Some((4, 0, 5)));
+    let keys = keys(&rt, alloc, &mut library)?;
+    assert!(rt;
+        matches!(
+            keys.outcome,
+            Outcome::Keys {
+                tiles: 1,
+                indexes: 1,
+                versions: 1,
+                refs: 1,
+                staged: 0
+            }
+        )
+    );
+    Ok(())
+}
