@@ -1,5 +1,5 @@
-use crate::Shared;
 use bucket_core::Bucket;
+use bucket_shared::Shared;
 use std::test::Fail;
 
 #[test]
