@@ -4,7 +4,7 @@ use bucket_core::{Bucket, Flaky, PlainBucket, When};
 use expr_clause::{AsOf, Command};
 use frame_core::{Asked, RawFrame, Refusal};
 use library_api::Library;
-use reply_model::{Outcome, Reply};
+use reply_model::{Outcome, Reply, VersionRow};
 use std::alloc::Global;
 use std::sync::Wait;
 use std::test::Fail;
@@ -26,6 +26,7 @@ fn write<R: Wait, B: Bucket<StoreLaw>>(
     alloc: Global,
     library: &mut Library<B>,
     at: Option<i64>,
+    prune: bool,
 ) -> Result<Reply, Fail> {
     let mut frames = Items::new(alloc);
     frames.push(raw_five_rows(alloc)?)?;
@@ -33,7 +34,7 @@ fn write<R: Wait, B: Bucket<StoreLaw>>(
         symbol: symbol(alloc)?,
         frame: 0,
         at,
-        prune: false,
+        prune,
     };
     Ok(library.step(rt, alloc, &command, frames.items()))
 }
@@ -99,7 +100,7 @@ fn length(store: &PlainBucket<StoreLaw>) -> usize {
 fn what_was_written_is_read(rt: HostRuntime) -> Result<(), Fail> {
     let alloc = rt.alloc();
     let mut library = library(store(alloc, 1_000)?);
-    assert!(rt; version(&write(&rt, alloc, &mut library, Some(50))?) == Some((4, 0, 0)));
+    assert!(rt; version(&write(&rt, alloc, &mut library, Some(50), false)?) == Some((4, 0, 0)));
     assert!(rt; read_version(&rt, alloc, &mut library, AsOf::Back(1))? == Some((4, 0, 5)));
     assert!(rt; length(&library.into_bucket()) == 4);
     Ok(())
@@ -108,8 +109,8 @@ fn what_was_written_is_read(rt: HostRuntime) -> Result<(), Fail> {
 // The library after two writes, at the moments 50 and 60.
 fn written_twice<R: Wait>(rt: &R, alloc: Global) -> Result<Library<PlainBucket<StoreLaw>>, Fail> {
     let mut library = library(store(alloc, 1_000)?);
-    write(rt, alloc, &mut library, Some(50))?;
-    write(rt, alloc, &mut library, Some(60))?;
+    write(rt, alloc, &mut library, Some(50), false)?;
+    write(rt, alloc, &mut library, Some(60), false)?;
     Ok(library)
 }
 
@@ -137,7 +138,7 @@ fn a_version_that_is_not_there_is_refused_as_it_was_asked(rt: HostRuntime) -> Re
 fn the_moment_of_the_session_is_the_stamp_where_none_is_given(rt: HostRuntime) -> Result<(), Fail> {
     let alloc = rt.alloc();
     let mut library = library(store(alloc, 1_000)?);
-    write(&rt, alloc, &mut library, None)?;
+    write(&rt, alloc, &mut library, None, false)?;
     assert!(rt; read_version(&rt, alloc, &mut library, AsOf::Moment(70))? == Some((4, 0, 5)));
     let early = Asked::Moment(69);
     assert!(rt; lacks_version(&rt, alloc, &mut library, AsOf::Moment(69), early, 4)?);
@@ -148,7 +149,7 @@ fn the_moment_of_the_session_is_the_stamp_where_none_is_given(rt: HostRuntime) -
 fn a_full_store_refuses_a_write(rt: HostRuntime) -> Result<(), Fail> {
     let alloc = rt.alloc();
     let mut library = library(store(alloc, 3)?);
-    let full = write(&rt, alloc, &mut library, Some(50))?;
+    let full = write(&rt, alloc, &mut library, Some(50), false)?;
     assert!(rt; refused(&full) == Some((3, Refusal::Spent { count: 3 })));
     Ok(())
 }
@@ -164,7 +165,7 @@ fn flaky(alloc: Global) -> Result<Flaky<PlainBucket<StoreLaw>>, Fail> {
 fn a_commit_whose_answer_was_lost_stands(rt: HostRuntime) -> Result<(), Fail> {
     let alloc = rt.alloc();
     let mut library = library(flaky(alloc)?);
-    let lost = write(&rt, alloc, &mut library, Some(50))?;
+    let lost = write(&rt, alloc, &mut library, Some(50), false)?;
     assert!(rt; refused(&lost) == Some((3, Refusal::StoreFault)));
     assert!(rt; read_version(&rt, alloc, &mut library, AsOf::Back(1))? == Some((4, 0, 5)));
     let keys = keys(&rt, alloc, &mut library)?;
@@ -180,5 +181,125 @@ fn a_commit_whose_answer_was_lost_stands(rt: HostRuntime) -> Result<(), Fail> {
             }
         )
     );
+    Ok(())
+}
+
+// What it answers to a question for the versions of S.
+fn versions<R: Wait, B: Bucket<StoreLaw>>(
+    rt: &R,
+    alloc: Global,
+    library: &mut Library<B>,
+) -> Result<Reply, Fail> {
+    let command = Command::Versions {
+        symbol: symbol(alloc)?,
+    };
+    Ok(library.step(rt, alloc, &command, &[]))
+}
+
+// What it answers to a delete of every version of S.
+fn delete<R: Wait, B: Bucket<StoreLaw>>(
+    rt: &R,
+    alloc: Global,
+    library: &mut Library<B>,
+) -> Result<Reply, Fail> {
+    let command = Command::Delete {
+        symbol: symbol(alloc)?,
+        versions: None,
+    };
+    Ok(library.step(rt, alloc, &command, &[]))
+}
+
+// What it answers to a prune of S.
+fn prune<R: Wait, B: Bucket<StoreLaw>>(
+    rt: &R,
+    alloc: Global,
+    library: &mut Library<B>,
+) -> Result<Reply, Fail> {
+    let command = Command::Prune {
+        symbol: symbol(alloc)?,
+    };
+    Ok(library.step(rt, alloc, &command, &[]))
+}
+
+// What it answers to a reclaim of S.
+fn reclaim<R: Wait, B: Bucket<StoreLaw>>(
+    rt: &R,
+    alloc: Global,
+    library: &mut Library<B>,
+) -> Result<Reply, Fail> {
+    let command = Command::Reclaim {
+        symbol: symbol(alloc)?,
+    };
+    Ok(library.step(rt, alloc, &command, &[]))
+}
+
+// The place of a delete or a prune, and how many versions it buried.
+fn buried(reply: &Reply) -> Option<(u64, u64)> {
+    match &reply.outcome {
+        Outcome::Deleted { versions } => Some((reply.place, *versions)),
+        Outcome::Pruned { versions } => Some((reply.place, *versions)),
+        _ => None,
+    }
+}
+
+// Whether the versions are 0 and 1 with the stamps 50 and 60, of which the first is buried.
+fn first_is_buried(reply: &Reply) -> bool {
+    match &reply.outcome {
+        Outcome::Versions { rows } => {
+            rows.items()
+                == [
+                    VersionRow {
+                        version: 0,
+                        stamp: 50,
+                        live: false,
+                        holds: 0,
+                    },
+                    VersionRow {
+                        version: 1,
+                        stamp: 60,
+                        live: true,
+                        holds: 0,
+                    },
+                ]
+                .as_slice()
+        }
+        _ => false,
+    }
+}
+
+#[test]
+fn buried_versions_are_listed_and_are_not_read(rt: HostRuntime) -> Result<(), Fail> {
+    let alloc = rt.alloc();
+    let mut library = library(store(alloc, 1_000)?);
+    write(&rt, alloc, &mut library, Some(50), false)?;
+    write(&rt, alloc, &mut library, Some(60), true)?;
+    let listed = versions(&rt, alloc, &mut library)?;
+    assert!(rt; listed.place == 8 && first_is_buried(&listed));
+    assert!(rt; buried(&delete(&rt, alloc, &mut library)?) == Some((10, 1)));
+    assert!(rt; lacks_version(&rt, alloc, &mut library, AsOf::Back(1), Asked::Back(1), 10)?);
+    assert!(rt; buried(&prune(&rt, alloc, &mut library)?) == Some((10, 0)));
+    Ok(())
+}
+
+#[test]
+fn a_reclaim_counts_the_keys_of_buried_versions(rt: HostRuntime) -> Result<(), Fail> {
+    let alloc = rt.alloc();
+    let mut library = library(store(alloc, 1_000)?);
+    write(&rt, alloc, &mut library, Some(50), false)?;
+    write(&rt, alloc, &mut library, Some(60), false)?;
+    assert!(rt; buried(&prune(&rt, alloc, &mut library)?) == Some((10, 1)));
+    let freed = reclaim(&rt, alloc, &mut library)?;
+    assert!(rt; freed.place == 10);
+    assert!(rt;
+        matches!(
+            freed.outcome,
+            Outcome::Freed {
+                tiles: 1,
+                indexes: 1,
+                staged: 0
+            }
+        )
+    );
+    assert!(rt; read_version(&rt, alloc, &mut library, AsOf::Back(1))? == Some((12, 1, 5)));
     Ok(())
 }
