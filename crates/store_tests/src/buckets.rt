@@ -5,8 +5,8 @@ ghost use Rattle.key_kind.specs.KeyText.{key_text};
 
 use base_types::{Items, Keep};
 use bucket_core::{
-    Body, Bucket, Changes, Counting, Flaky, Gate, GatePoint, Gated, Law, PlainBucket, Step,
-    StoreErr, When,
+    Body, Bucket, Changes, Counting, Dropped, Flaky, Gate, GatePoint, Gated, Law, OpenGate,
+    PlainBucket, Step, StoreErr, When,
 };
 use key_kind::{Key, KeyKind, SnapName, Symbol};
 use std::alloc::Global;
@@ -228,5 +228,82 @@ fn a_gate_is_passed_before_and_behind_each_put(rt: HostRuntime) -> Result<(), Fa
     assert_eq!(rt; bucket.into_inner().events().len(), 2);
     assert_eq!(rt; *gate.before.lock(&rt), 2);
     assert_eq!(rt; *gate.behind.lock(&rt), 2);
+    Ok(())
+}
+
+// The places of one call of each kind that changes, over a bucket that has seen nothing.
+fn each_change<R: Wait, B: Bucket<OnceLaw>>(
+    rt: &R,
+    alloc: Global,
+    bucket: &mut B,
+) -> Result<Items<u64>, Fail>
+    requires empty { B.seen bucket.old ≡ [] }
+{
+    let symbol = Symbol::make(alloc, "S")?;
+    let snap = SnapName::make(alloc, "k")?;
+    let key = element(alloc, &symbol, 0)?;
+    let mark = mark_of(alloc, &key)?;
+    let changes: Arc<Changes> = Arc::new(alloc, Items::new(alloc))?;
+    let mut places = Items::new(alloc);
+    places.push(bucket.refer(rt, &symbol, None, &key, mark, changes)?)?;
+    places.push(bucket.put(rt, key.copy(alloc)?, body_of(alloc, b"a")?)?)?;
+    places.push(bucket.name(rt, &snap, body_of(alloc, b"rows")?)?)?;
+    places.push(bucket.unname(rt, &snap, 3)?)?;
+    if let Dropped::Gone { place } = bucket.drop_key(rt, &key)? {
+        places.push(place)?;
+    }
+    Ok(places)
+}
+
+// The client of a bucket, its next serial, the number of events, how many keys are stored, and whether the symbol S has surely no
+// reference.
+fn looks<R: Wait, B: Bucket<OnceLaw>>(
+    rt: &R,
+    alloc: Global,
+    bucket: &mut B,
+) -> Result<(u32, u64, u64, usize, bool), Fail> {
+    let symbol = Symbol::make(alloc, "S")?;
+    let keys = bucket.list(rt, None, None)?.keys.len();
+    let unchanged = bucket.unchanged(&symbol, 0);
+    Ok((
+        bucket.client(),
+        bucket.serial(),
+        bucket.place(),
+        keys,
+        unchanged,
+    ))
+}
+
+#[test]
+fn each_call_of_a_counting_bucket_is_one_below(rt: HostRuntime) -> Result<(), Fail> {
+    let alloc = rt.alloc();
+    let mut bucket = Counting::make(plain(alloc, 9)?);
+    assert!(rt; looks(&rt, alloc, &mut bucket)? == (1, 0, 0, 0, true));
+    let places = each_change(&rt, alloc, &mut bucket)?;
+    assert!(rt; places.items() == [1, 2, 3, 4, 5].as_slice());
+    assert!(rt; looks(&rt, alloc, &mut bucket)? == (1, 1, 5, 1, false));
+    assert_eq!(rt; bucket.into_inner().events().len(), 5);
+    Ok(())
+}
+
+#[test]
+fn each_call_of_a_flaky_bucket_without_a_failure_is_one_below(rt: HostRuntime) -> Result<(), Fail> {
+    let alloc = rt.alloc();
+    let mut bucket = Flaky::make(plain(alloc, 9)?, Items::new(alloc));
+    assert!(rt; looks(&rt, alloc, &mut bucket)? == (1, 0, 0, 0, true));
+    let places = each_change(&rt, alloc, &mut bucket)?;
+    assert!(rt; places.items() == [1, 2, 3, 4, 5].as_slice());
+    assert!(rt; looks(&rt, alloc, &mut bucket)? == (1, 1, 5, 1, false));
+    Ok(())
+}
+
+#[test]
+fn each_call_of_a_gated_bucket_is_one_below(rt: HostRuntime) -> Result<(), Fail> {
+    let alloc = rt.alloc();
+    let mut bucket = Gated::make(plain(alloc, 9)?, &OpenGate);
+    assert!(rt; looks(&rt, alloc, &mut bucket)? == (1, 0, 0, 0, true));
+    let places = each_change(&rt, alloc, &mut bucket)?;
+    assert!(rt; places.items() == [1, 2, 3, 4, 5].as_slice());
+    assert!(rt; looks(&rt, alloc, &mut bucket)? == (1, 1, 5, 1, false));
     Ok(())
 }

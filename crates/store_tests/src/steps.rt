@@ -3,7 +3,7 @@ use base_types::Items;
 use bucket_core::{Bucket, Flaky, PlainBucket, When};
 use expr_clause::{AsOf, Command};
 use frame_core::{Asked, RawFrame, Refusal};
-use library_api::Library;
+use library_api::{Library, is_carried_out};
 use reply_model::{Outcome, Reply, VersionRow};
 use std::alloc::Global;
 use std::sync::Wait;
@@ -301,5 +301,15 @@ fn a_reclaim_counts_the_keys_of_buried_versions(rt: HostRuntime) -> Result<(), F
         )
     );
     assert!(rt; read_version(&rt, alloc, &mut library, AsOf::Back(1))? == Some((12, 1, 5)));
+    Ok(())
+}
+
+#[test]
+fn a_step_carries_out_what_it_says(rt: HostRuntime) -> Result<(), Fail> {
+    let keys = Command::Keys {
+        symbol: symbol(rt.alloc())?,
+    };
+    assert!(rt; is_carried_out(&keys));
+    assert!(rt; !is_carried_out(&Command::Symbols));
     Ok(())
 }
