@@ -11,6 +11,8 @@ mod burying;
 #[cfg(test)]
 mod elements;
 #[cfg(test)]
+mod libraries;
+#[cfg(test)]
 mod reads;
 #[cfg(test)]
 mod steps;

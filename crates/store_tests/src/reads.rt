@@ -1,4 +1,5 @@
-use crate::stores::{everything, library, read, rows, store, symbol, tiles, write};
+use crate::libraries::{everything, library, read};
+use crate::stores::{rows, store, symbol, tiles, write};
 use base_types::{Items, Keep};
 use bucket_core::PlainBucket;
 use expr_clause::AsOf;

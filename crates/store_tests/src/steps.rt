@@ -1,4 +1,5 @@
-use crate::stores::{everything, library, raw_rows, read, store, symbol};
+use crate::libraries::{everything, library, read};
+use crate::stores::{raw_rows, store, symbol};
 use base_types::Items;
 use bucket_core::{Bucket, Flaky, PlainBucket, When};
 use expr_clause::{AsOf, Command};

@@ -1,9 +1,8 @@
 ghost use Rattle.std.specs.Prelude.{◌≡◌, IfOk};
 ghost use Rattle.frame_core.specs.Limits.{IsStorable};
 
-use crate::stores::{
-    committed, everything, five_rows, library, read, rows, store, stored, symbol, tiles, write,
-};
+use crate::libraries::{everything, library, read};
+use crate::stores::{committed, five_rows, rows, store, stored, symbol, tiles, write};
 use append_update::{Committed, Options, delete_range, update};
 use base_types::Items;
 use bucket_core::{Bucket, Event, PlainBucket};
