@@ -5,8 +5,8 @@ ghost use Rattle.key_kind.specs.KeyText.{key_text};
 
 use base_types::{Items, Keep};
 use bucket_core::{
-    Body, Bucket, Changes, Counting, Dropped, Flaky, Gate, GatePoint, Gated, Law, OpenGate,
-    PlainBucket, Step, StoreErr, When,
+    Body, Bucket, Changes, Counting, Flaky, Gate, GatePoint, Gated, Law, OpenGate, PlainBucket,
+    Step, StoreErr, When,
 };
 use key_kind::{Key, KeyKind, SnapName, Symbol};
 use std::alloc::Global;
@@ -247,15 +247,7 @@ fn refer_first<R: Wait, B: Bucket<OnceLaw>>(
     Ok(bucket.refer(rt, symbol, None, key, mark, changes))
 }
 
-// The place at which the object of a key was dropped.
-fn drop_one<R: Wait, B: Bucket<OnceLaw>>(rt: &R, bucket: &mut B, key: &Key) -> Option<u64> {
-    match bucket.drop_key(rt, key) {
-        Ok(Dropped::Gone { place }) => Some(place),
-        _ => None,
-    }
-}
-
-// Whether one call of each kind that changes has the places 1 to 5, over a bucket that has seen nothing.
+// Whether a refer, a put, a name and an unname have the places 1 to 4, over a bucket that has seen nothing.
 fn each_change<R: Wait, B: Bucket<OnceLaw>>(
     rt: &R,
     alloc: Global,
@@ -270,8 +262,7 @@ fn each_change<R: Wait, B: Bucket<OnceLaw>>(
     let put = put(rt, alloc, bucket, &key, b"a")?;
     let name = name(rt, alloc, bucket, &snap)?;
     let unname = unname(rt, bucket, &snap, 3);
-    let gone = drop_one(rt, bucket, &key);
-    Ok(refer == Ok(1) && put == Ok(2) && name == Ok(3) && unname == Ok(4) && gone == Some(5))
+    Ok(refer == Ok(1) && put == Ok(2) && name == Ok(3) && unname == Ok(4))
 }
 
 // The client of a bucket, its next serial, the number of events, how many keys are stored, and whether the symbol S has surely no
@@ -299,8 +290,8 @@ fn each_call_of_a_counting_bucket_is_one_below(rt: HostRuntime) -> Result<(), Fa
     let mut bucket = Counting::make(plain(alloc, 9)?);
     assert!(rt; looks(&rt, alloc, &mut bucket)? == (1, 0, 0, 0, true));
     assert!(rt; each_change(&rt, alloc, &mut bucket)?);
-    assert!(rt; looks(&rt, alloc, &mut bucket)? == (1, 1, 5, 1, false));
-    assert_eq!(rt; bucket.into_inner().events().len(), 5);
+    assert!(rt; looks(&rt, alloc, &mut bucket)? == (1, 1, 4, 2, false));
+    assert_eq!(rt; bucket.into_inner().events().len(), 4);
     Ok(())
 }
 
@@ -310,7 +301,7 @@ fn each_call_of_a_flaky_bucket_without_a_failure_is_one_below(rt: HostRuntime) -
     let mut bucket = Flaky::make(plain(alloc, 9)?, Items::new(alloc));
     assert!(rt; looks(&rt, alloc, &mut bucket)? == (1, 0, 0, 0, true));
     assert!(rt; each_change(&rt, alloc, &mut bucket)?);
-    assert!(rt; looks(&rt, alloc, &mut bucket)? == (1, 1, 5, 1, false));
+    assert!(rt; looks(&rt, alloc, &mut bucket)? == (1, 1, 4, 2, false));
     Ok(())
 }
 
@@ -320,6 +311,6 @@ fn each_call_of_a_gated_bucket_is_one_below(rt: HostRuntime) -> Result<(), Fail>
     let mut bucket = Gated::make(plain(alloc, 9)?, &OpenGate);
     assert!(rt; looks(&rt, alloc, &mut bucket)? == (1, 0, 0, 0, true));
     assert!(rt; each_change(&rt, alloc, &mut bucket)?);
-    assert!(rt; looks(&rt, alloc, &mut bucket)? == (1, 1, 5, 1, false));
+    assert!(rt; looks(&rt, alloc, &mut bucket)? == (1, 1, 4, 2, false));
     Ok(())
 }
