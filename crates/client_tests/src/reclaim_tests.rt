@@ -19,7 +19,7 @@ use std::sync::Wait;
 use std::test::Fail;
 use version_chain::StoreLaw;
 
-fn symbol(alloc: Global) -> Result<Symbol, NoMemory> {
+pub(crate) fn symbol(alloc: Global) -> Result<Symbol, NoMemory> {
     match Symbol::make(alloc, "S") {
         Ok(symbol) => Ok(symbol),
         Err(_) => Err(NoMemory),
@@ -47,7 +47,7 @@ fn five_rows(alloc: Global) -> Result<Frame, NoMemory>
 }
 
 // Writes the five rows to S, in blocks of so many rows.
-fn write<R: Wait, B: Bucket<StoreLaw>>(
+pub(crate) fn write<R: Wait, B: Bucket<StoreLaw>>(
     rt: &R,
     alloc: Global,
     bucket: &mut B,
@@ -67,7 +67,7 @@ fn write<R: Wait, B: Bucket<StoreLaw>>(
 }
 
 // How many keys of a kind there are.
-fn count_kind(keys: &[Key], kind: KeyKind) -> usize {
+pub(crate) fn count_kind(keys: &[Key], kind: KeyKind) -> usize {
     keys.iter().filter(|key| key.kind == kind).count()
 }
 
@@ -149,7 +149,7 @@ impl Act for Reclaims {
     }
 }
 
-fn settings() -> Settings
+pub(crate) fn settings() -> Settings
     ensures { AreSettings result }
 {
     Settings {
@@ -176,7 +176,7 @@ fn read_while<R: Wait>(rt: &R, alloc: Global, get: u64) -> Result<Reply, Fail> {
 }
 
 // What a read of the latest version of S answers.
-fn read<R: Wait, B: Bucket<StoreLaw>>(
+pub(crate) fn read<R: Wait, B: Bucket<StoreLaw>>(
     rt: &R,
     alloc: Global,
     client: &mut Library<B>,

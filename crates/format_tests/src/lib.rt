@@ -1,5 +1,5 @@
-//! Tests of frames and of what is stored of them, through their public calls: a crate with tests of its own is proved twice, and
-//! those below are the largest.
+//! Tests of frames, of what is stored of them, and of scripts, through their public calls: a crate with tests of its own is proved
+//! twice, and those below are the largest.
 #![tactic(auto)]
 
 #[cfg(test)]
@@ -12,5 +12,7 @@ mod frames;
 mod indexes;
 #[cfg(test)]
 mod keys;
+#[cfg(test)]
+mod scripts;
 #[cfg(test)]
 mod segments;

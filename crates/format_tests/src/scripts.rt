@@ -1,7 +1,7 @@
-use crate::{
+use frame_core::Column;
+use script_lang::{
     AsOf, ColType, Command, CsvFault, RawFrame, Script, ScriptFault, read_frame, read_script,
 };
-use frame_core::Column;
 use std::test::Fail;
 
 const INT: ColType = ColType::Int;

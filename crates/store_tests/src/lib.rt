@@ -1,18 +1,24 @@
-//! Tests of the calls that clients make, through their public functions: a crate with tests of its own is proved twice, and those
-//! below are the largest.
+//! Tests of the calls over a bucket, and of what they stand on, through their public functions: a crate with tests of its own is
+//! proved twice, and those below are the largest.
 #![tactic(auto)]
 
 #[cfg(test)]
-mod append_update;
+mod appends;
 #[cfg(test)]
-mod bucket_core;
+mod buckets;
 #[cfg(test)]
-mod frame_read;
+mod burying;
 #[cfg(test)]
-mod frame_write;
+mod elements;
 #[cfg(test)]
-mod library_api;
+mod libraries;
 #[cfg(test)]
-mod prune_rule;
+mod reads;
 #[cfg(test)]
-mod version_chain;
+mod steps;
+#[cfg(test)]
+mod stores;
+#[cfg(test)]
+mod updates;
+#[cfg(test)]
+mod writes;

@@ -2,10 +2,10 @@ ghost use Rattle.std.specs.Prelude.{IfOk};
 ghost use Rattle.version_chain.specs.Entries.{IsEntry};
 ghost use Rattle.version_chain.specs.SnapBodies.{IsSnap};
 
-use crate::{EntryFault, entry_bytes, entry_read, snap_bytes, snap_read};
 use std::alloc::Global;
 use std::test::Fail;
 use store_model::{ChainMark, Entry, SnapBody};
+use version_chain::{EntryFault, entry_bytes, entry_read, snap_bytes, snap_read};
 
 // Behind the element of symbol `S`, client 1, serial 2: a Link of version 3, stamp 5 and 2 rows with the index of client 1, serial 6,
 // stamps 1 to 9; Tombs of 0 and 1; a Discard of the piece of client 2, serial 7.

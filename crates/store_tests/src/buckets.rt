@@ -3,11 +3,11 @@ ghost use Rattle.std.specs.Arc.{arc_value};
 ghost use Rattle.key_kind.specs.Keys.{IsKey};
 ghost use Rattle.key_kind.specs.KeyText.{key_text};
 
-use crate::{
-    Body, Bucket, Changes, Counting, Flaky, Gate, GatePoint, Gated, Law, PlainBucket, Step,
-    StoreErr, When,
-};
 use base_types::{Items, Keep};
+use bucket_core::{
+    Body, Bucket, Changes, Counting, Flaky, Gate, GatePoint, Gated, Law, OpenGate, PlainBucket,
+    Step, StoreErr, When,
+};
 use key_kind::{Key, KeyKind, SnapName, Symbol};
 use std::alloc::Global;
 use std::sync::{Arc, Mutex, Wait};
@@ -93,18 +93,18 @@ fn put<R: Wait, B: Bucket<OnceLaw>>(
     Ok(bucket.put(rt, key.copy(alloc)?, body))
 }
 
-fn name<R: Wait>(
+fn name<R: Wait, B: Bucket<OnceLaw>>(
     rt: &R,
     alloc: Global,
-    bucket: &mut PlainBucket<OnceLaw>,
+    bucket: &mut B,
     snap: &SnapName,
 ) -> Result<Result<u64, StoreErr>, Fail> {
     Ok(bucket.name(rt, snap, body_of(alloc, b"rows")?))
 }
 
-fn unname<R: Wait>(
+fn unname<R: Wait, B: Bucket<OnceLaw>>(
     rt: &R,
-    bucket: &mut PlainBucket<OnceLaw>,
+    bucket: &mut B,
     snap: &SnapName,
     since: u64,
 ) -> Result<u64, StoreErr> {
@@ -228,5 +228,89 @@ fn a_gate_is_passed_before_and_behind_each_put(rt: HostRuntime) -> Result<(), Fa
     assert_eq!(rt; bucket.into_inner().events().len(), 2);
     assert_eq!(rt; *gate.before.lock(&rt), 2);
     assert_eq!(rt; *gate.behind.lock(&rt), 2);
+    Ok(())
+}
+
+// The place of a first refer of S, to the element of this key.
+fn refer_first<R: Wait, B: Bucket<OnceLaw>>(
+    rt: &R,
+    alloc: Global,
+    bucket: &mut B,
+    symbol: &Symbol,
+    key: &Key,
+) -> Result<Result<u64, StoreErr>, Fail>
+    requires empty { B.seen bucket.old ≡ [] }
+    requires key { IsKey key.now }
+{
+    let mark = mark_of(alloc, key)?;
+    let changes: Arc<Changes> = Arc::new(alloc, Items::new(alloc))?;
+    Ok(bucket.refer(rt, symbol, None, key, mark, changes))
+}
+
+// Whether a refer, a put, a name and an unname have the places 1 to 4, over a bucket that has seen nothing.
+fn each_change<R: Wait, B: Bucket<OnceLaw>>(
+    rt: &R,
+    alloc: Global,
+    bucket: &mut B,
+) -> Result<bool, Fail>
+    requires empty { B.seen bucket.old ≡ [] }
+{
+    let symbol = Symbol::make(alloc, "S")?;
+    let snap = SnapName::make(alloc, "k")?;
+    let key = element(alloc, &symbol, 0)?;
+    let refer = refer_first(rt, alloc, bucket, &symbol, &key)?;
+    let put = put(rt, alloc, bucket, &key, b"a")?;
+    let name = name(rt, alloc, bucket, &snap)?;
+    let unname = unname(rt, bucket, &snap, 3);
+    Ok(refer == Ok(1) && put == Ok(2) && name == Ok(3) && unname == Ok(4))
+}
+
+// The client of a bucket, its next serial, the number of events, how many keys are stored, and whether the symbol S has surely no
+// reference.
+fn looks<R: Wait, B: Bucket<OnceLaw>>(
+    rt: &R,
+    alloc: Global,
+    bucket: &mut B,
+) -> Result<(u32, u64, u64, usize, bool), Fail> {
+    let symbol = Symbol::make(alloc, "S")?;
+    let keys = bucket.list(rt, None, None)?.keys.len();
+    let unchanged = bucket.unchanged(&symbol, 0);
+    Ok((
+        bucket.client(),
+        bucket.serial(),
+        bucket.place(),
+        keys,
+        unchanged,
+    ))
+}
+
+#[test]
+fn each_call_of_a_counting_bucket_is_one_below(rt: HostRuntime) -> Result<(), Fail> {
+    let alloc = rt.alloc();
+    let mut bucket = Counting::make(plain(alloc, 9)?);
+    assert!(rt; looks(&rt, alloc, &mut bucket)? == (1, 0, 0, 0, true));
+    assert!(rt; each_change(&rt, alloc, &mut bucket)?);
+    assert!(rt; looks(&rt, alloc, &mut bucket)? == (1, 1, 4, 2, false));
+    assert_eq!(rt; bucket.into_inner().events().len(), 4);
+    Ok(())
+}
+
+#[test]
+fn each_call_of_a_flaky_bucket_without_a_failure_is_one_below(rt: HostRuntime) -> Result<(), Fail> {
+    let alloc = rt.alloc();
+    let mut bucket = Flaky::make(plain(alloc, 9)?, Items::new(alloc));
+    assert!(rt; looks(&rt, alloc, &mut bucket)? == (1, 0, 0, 0, true));
+    assert!(rt; each_change(&rt, alloc, &mut bucket)?);
+    assert!(rt; looks(&rt, alloc, &mut bucket)? == (1, 1, 4, 2, false));
+    Ok(())
+}
+
+#[test]
+fn each_call_of_a_gated_bucket_is_one_below(rt: HostRuntime) -> Result<(), Fail> {
+    let alloc = rt.alloc();
+    let mut bucket = Gated::make(plain(alloc, 9)?, &OpenGate);
+    assert!(rt; looks(&rt, alloc, &mut bucket)? == (1, 0, 0, 0, true));
+    assert!(rt; each_change(&rt, alloc, &mut bucket)?);
+    assert!(rt; looks(&rt, alloc, &mut bucket)? == (1, 1, 4, 2, false));
     Ok(())
 }

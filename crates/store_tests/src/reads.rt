@@ -1,12 +1,18 @@
-use crate::choose;
-use crate::gathering::gathered_stamps;
+use crate::libraries::{everything, library, read};
+use crate::stores::{rows, store, symbol, tiles, write};
 use base_types::{Items, Keep};
-use frame_core::{Asked, Frame, Part, Range, RawFrame, Refusal};
-use key_kind::{Key, KeyKind, Symbol};
+use bucket_core::PlainBucket;
+use expr_clause::AsOf;
+use frame_core::{Asked, Range, Refusal};
+use frame_read::choose;
+use key_kind::{Key, KeyKind};
+use library_api::Library;
+use reply_model::{Outcome, Reply};
 use std::alloc::Global;
+use std::sync::Wait;
 use std::test::Fail;
 use store_model::LinkRow;
-use version_chain::SymbolState;
+use version_chain::{StoreLaw, SymbolState};
 
 // The link of this version, with this stamp.
 fn link(alloc: Global, version: u64, stamp: i64) -> Result<LinkRow, Fail> {
@@ -16,7 +22,7 @@ fn link(alloc: Global, version: u64, stamp: i64) -> Result<LinkRow, Fail> {
         rows: 1,
         index: Key {
             kind: KeyKind::TableIndex,
-            name: Symbol::make(alloc, "S")?.name().copy(alloc)?,
+            name: symbol(alloc)?.name().copy(alloc)?,
             client: 1,
             serial: version,
             version,
@@ -90,37 +96,49 @@ fn a_buried_version_is_refused_with_what_was_asked(rt: HostRuntime) -> Result<()
     Ok(())
 }
 
-// A tile of a frame without columns, that begins at this row and has these stamps.
-fn tile(alloc: Global, first_row: u64, stamps: &[i64]) -> Result<(Part, Frame), Fail> {
-    let raw = RawFrame {
-        stamps: Items::from_slice(alloc, stamps)?,
-        names: Items::new(alloc),
-        columns: Items::new(alloc),
-    };
-    let part = Part {
-        first_row,
-        rows: stamps.len() as u64,
-        first_col: 0,
-        cols: 0,
-    };
-    Ok((part, Frame::make(alloc, &raw)?))
+// Five rows of two columns, in tiles of three rows and one column: so each row stands in two tiles.
+fn in_tiles<R: Wait>(rt: &R, alloc: Global) -> Result<Library<PlainBucket<StoreLaw>>, Fail> {
+    let mut bucket = store(alloc, 1_000)?;
+    let frame = rows(
+        alloc,
+        &["price", "size"],
+        &[10, 20, 20, 40, 50],
+        &[1, 2, 3, 4, 5],
+    )?;
+    let _ = write(rt, alloc, &mut bucket, &frame, tiles(3, 1))?;
+    Ok(library(bucket))
 }
 
-// The stamps from 20 to 40 of rows 0 to 2, of the same rows again, and of rows 3 and 4.
-fn stamps_in_range(alloc: Global) -> Result<Items<i64>, Fail> {
-    let mut tiles = Vec::new(alloc);
-    tiles.push(tile(alloc, 0, &[10, 20, 20])?)?;
-    tiles.push(tile(alloc, 0, &[10, 20, 20])?)?;
-    tiles.push(tile(alloc, 3, &[40, 50])?)?;
-    match Range::make(Some(20), Some(40)) {
-        Some(range) => Ok(gathered_stamps(alloc, range, &tiles)?),
-        None => Ok(Items::new(alloc)),
+// The stamps of what a read gives.
+fn stamps(alloc: Global, reply: &Reply) -> Result<Option<Items<i64>>, Fail> {
+    match &reply.outcome {
+        Outcome::Whole { frame, .. } => Ok(Some(Items::from_slice(alloc, frame.stamps())?)),
+        _ => Ok(None),
     }
 }
 
+// The stamps of the rows from one to another that a read gives.
+fn stamps_between<R: Wait>(
+    rt: &R,
+    alloc: Global,
+    library: &mut Library<PlainBucket<StoreLaw>>,
+    from: i64,
+    to: i64,
+) -> Result<Option<Items<i64>>, Fail> {
+    let range = Range::make(Some(from), Some(to)).unwrap_or(everything());
+    let reply = read(rt, alloc, library, AsOf::Back(1), range)?;
+    stamps(alloc, &reply)
+}
+
 #[test]
-fn each_row_in_the_range_is_gathered_once(rt: HostRuntime) -> Result<(), Fail> {
-    let stamps = stamps_in_range(rt.alloc())?;
-    assert!(rt; stamps.items() == [20, 20, 40].as_slice());
+fn each_row_in_the_range_is_read_once(rt: HostRuntime) -> Result<(), Fail> {
+    let alloc = rt.alloc();
+    let mut library = in_tiles(&rt, alloc)?;
+    let both = stamps_between(&rt, alloc, &mut library, 20, 40)?;
+    assert!(rt; both.is_some_and(|stamps| stamps.items() == [20, 20, 40].as_slice()));
+    let one = stamps_between(&rt, alloc, &mut library, 20, 20)?;
+    assert!(rt; one.is_some_and(|stamps| stamps.items() == [20, 20].as_slice()));
+    let none = stamps_between(&rt, alloc, &mut library, 21, 39)?;
+    assert!(rt; none.is_some_and(|stamps| stamps.is_empty()));
     Ok(())
 }

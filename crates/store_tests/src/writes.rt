@@ -1,34 +1,15 @@
-ghost use Rattle.std.specs.Prelude.{◌≡◌, ◌≤◌, [], ◌∷◌, length, IfOk};
-ghost use Rattle.frame_core.specs.Limits.{IsStorable};
+ghost use Rattle.std.specs.Prelude.{◌≡◌, [], ◌∷◌, IfOk};
 
-use crate::laying::{Layout, lay_out};
-use crate::{Committed, LinkPlan, Options, Piece, link_on, write_link};
+use crate::stores::{five_rows, store, symbol, write};
 use base_types::{Items, Keep};
-use bucket_core::{Bucket, Change, Flaky, PlainBucket, When};
-use frame_core::{ColName, Column, Frame, Part, RawFrame, Refusal, Refused};
-use index_tree::Slot;
-use key_kind::{Key, KeyKind, Symbol};
+use bucket_core::{Bucket, Change, Flaky, When};
+use frame_core::{Frame, Refusal, Refused};
+use frame_write::{Committed, LinkPlan, Options, Piece, link_on};
 use segment_cut::Cutting;
 use std::alloc::Global;
 use std::sync::Wait;
 use std::test::Fail;
 use version_chain::{StoreLaw, walk};
-
-// Five rows of these columns of whole numbers; the stamps are 1, 2, 2, 4 and 9.
-fn five_rows(alloc: Global, columns: &[&str]) -> Result<Frame, Fail>
-    ensures { IfOk result IsStorable }
-{
-    let mut raw = RawFrame {
-        stamps: Items::from_slice(alloc, &[1, 2, 2, 4, 9])?,
-        names: Items::new(alloc),
-        columns: Items::new(alloc),
-    };
-    for name in columns {
-        raw.names.push(ColName::make(alloc, name)?)?;
-        raw.columns.push(Column::Ints(Items::from_slice(alloc, &[100, 101, 102, 99, 105])?))?;
-    }
-    Ok(Frame::make(alloc, &raw)?)
-}
 
 // What one write of five rows of these columns answers.
 fn written<R: Wait, B: Bucket<StoreLaw>>(
@@ -39,14 +20,7 @@ fn written<R: Wait, B: Bucket<StoreLaw>>(
     cutting: Cutting,
 ) -> Result<Result<Committed, Refused>, Fail> {
     let frame = five_rows(alloc, columns)?;
-    let symbol = Symbol::make(alloc, "S")?;
-    let options = Options {
-        cutting,
-        tries: 1,
-        at: 50,
-        prune: false,
-    };
-    Ok(write_link(rt, alloc, bucket, &symbol, &frame, &options))
+    write(rt, alloc, bucket, &frame, cutting)
 }
 
 // The plan that writes the frame as one new piece.
@@ -76,55 +50,10 @@ fn linked<R: Wait, B: Bucket<StoreLaw>>(
     options: &Options,
 ) -> Result<Result<Committed, Refused>, Fail> {
     let frame = five_rows(alloc, columns)?;
-    let symbol = Symbol::make(alloc, "S")?;
+    let symbol = symbol(alloc)?;
     let plan = whole(alloc, frame, options)?;
     let state = walk(rt, alloc, bucket, &symbol)?;
     Ok(link_on(rt, alloc, bucket, &symbol, &state, &plan, options))
-}
-
-// The slot of rows 4 and 5 of an older version, with one column.
-fn older_slot(alloc: Global, symbol: &Symbol) -> Result<Slot, Fail>
-    ensures first { IfOk result (λ slot. slot.part.first_row ≡ 4) }
-    ensures rows { IfOk result (λ slot. slot.part.rows ≡ 2) }
-{
-    Ok(Slot {
-        key: Key {
-            kind: KeyKind::TableData,
-            name: symbol.name().copy(alloc)?,
-            client: 1,
-            serial: 2,
-            version: 0,
-            first: 50,
-            last: 60,
-        },
-        part: Part {
-            first_row: 4,
-            rows: 2,
-            first_col: 0,
-            cols: 1,
-        },
-        first: 50,
-        last: 60,
-    })
-}
-
-// New rows, and behind them the older slot, with keys from serial 7 on.
-fn laid_out(alloc: Global, frame: Frame, cutting: Cutting) -> Result<Layout, Fail>
-    requires storable { IsStorable frame }
-    requires few { length frame.rows ≤ 5 }
-{
-    let symbol = Symbol::make(alloc, "S")?;
-    let mut run = Items::new(alloc);
-    run.push(older_slot(alloc, &symbol)?)?;
-    let mut pieces = Items::new(alloc);
-    pieces.push(Piece::Fresh(frame))?;
-    pieces.push(Piece::Shared(run))?;
-    Ok(lay_out(alloc, 1, 7, &symbol, 1, pieces.items(), cutting)?)
-}
-
-// A store of client 1 that takes so many events.
-fn store(alloc: Global, limit: u64) -> Result<PlainBucket<StoreLaw>, Fail> {
-    Ok(PlainBucket::make(alloc, 1, limit)?)
 }
 
 #[test]
@@ -257,22 +186,5 @@ fn new_pieces_are_linked_as_the_next_version(rt: HostRuntime) -> Result<(), Fail
         );
     }
     assert!(rt; bucket.events().len() == 15);
-    Ok(())
-}
-
-#[test]
-fn a_shared_slot_follows_the_new_rows_and_is_not_put(rt: HostRuntime) -> Result<(), Fail> {
-    let alloc = rt.alloc();
-    if let Some(cutting) = Cutting::make(2, 1) {
-        let frame = five_rows(alloc, &["a"])?;
-        assert!(rt; frame.rows() == 5);
-        let layout = laid_out(alloc, frame, cutting)?;
-        assert!(rt; layout.rows == 7);
-        assert!(rt; layout.puts.len() == 3);
-        assert!(rt; layout.slots.len() == 4);
-        let shared = layout.slots.at(3);
-        assert!(rt; shared.part.first_row == 5);
-        assert!(rt; shared.key.serial == 2);
-    }
     Ok(())
 }
