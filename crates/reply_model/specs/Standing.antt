@@ -34,6 +34,7 @@ use Rattle.reply_model.specs.Windows.{Client, symbol_of, is_cut}
 use Rattle.reply_model.specs.Legal.{IsLegalReply}
 use Rattle.reply_model.specs.Rows.{keys_of}
 use Rattle.reply_model.specs.Blocks.{Cutting, Block, Part, shared, fresh, parts_of, tiles_across, Shape, tiles_in}
+use Rattle.reply_model.specs.Keyed.{block_keys, HasKeys, IsKeyedPart}
 use Rattle.reply_model.specs.Sole.{Alone, step_alone, alone, sole}
 
 -- ---- where a run stands
@@ -51,7 +52,7 @@ abbrev pub HasBlocks : Linked → ℕ × List Block → Type 0
 HasBlocks l x = (l.row.version ≡ x.0) × (map (λ (b : Block). b.rows) x.1 ≡ row_sizes l.index.slots)
 
 -- the shape has as many tiles, indexes, elements and pieces as are stored of the symbol, and the blocks of each of its versions, which
--- were made for versions that there are; one reference is stored where the symbol has one
+-- were made for versions that there are; one reference is stored where the symbol has one; and its blocks have the keys of the links
 pub record HasShape (h : History) (symbol : Name) (s : Shape) : Type 0 where
   pub tiles : keys_of h symbol kinds.TableData ≡ tiles_in s.blocks
   pub indexes : keys_of h symbol kinds.TableIndex ≡ length s.indexes
@@ -60,6 +61,7 @@ pub record HasShape (h : History) (symbol : Name) (s : Shape) : Type 0 where
   pub pieces : keys_of h symbol kinds.Staged ≡ length s.pieces
   pub made : AllByRecursion (λ x. AllByRecursion (λ (b : Block). b.version < next_number (state_of h symbol)) x.1) s.versions
   pub versions : AllZip HasBlocks (links h symbol) s.versions
+  pub keys : HasKeys h symbol s
 
 -- what a run alone of this cutting tells is what the history tells: how many events there are, the symbols, the state of each, the
 -- snapshots, and the shape of each symbol; and all versions were cut so
