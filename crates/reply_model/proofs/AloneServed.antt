@@ -42,40 +42,13 @@ use Rattle.reply_model.proofs.Isolated.{some_answer, Met, Gone, plain_outcome, u
 use Rattle.reply_model.proofs.Quiet.{is_plain}
 use Rattle.reply_model.proofs.AloneWindows.{AreBy, added, own_at, own_is_all, none_added, none_behind, IsKept, Commits, turn_commits}
 use Rattle.reply_model.proofs.AloneSteps.{TellsSame, is_told, answer_told, run_tells, reply_is, rows_same}
+use Rattle.reply_model.proofs.AloneHeard.{Heard, commits_are, own_are, adds_none, not_met, listed_step}
 use Rattle.reply_model.proofs.TryCounts.{PutsKeys}
 use Rattle.reply_model.proofs.AloneShapes.{MakesVersion, Makes}
 use Rattle.reply_model.proofs.BlockCounts.{laid_makes}
 use Rattle.reply_model.proofs.AloneLegal.{write_first, append_first, update_first, delete_range_first, delete_buries, prune_buries, buried_first, made_events, Plain, looking, committing_reply}
 
 -- ---- what is known of a legal reply
-
--- a legal reply for what was added, which no failure cut
-record Heard (client : Client) (command : Command) (reply : Reply) (more old : History) (faulted : Bool) : Type 0 where
-  lawful : IsLawful (more ++ old)
-  own : AreBy client.session.client more
-  seen : IsLegalSeen (more ++ old) client command reply (added more old faulted)
-  cut : is_cut reply.outcome ≡ false
-
-commits_are : (client : Client) (command : Command) (reply : Reply) (more old : History) (faulted : Bool) → Heard client command reply more old faulted
-    → reply.commits ≡ refer_places client.session.client (length old) (more ++ old)
-commits_are client command reply more old faulted heard =
-    subst (λ b. AreCommits b reply.commits (refer_places client.session.client (length old) (history_at (more ++ old) (length (more ++ old))))) (uncut_is_no_fault reply.outcome heard.cut) heard.seen.own.commits
-    ∙ ap (refer_places client.session.client (length old)) (history_at_end (more ++ old))
-
-own_are : (client : Client) (command : Command) (reply : Reply) (more old : History) (faulted : Bool) → Heard client command reply more old faulted
-    → IsOwn (more ++ old) client.session (added more old faulted) command reply (is_done reply) (own_events (more ++ old) client.session.client (added more old faulted))
-own_are client command reply more old faulted heard = own_events_are (more ++ old) client.session command reply (added more old faulted) heard.seen.own heard.cut
-
--- a command without own events adds none
-adds_none : (client : Client) (command : Command) (reply : Reply) (more old : History) (faulted : Bool) → Heard client command reply more old faulted
-    → own_events (more ++ old) client.session.client (added more old faulted) ≡ [] → more ≡ []
-adds_none client command reply more old faulted heard none = none_added more (sym (own_is_all more old client.session.client faulted heard.own) ∙ none)
-
--- no Refer of others is met
-not_met : (client : Client) (command : Command) (reply : Reply) (more old : History) (faulted : Bool) → Heard client command reply more old faulted
-    → Met (more ++ old) client command reply (added more old faulted) → ⊥
-not_met client command reply more old faulted heard m =
-    m.3.others (own_at more old client.session.client reply.place m.3.event heard.own m.3.inside heard.seen.before m.3.at)
 
 -- a reply of a command that has an answer is its answer
 answered_or_gone : (client : Client) (command : Command) (reply : Reply) (more old : History) (faulted : Bool) → is_plain command ≡ true → Heard client command reply more old faulted
@@ -262,17 +235,6 @@ versions_step c client symbol reply old faulted heard r stands =
     ]
 
 -- ---- the lists of the library
-
--- a reply to a list has its outcome, at the place where the window begins and ends
-listed_step : (c : Cutting) (client : Client) (command : Command) (reply : Reply) (r : Alone) (old : History) (faulted : Bool) (outcome : Outcome) → StandsAs c old r → Heard client command reply [] old faulted
-    → reply.listed ≡ None → reply.left ≡ [] → reply.outcome ≡ outcome → StepsTo c (Some (next_turn (plain_reply r.events None outcome, r))) reply old
-listed_step c client command reply r old faulted outcome stands heard unlisted unleft is =
-    let here : reply.place ≡ length old = omega (arith, heard.seen.after, heard.seen.before) in (
-      reply_is reply r.events None [] (here ∙ sym stands.events) unlisted
-          (commits_are client command reply [] old faulted heard ∙ none_behind client.session.client (length old) old (omega arith)) unleft
-          ∙ ap (λ o. plain_reply r.events None o) is,
-      record { events = stands.events; symbols = stands.symbols; states = stands.states; snapshots = stands.snapshots; shapes = stands.shapes; cut = stands.cut },
-    )
 
 no_symbol : (symbol : Name) → None ≡ Some symbol → ⊥
 no_symbol symbol e = cc
