@@ -1,6 +1,6 @@
 -- The shapes of a run behind a commit count the keys that are then stored.
 use Rattle.std.proofs.Common.{◌≡◌, ℕ, suc, ◌+◌, ◌≤◌, ◌<◌, Bool, true, false, List, [], ◌∷◌, ◌++◌, map, length, Option, Some, None, refl, sym, ◌∙◌, ap, subst, inl, inr, arith, cond, fold}
-use Rattle.std.specs.Prelude.{MatchBool, ◌&&◌, not}
+use Rattle.std.specs.Prelude.{MatchBool, ◌*◌, ⊤, ◌&&◌, not}
 use Rattle.std.proofs.lemmas.Bool.{true≢false, or_parts}
 use Rattle.std.specs.List.{list_any, AllByRecursion, AllZip}
 use Rattle.std.proofs.lemmas.List.Sums.{sum_by-append}
@@ -14,7 +14,7 @@ use Rattle.bucket_core.specs.declared.event.Change.{Change}
 use Rattle.bucket_core.specs.declared.event.Change.TheVariants as changes
 use Rattle.bucket_core.specs.declared.event.Event.TheVariants as events
 use Rattle.bucket_core.specs.History.{History}
-use Rattle.store_model.specs.Library.{State, state_of, first_of, number_after, next_number, after_change, after_changes}
+use Rattle.store_model.specs.Library.{State, state_of, base_of, first_of, number_after, next_number, after_change, after_changes}
 use Rattle.store_model.specs.declared.chain.LinkRow.{LinkRow}
 use Rattle.store_model.specs.Links.{Linked, links, links_of, links_in, links_at}
 use Rattle.store_model.specs.Commits.{is_version, IsCommit, making, marking, marks_of, MayRefer}
@@ -24,9 +24,10 @@ use Rattle.store_model.specs.Law.{IsLawful}
 use Rattle.store_model.proofs.Lists.{all_weaker}
 use Rattle.store_model.proofs.Lawful.{lawful_is_intact}
 use Rattle.reply_model.specs.Rows.{keys_of}
-use Rattle.reply_model.specs.Blocks.{Cutting, Block, Shape, tiles_in, made_for, blocks_made, with_version, shape_after}
+use Rattle.reply_model.specs.Blocks.{Cutting, Block, Part, shared, fresh, Shape, tiles_in, made_for, same_block, base_blocks, blocks_from, blocks_made, with_version, shape_after}
+use Rattle.reply_model.specs.Keyed.{block_keys, HasNames, IsKeyedPart}
 use Rattle.reply_model.specs.Sole.{Alone, committing}
-use Rattle.reply_model.specs.Standing.{row_sizes, IsCutBy, HasBlocks, HasShape, StandsAs}
+use Rattle.reply_model.specs.Standing.{fresh_in, row_sizes, IsCutBy, HasBlocks, HasShape, StandsAs}
 use Rattle.reply_model.proofs.StoredCounts.{keys_behind_refer, reference_behind}
 use Rattle.reply_model.proofs.TryCounts.{is_no_put, keys_behind_puts, PutsKeys}
 use Rattle.reply_model.proofs.AloneWindows.{IsKept}
@@ -58,9 +59,21 @@ made_later n m le versions all =
 
 -- ---- one commit
 
+-- the block that a part shares is among these
+abbrev pub shares : List Block → Part → Type 0
+shares blocks (shared x) = list_any (same_block x) blocks ≡ true
+shares blocks (fresh rows) = ⊤
+
+abbrev pub SharesBlocks : List Block → List Part → Type 0
+SharesBlocks blocks parts = AllByRecursion (shares blocks) parts
+
 -- the version that a commit makes: its number, so many new tiles, blocks that were made for versions that there then are, and the rows of the newest link
-pub record MakesVersion (c : Cutting) (st : State) (s : Shape) (newest : Option Linked) (tiles : ℕ) (first : Change) (rest : List Change) : Type 0 where
+pub record MakesVersion (c : Cutting) (st : State) (s : Shape) (before : List Linked) (newest : Option Linked) (tiles : ℕ) (first : Change) (rest : List Change) : Type 0 where
+  pub parts : List Part
+  pub slices : ℕ
   pub blocks : List Block
+  pub blocks_are : blocks ≡ blocks_from (next_number st) slices 0 parts
+  pub based : SharesBlocks (base_blocks s (base_of st)) parts
   pub is : blocks_made c st s first ≡ Some (next_number st, blocks)
   pub counted : tiles_in (made_for (next_number st) blocks) ≡ tiles
   pub more : suc (next_number st) ≤ next_number (after_changes st (first ∷ rest))
@@ -68,6 +81,8 @@ pub record MakesVersion (c : Cutting) (st : State) (s : Shape) (newest : Option 
   pub link : Linked
   pub link_is : newest ≡ Some link
   pub rows : map (λ (b : Block). b.rows) blocks ≡ row_sizes link.index.slots
+  pub fresh : tiles ≡ fresh_in parts * slices
+  pub keyed : (names : ℕ → ℕ → List Key) → AllZip (HasNames names) before s.versions → AllZip (IsKeyedPart (λ (b : Block). names b.version b.number) slices) parts (block_keys link.index.slots)
   pub within : AllByRecursion (λ n. n ≤ c.rows) (row_sizes link.index.slots)
 
 -- or it makes none
@@ -75,8 +90,8 @@ pub record MakesMark (c : Cutting) (st : State) (s : Shape) (first : Change) : T
   pub is : blocks_made c st s first ≡ None
   pub mark : is_version first ≡ false
 
-abbrev pub Makes : Cutting → State → Shape → Bool → Option Linked → ℕ → Change → List Change → Type 0
-Makes c st s makes newest tiles first rest = MatchBool makes (MakesVersion c st s newest tiles first rest) (MakesMark c st s first)
+abbrev pub Makes : Cutting → State → Shape → Bool → List Linked → Option Linked → ℕ → Change → List Change → Type 0
+Makes c st s makes before newest tiles first rest = MatchBool makes (MakesVersion c st s before newest tiles first rest) (MakesMark c st s first)
 
 -- ---- links
 
@@ -98,7 +113,7 @@ same_some : (a b : Linked) → Some a ≡ Some b → a ≡ b
 same_some a b e = cc
 
 module _ (c : Cutting) (client : ℕ) (symbol : Name) (makes : Bool) (old behind : History) (was : Option Key) (entry : Key) (first : Change) (rest : List Change) (r : Alone) (stands : StandsAs c old r)
-    (kept : IsKept client old (behind ++ old)) (puts : PutsKeys symbol makes behind) (lawful : IsLawful (events.Refer client symbol was entry (first ∷ rest) ∷ (behind ++ old))) where
+    (kept : IsKept client old (behind ++ old)) (puts : PutsKeys symbol makes entry behind) (lawful : IsLawful (events.Refer client symbol was entry (first ∷ rest) ∷ (behind ++ old))) where
   abbrev before : History
   before = behind ++ old
 
@@ -161,7 +176,7 @@ module _ (c : Cutting) (client : ℕ) (symbol : Name) (makes : Bool) (old behind
       ∙ (ap (λ ls. ls ++ links before symbol) (ap (links_of before) may.spelled) ∙ ap (λ ls. links_in before (marks_of may.row (first ∷ rest)) ++ ls) (links_kept symbol behind old puts.none))
 
   -- the version that is made is that of the newest link
-  links_made : (x : MakesVersion c (r.library.state symbol) (r.shape symbol) (first_of (links new symbol)) puts.tiles first rest)
+  links_made : (x : MakesVersion c (r.library.state symbol) (r.shape symbol) (links old symbol) (first_of (links new symbol)) puts.tiles first rest)
       → (links new symbol ≡ x.link ∷ links old symbol) × (x.link.row.version ≡ next_number (r.library.state symbol))
   links_made x = elim (refer_makes before client symbol may.row (first ∷ rest) may.form may.fits) [
     | inl none ↦
@@ -177,7 +192,7 @@ module _ (c : Cutting) (client : ℕ) (symbol : Name) (makes : Bool) (old behind
         (list_is ∙ ap (λ l. l ∷ links old symbol) link_is, ap (λ (l : Linked). l.row.version) (sym link_is) ∙ number)
   ]
 
-  versions_behind : (x : MakesVersion c (r.library.state symbol) (r.shape symbol) (first_of (links new symbol)) puts.tiles first rest)
+  versions_behind : (x : MakesVersion c (r.library.state symbol) (r.shape symbol) (links old symbol) (first_of (links new symbol)) puts.tiles first rest)
       → AllZip HasBlocks (links new symbol) ((next_number (r.library.state symbol), x.blocks) ∷ (r.shape symbol).versions)
   versions_behind x =
       let made = links_made x in
@@ -203,7 +218,7 @@ module _ (c : Cutting) (client : ℕ) (symbol : Name) (makes : Bool) (old behind
   pieces_behind = omega (arith, keys_are symbol kinds.Staged refl, (stands.shapes symbol).pieces)
 
   -- the symbol's own shape, by what was made
-  own_shape : (m : Bool) → m ≡ makes → Makes c (r.library.state symbol) (r.shape symbol) m (first_of (links new symbol)) puts.tiles first rest
+  own_shape : (m : Bool) → m ≡ makes → Makes c (r.library.state symbol) (r.shape symbol) m (links old symbol) (first_of (links new symbol)) puts.tiles first rest
       → HasShape new symbol (record (with_version (blocks_made c (r.library.state symbol) (r.shape symbol) first) (r.shape symbol)) { elements = suc (r.shape symbol).elements })
   own_shape true e made = subst (λ o. HasShape new symbol (record (with_version o (r.shape symbol)) { elements = suc (r.shape symbol).elements })) (sym made.is) (record {
     tiles = omega (
@@ -233,7 +248,7 @@ module _ (c : Cutting) (client : ℕ) (symbol : Name) (makes : Bool) (old behind
   })
 
   -- each symbol's shape
-  pub shapes_behind : Makes c (r.library.state symbol) (r.shape symbol) makes (first_of (links new symbol)) puts.tiles first rest → (other : Name) → HasShape new other ((committing c symbol (first ∷ rest) r).shape other)
+  pub shapes_behind : Makes c (r.library.state symbol) (r.shape symbol) makes (links old symbol) (first_of (links new symbol)) puts.tiles first rest → (other : Name) → HasShape new other ((committing c symbol (first ∷ rest) r).shape other)
   shapes_behind made other =
       elim (same_name symbol other) as (λ b. same_name symbol other ≡ b → HasShape new other (cond b (shape_after c (r.library.state symbol) (r.shape symbol) (first ∷ rest)) (r.shape other))) [
         | true ↦ λ e. subst (λ n. HasShape new n (shape_after c (r.library.state symbol) (r.shape symbol) (first ∷ rest))) (same_name_is symbol other e) (own_shape makes refl made)
@@ -244,11 +259,11 @@ module _ (c : Cutting) (client : ℕ) (symbol : Name) (makes : Bool) (old behind
   abbrev AreCut : List Linked → Type 0
   AreCut ls = AllByRecursion (λ (l : Linked). AllByRecursion (λ n. n ≤ c.rows) (row_sizes l.index.slots)) ls
 
-  own_cut : (m : Bool) → Makes c (r.library.state symbol) (r.shape symbol) m (first_of (links new symbol)) puts.tiles first rest → AreCut (links new symbol)
+  own_cut : (m : Bool) → Makes c (r.library.state symbol) (r.shape symbol) m (links old symbol) (first_of (links new symbol)) puts.tiles first rest → AreCut (links new symbol)
   own_cut true made = subst AreCut (sym (links_made made).0) (made.within, stands.cut symbol)
   own_cut false made = subst AreCut (sym (links_stay made.mark)) (stands.cut symbol)
 
-  pub cut_behind : Makes c (r.library.state symbol) (r.shape symbol) makes (first_of (links new symbol)) puts.tiles first rest → IsCutBy c new
+  pub cut_behind : Makes c (r.library.state symbol) (r.shape symbol) makes (links old symbol) (first_of (links new symbol)) puts.tiles first rest → IsCutBy c new
   cut_behind made other =
       elim (same_name symbol other) as (λ b. same_name symbol other ≡ b → AreCut (links new other)) [
         | true ↦ λ e. subst (λ n. AreCut (links new n)) (same_name_is symbol other e) (own_cut makes made)

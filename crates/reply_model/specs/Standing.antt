@@ -16,6 +16,7 @@ use Rattle.frame_core.specs.Frames.{Frame}
 use Rattle.segment_cut.specs.Cuttings as cuttings
 use Rattle.segment_cut.specs.Grids.{parts, grid_of}
 use Rattle.key_kind.specs.Names.{Name}
+use Rattle.key_kind.specs.declared.key.Key.{Key}
 use Rattle.key_kind.specs.declared.key.KeyKind.TheVariants as kinds
 use Rattle.bucket_core.specs.History.{History, author}
 use Rattle.store_model.specs.Law.{IsLawful}
@@ -121,6 +122,14 @@ rows_of_version links (Some v) = option_map_or (λ (l : Linked). row_sizes l.ind
 abbrev pub base_rows : History → Name → List ℕ
 base_rows h symbol = rows_of_version (links h symbol) (base_of (state_of h symbol))
 
+-- the keys of the row blocks of a version, as its index has them, and of the base
+abbrev pub keys_of_version : List Linked → Option Version → List (List Key)
+keys_of_version links None = []
+keys_of_version links (Some v) = option_map_or (λ (l : Linked). block_keys l.index.slots) (find (λ (l : Linked). nat_eq v.number l.row.version) links) []
+
+abbrev pub base_keys : History → Name → List (List Key)
+base_keys h symbol = keys_of_version (links h symbol) (base_of (state_of h symbol))
+
 -- a block of which only the rows are told
 abbrev pub bare_block : ℕ → Block
 bare_block rows = record { version = 0; number = 0; rows = rows; tiles = 0 }
@@ -143,13 +152,16 @@ fresh_in (fresh rows ∷ more) = suc (fresh_in more)
 abbrev pub slices : Cutting → State → Change → ℕ
 slices c st change = option_map_or (λ (v : Version). tiles_across c (length v.frame.schema.columns)) (new_version st change) 0
 
--- the commit of a version put the tiles of its new blocks, the index and the element, and its index has the rows of all parts
+-- the commit of a version put the tiles of its new blocks, the index and the element, and its index has the rows and the keys of all parts:
+-- however the base's blocks are told apart, each that is shared keeps its keys
 pub record IsLaid (c : Cutting) (symbol : Name) (change : Change) (place : ℕ) (old new : History) : Type 0 where
   pub some_rows : 1 ≤ c.rows
   pub tiles : place ≡ length old + (fresh_in (parts_laid c old symbol change) * slices c (state_of old symbol) change + 3)
   pub link : Linked
   pub newest : first_of (links new symbol) ≡ Some link
   pub rows : row_sizes link.index.slots ≡ map part_rows (parts_laid c old symbol change)
+  pub keys : (blocks : List Block) (names : Block → List Key) → map (λ (b : Block). b.rows) blocks ≡ base_rows old symbol → map names blocks ≡ base_keys old symbol
+      → AllZip (IsKeyedPart names (slices c (state_of old symbol) change)) (parts_of c (base_of (state_of old symbol)) blocks change) (block_keys link.index.slots)
 
 -- where all versions were cut so, a command that is done lays out the version that the one-thread library answers; other commands leave
 -- nothing open
