@@ -59,13 +59,13 @@ made_later n m le versions all =
 
 -- ---- one commit
 
--- the block that a part shares is among these
-abbrev pub shares : List Block → Part → Type 0
-shares blocks (shared x) = list_any (same_block x) blocks ≡ true
-shares blocks (fresh rows) = ⊤
+-- the block that a part shares is among these, and was made for a version below a number
+abbrev pub shares : ℕ → List Block → Part → Type 0
+shares n blocks (shared x) = (list_any (same_block x) blocks ≡ true) × (x.version < n)
+shares n blocks (fresh rows) = ⊤
 
-abbrev pub SharesBlocks : List Block → List Part → Type 0
-SharesBlocks blocks parts = AllByRecursion (shares blocks) parts
+abbrev pub SharesBlocks : ℕ → List Block → List Part → Type 0
+SharesBlocks n blocks parts = AllByRecursion (shares n blocks) parts
 
 -- the version that a commit makes: its number, so many new tiles, blocks that were made for versions that there then are, and the rows of the newest link
 pub record MakesVersion (c : Cutting) (st : State) (s : Shape) (before : List Linked) (newest : Option Linked) (tiles : ℕ) (first : Change) (rest : List Change) : Type 0 where
@@ -73,7 +73,8 @@ pub record MakesVersion (c : Cutting) (st : State) (s : Shape) (before : List Li
   pub slices : ℕ
   pub blocks : List Block
   pub blocks_are : blocks ≡ blocks_from (next_number st) slices 0 parts
-  pub based : SharesBlocks (base_blocks s (base_of st)) parts
+  pub version : is_version first ≡ true
+  pub based : SharesBlocks (next_number st) (base_blocks s (base_of st)) parts
   pub is : blocks_made c st s first ≡ Some (next_number st, blocks)
   pub counted : tiles_in (made_for (next_number st) blocks) ≡ tiles
   pub more : suc (next_number st) ≤ next_number (after_changes st (first ∷ rest))

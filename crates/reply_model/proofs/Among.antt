@@ -219,6 +219,11 @@ block_there (x ∷ blocks) b c = elim (contains_cases b x blocks c) [
   | inr later ↦ or_right (same_block b x) (list_any (same_block b) blocks) (block_there blocks b later)
 ]
 
+-- what holds of all blocks holds of each
+pub block_at : (P : Block → Type 0) (blocks : List Block) (b : Block) → AllByRecursion P blocks → Contains blocks b → P b
+block_at P [] b all c = absurd (contains_none b c)
+block_at P (x ∷ blocks) b all c = elim (contains_cases b x blocks c) [ inl same ↦ subst P same all.0 | inr later ↦ block_at P blocks b all.1 later ]
+
 pub block_among : (blocks : List Block) (b : Block) → has_block blocks b ≡ true → (a : Block) × Contains blocks a × (same_block b a ≡ true)
 block_among [] b e = absurd (true≢false (sym e))
 block_among (x ∷ blocks) b e = elim (or_cases (same_block b x) (list_any (same_block b) blocks) e) [

@@ -82,7 +82,8 @@ laid_makes c s symbol tiles place change rest old new version shape cut laid cou
       slices = slices c st change;
       blocks = blocks_from (next_number st) (slices c st change) 0 made;
       blocks_are = refl;
-      based = parts_share (base_blocks s (base_of st)) c (base_of st) change;
+      version = version;
+      based = parts_share (next_number st) (base_blocks s (base_of st)) (base_made (next_number st) s (base_of st) shape.made) c (base_of st) change;
       is = blocks_are c st s change version;
       counted = parts_counted (next_number st) (slices c st change) 0 made shared
           ∙ (ap (λ n. n * slices c st change) (sym (fresh_bare made)) ∙ (ap (λ ps. fresh_in ps * slices c st change) (sym are) ∙ sym counted));

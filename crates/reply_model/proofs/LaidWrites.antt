@@ -37,23 +37,10 @@ use Rattle.reply_model.specs.Windows.{is_refused}
 use Rattle.reply_model.specs.Blocks.{Cutting}
 use Rattle.reply_model.specs.Standing.{LaysOut, IsLaid}
 use Rattle.reply_model.proofs.Isolated.{some_answer}
+use Rattle.reply_model.proofs.FreshKeys.{index_is}
 use Rattle.reply_model.proofs.AloneLegal.{delete_buries, prune_buries, buried_first}
 
 -- ---- the newest link
-
--- a link has the index that was put under its row's key
-index_is : (h : History) (row : LinkRow) (link : Linked) (index : Index) → linked h row ≡ Some link → index_put h row.index ≡ Some index → link.index ≡ index
-index_is h row link index is put = by_index (index_put h row.index) is put
-  where
-    by_tiles : (o : Option (List Tile)) → option_map (λ tiles. record { row = row; index = index; tiles = tiles }) o ≡ Some link → link.index ≡ index
-    by_tiles None e = absurd cc
-    by_tiles (Some tiles) e = sym (ap (λ (l : Linked). l.index) (same (record { row = row; index = index; tiles = tiles }) link e))
-      where
-        same : (a b : Linked) → Some a ≡ Some b → a ≡ b
-        same a b f = cc
-
-    by_index : (o : Option Index) → option_and_then (λ i. option_map (λ tiles. record { row = row; index = i; tiles = tiles }) (tiles_put h i.slots)) o ≡ Some link → o ≡ Some index → link.index ≡ index
-    by_index o e f = by_tiles (tiles_put h index.slots) (subst (λ p. option_and_then (λ i. option_map (λ tiles. record { row = row; index = i; tiles = tiles }) (tiles_put h i.slots)) p ≡ Some link) f e)
 
 -- the link has this index
 pub link_with : (o : Option Linked) (index : Index) → option_map (λ (l : Linked). l.index) o ≡ Some index → (link : Linked) × (o ≡ Some link) × (link.index ≡ index)

@@ -15,7 +15,7 @@ use Rattle.store_model.specs.Links.{Linked}
 use Rattle.reply_model.specs.Blocks.{Cutting, Block, Part, shared, fresh, some_rows, block_sizes, cut_rows, parts_before, parts_behind, parts_of, blocks_from, Shape, base_blocks, same_block, tiles_in, made_for}
 use Rattle.reply_model.specs.Keyed.{block_keys, HasNames}
 use Rattle.reply_model.specs.Standing.{row_sizes, HasBlocks, rows_of_version, keys_of_version, bare_block, part_rows, fresh_in}
-use Rattle.reply_model.proofs.Among.{same_block_self, block_there}
+use Rattle.reply_model.proofs.Among.{block_there, block_at}
 use Rattle.store_model.proofs.Lists.{contains_first, contains_later}
 use Rattle.reply_model.proofs.AloneShapes.{AreMade, shares, SharesBlocks}
 
@@ -233,46 +233,49 @@ all_append : (P : Part → Type 0) (xs ys : List Part) → AllByRecursion P xs �
 all_append P [] ys a b = b
 all_append P (x ∷ xs) ys a b = (a.0, all_append P xs ys a.1 b)
 
-shares_fresh : (blocks : List Block) (sizes : List ℕ) → AllByRecursion (shares blocks) (map fresh sizes)
-shares_fresh blocks [] = tt
-shares_fresh blocks (n ∷ sizes) = (tt, shares_fresh blocks sizes)
+shares_fresh : (n : ℕ) (blocks : List Block) (sizes : List ℕ) → AllByRecursion (shares n blocks) (map fresh sizes)
+shares_fresh n blocks [] = tt
+shares_fresh n blocks (k ∷ sizes) = (tt, shares_fresh n blocks sizes)
 
-module _ (blocks : List Block) where
-  shares_all : (bs : List Block) → ((b : Block) → Contains bs b → Contains blocks b) → AllByRecursion (shares blocks) (map shared bs)
+module _ (n : ℕ) (blocks : List Block) (made : AreMade n blocks) where
+  one_shares : (x : Block) → Contains blocks x → (list_any (same_block x) blocks ≡ true) × (x.version < n)
+  one_shares x there = (block_there blocks x there, block_at (λ (b : Block). b.version < n) blocks x made there)
+
+  shares_all : (bs : List Block) → ((b : Block) → Contains bs b → Contains blocks b) → AllByRecursion (shares n blocks) (map shared bs)
   shares_all [] inside = tt
-  shares_all (b ∷ bs) inside = (block_there blocks b (inside b (contains_first b bs)), shares_all bs (λ x c. inside x (contains_later x b bs c)))
+  shares_all (b ∷ bs) inside = (one_shares b (inside b (contains_first b bs)), shares_all bs (λ x c. inside x (contains_later x b bs c)))
 
-  shares_before : (a b start : ℕ) (bs : List Block) → ((x : Block) → Contains bs x → Contains blocks x) → AllByRecursion (shares blocks) (parts_before a b start bs)
+  shares_before : (a b start : ℕ) (bs : List Block) → ((x : Block) → Contains bs x → Contains blocks x) → AllByRecursion (shares n blocks) (parts_before a b start bs)
   shares_before a b start [] inside = tt
   shares_before a b start (x ∷ bs) inside =
-      all_append (shares blocks) (cond (nat_le (start + x.rows) a) (shared x ∷ []) (cond (nat_le b start) [] (map fresh (some_rows (a - start))))) (parts_before a b (start + x.rows) bs)
+      all_append (shares n blocks) (cond (nat_le (start + x.rows) a) (shared x ∷ []) (cond (nat_le b start) [] (map fresh (some_rows (a - start))))) (parts_before a b (start + x.rows) bs)
       (first (nat_le (start + x.rows) a) (nat_le b start)) (shares_before a b (start + x.rows) bs (λ y c. inside y (contains_later y x bs c)))
     where
-      first : (p q : Bool) → AllByRecursion (shares blocks) (cond p (shared x ∷ []) (cond q [] (map fresh (some_rows (a - start)))))
-      first true q = (block_there blocks x (inside x (contains_first x bs)), tt)
+      first : (p q : Bool) → AllByRecursion (shares n blocks) (cond p (shared x ∷ []) (cond q [] (map fresh (some_rows (a - start)))))
+      first true q = (one_shares x (inside x (contains_first x bs)), tt)
       first false true = tt
-      first false false = shares_fresh blocks (some_rows (a - start))
+      first false false = shares_fresh n blocks (some_rows (a - start))
 
-  shares_behind : (a b start : ℕ) (bs : List Block) → ((x : Block) → Contains bs x → Contains blocks x) → AllByRecursion (shares blocks) (parts_behind a b start bs)
+  shares_behind : (a b start : ℕ) (bs : List Block) → ((x : Block) → Contains bs x → Contains blocks x) → AllByRecursion (shares n blocks) (parts_behind a b start bs)
   shares_behind a b start [] inside = tt
   shares_behind a b start (x ∷ bs) inside =
-      all_append (shares blocks) (cond (nat_le (start + x.rows) a) [] (cond (nat_le b start) (shared x ∷ []) (map fresh (some_rows (start + x.rows - b))))) (parts_behind a b (start + x.rows) bs)
+      all_append (shares n blocks) (cond (nat_le (start + x.rows) a) [] (cond (nat_le b start) (shared x ∷ []) (map fresh (some_rows (start + x.rows - b))))) (parts_behind a b (start + x.rows) bs)
       (first (nat_le (start + x.rows) a) (nat_le b start)) (shares_behind a b (start + x.rows) bs (λ y c. inside y (contains_later y x bs c)))
     where
-      first : (p q : Bool) → AllByRecursion (shares blocks) (cond p [] (cond q (shared x ∷ []) (map fresh (some_rows (start + x.rows - b)))))
+      first : (p q : Bool) → AllByRecursion (shares n blocks) (cond p [] (cond q (shared x ∷ []) (map fresh (some_rows (start + x.rows - b)))))
       first true q = tt
-      first false true = (block_there blocks x (inside x (contains_first x bs)), tt)
-      first false false = shares_fresh blocks (some_rows (start + x.rows - b))
+      first false true = (one_shares x (inside x (contains_first x bs)), tt)
+      first false false = shares_fresh n blocks (some_rows (start + x.rows - b))
 
   -- the parts of a new version share blocks of its base
-  pub parts_share : (c : Cutting) (base : Option Version) (change : Change) → SharesBlocks blocks (parts_of c base blocks change)
-  parts_share c base (changes.Wrote frame at) = shares_fresh blocks (block_sizes c (length frame.rows))
-  parts_share c base (changes.Appended frame at) = all_append (shares blocks) (map shared blocks) (cut_rows c (length frame.rows)) (shares_all blocks (λ x d. d)) (shares_fresh blocks (block_sizes c (length frame.rows)))
-  parts_share c None (changes.Updated frame range at) = shares_fresh blocks (block_sizes c (length frame.rows))
+  pub parts_share : (c : Cutting) (base : Option Version) (change : Change) → SharesBlocks n blocks (parts_of c base blocks change)
+  parts_share c base (changes.Wrote frame at) = shares_fresh n blocks (block_sizes c (length frame.rows))
+  parts_share c base (changes.Appended frame at) = all_append (shares n blocks) (map shared blocks) (cut_rows c (length frame.rows)) (shares_all blocks (λ x d. d)) (shares_fresh n blocks (block_sizes c (length frame.rows)))
+  parts_share c None (changes.Updated frame range at) = shares_fresh n blocks (block_sizes c (length frame.rows))
   parts_share c (Some v) (changes.Updated frame range at) =
       let between = rows_between range v.frame in
-      all_append (shares blocks) (parts_before between.0 between.1 0 blocks ++ cut_rows c (length frame.rows)) (parts_behind between.0 between.1 0 blocks)
-      (all_append (shares blocks) (parts_before between.0 between.1 0 blocks) (cut_rows c (length frame.rows)) (shares_before between.0 between.1 0 blocks (λ x d. d)) (shares_fresh blocks (block_sizes c (length frame.rows))))
+      all_append (shares n blocks) (parts_before between.0 between.1 0 blocks ++ cut_rows c (length frame.rows)) (parts_behind between.0 between.1 0 blocks)
+      (all_append (shares n blocks) (parts_before between.0 between.1 0 blocks) (cut_rows c (length frame.rows)) (shares_before between.0 between.1 0 blocks (λ x d. d)) (shares_fresh n blocks (block_sizes c (length frame.rows))))
       (shares_behind between.0 between.1 0 blocks (λ x d. d))
   parts_share c base (changes.Removed versions) = tt
   parts_share c base (changes.Held holder version) = tt

@@ -169,7 +169,7 @@ same_key_back a b other = elim (same_key b a) as (λ t. same_key b a ≡ t → t
   | false ↦ λ e. refl
 ] refl
 
-no_body : (b : Bool) (body : Bytes) (o : Option Bytes) → cond b (Some body) o ≡ None → (b ≡ false) × (o ≡ None)
+pub no_body : (b : Bool) (body : Bytes) (o : Option Bytes) → cond b (Some body) o ≡ None → (b ≡ false) × (o ≡ None)
 no_body true body o e = absurd cc
 no_body false body o e = (refl, e)
 
