@@ -38,7 +38,8 @@ use Rattle.reply_model.proofs.Places.{history_at_end}
 use Rattle.reply_model.proofs.Covering.{event_at_end, some_is}
 use Rattle.reply_model.proofs.Isolated.{some_answer}
 use Rattle.reply_model.proofs.TryCounts.{PutsKeys}
-use Rattle.reply_model.proofs.AloneShapes.{Makes, shapes_behind, cut_behind}
+use Rattle.reply_model.proofs.Makings.{Makes}
+use Rattle.reply_model.proofs.AloneShapes.{shapes_behind, cut_behind}
 use Rattle.reply_model.proofs.AloneWindows.{Commits}
 use Rattle.reply_model.proofs.AloneSteps.{TellsSame, is_told, run_tells, told_step, commit_step}
 

@@ -45,7 +45,7 @@ use Rattle.reply_model.proofs.AloneWindows.{AreBy, added, own_at, own_is_all, no
 use Rattle.reply_model.proofs.AloneSteps.{TellsSame, is_told, answer_told, run_tells, reply_is, rows_same}
 use Rattle.reply_model.proofs.AloneHeard.{Heard, commits_are, own_are, adds_none, not_met, listed_step}
 use Rattle.reply_model.proofs.TryCounts.{PutsKeys}
-use Rattle.reply_model.proofs.AloneShapes.{MakesVersion, Makes}
+use Rattle.reply_model.proofs.Makings.{MakesVersion, Makes}
 use Rattle.reply_model.proofs.BlockCounts.{laid_makes}
 use Rattle.reply_model.proofs.AloneLegal.{write_first, append_first, update_first, delete_range_first, delete_buries, prune_buries, buried_first, made_events, Plain, looking, committing_reply}
 

@@ -13,7 +13,7 @@ use Rattle.store_model.specs.Links.{links}
 use Rattle.store_model.specs.Commits.{is_version}
 use Rattle.reply_model.specs.Blocks.{Cutting, Block, Part, parts_of, blocks_from, Shape, base_blocks, blocks_made}
 use Rattle.reply_model.specs.Standing.{HasShape, IsCutBy, bare_block, part_rows, fresh_in, slices, parts_laid, IsLaid}
-use Rattle.reply_model.proofs.AloneShapes.{numbers_kept, AreMade, MakesVersion}
+use Rattle.reply_model.proofs.Makings.{numbers_kept, AreMade, MakesVersion}
 use Rattle.reply_model.proofs.PartRows.{laid_within}
 use Rattle.reply_model.proofs.PartCounts.{bare, bare_part, bare_parts, fresh_bare, rows_bare, shared_parts, parts_counted, parts_made, parts_rows, base_has_rows, base_has_keys, parts_share}
 

@@ -54,13 +54,13 @@ slots_named names l x named = sym (blocks_flat l.index.slots) ∙ (ap flat named
 abbrev pub kept_blocks : State → List (ℕ × List Block) → List Block
 kept_blocks st xs = flat_map (λ (x : ℕ × List Block). cond (is_kept st x.0) x.1 []) xs
 
-has_left : (xs ys : List Block) (b : Block) → has_block xs b ≡ true → has_block (xs ++ ys) b ≡ true
+pub has_left : (xs ys : List Block) (b : Block) → has_block xs b ≡ true → has_block (xs ++ ys) b ≡ true
 has_left xs ys b e = list_any-append (same_block b) xs ys ∙ or_left (has_block xs b) (has_block ys b) e
 
-has_right : (xs ys : List Block) (b : Block) → has_block ys b ≡ true → has_block (xs ++ ys) b ≡ true
+pub has_right : (xs ys : List Block) (b : Block) → has_block ys b ≡ true → has_block (xs ++ ys) b ≡ true
 has_right xs ys b e = list_any-append (same_block b) xs ys ∙ or_right (has_block xs b) (has_block ys b) e
 
-has_append : (xs ys : List Block) (b : Block) → has_block (xs ++ ys) b ≡ true → (has_block xs b ≡ true) ⊎ (has_block ys b ≡ true)
+pub has_append : (xs ys : List Block) (b : Block) → has_block (xs ++ ys) b ≡ true → (has_block xs b ≡ true) ⊎ (has_block ys b ≡ true)
 has_append xs ys b e = or_cases (has_block xs b) (has_block ys b) (sym (list_any-append (same_block b) xs ys) ∙ e)
 
 kept_cons : (st : State) (x : ℕ × List Block) (xs : List (ℕ × List Block)) → kept_blocks st (x ∷ xs) ≡ cond (is_kept st x.0) x.1 [] ++ kept_blocks st xs
@@ -84,7 +84,7 @@ module _ (names : ℕ → ℕ → List Key) (h : History) (st : State) where
     pub standing : has_index h l ≡ true → (b : Block) → has_block x.1 b ≡ true → has_block (standing_blocks h ls xs) b ≡ true
     pub kept : is_kept st x.0 ≡ true → (b : Block) → has_block x.1 b ≡ true → has_block (kept_blocks st xs) b ≡ true
 
-  pairs_first : (l : Linked) (x : ℕ × List Block) (ls : List Linked) (xs : List (ℕ × List Block)) → HasBlocks l x → HasNames names l x → Pairs (l ∷ ls) (x ∷ xs) l x
+  pub pairs_first : (l : Linked) (x : ℕ × List Block) (ls : List Linked) (xs : List (ℕ × List Block)) → HasBlocks l x → HasNames names l x → Pairs (l ∷ ls) (x ∷ xs) l x
   pairs_first l x ls xs has named = record {
     there = contains_first l ls;
     number = has.0;
@@ -93,7 +93,7 @@ module _ (names : ℕ → ℕ → List Key) (h : History) (st : State) where
     kept = λ e b c. subst (λ bs. has_block bs b ≡ true) (sym (kept_cons st x xs)) (has_left (cond (is_kept st x.0) x.1 []) (kept_blocks st xs) b (chosen_has (is_kept st x.0) x.1 b e c));
   }
 
-  pairs_later : (k : Linked) (y : ℕ × List Block) (ls : List Linked) (xs : List (ℕ × List Block)) (l : Linked) (x : ℕ × List Block) → Pairs ls xs l x → Pairs (k ∷ ls) (y ∷ xs) l x
+  pub pairs_later : (k : Linked) (y : ℕ × List Block) (ls : List Linked) (xs : List (ℕ × List Block)) (l : Linked) (x : ℕ × List Block) → Pairs ls xs l x → Pairs (k ∷ ls) (y ∷ xs) l x
   pairs_later k y ls xs l x p = record {
     there = contains_later l k ls p.there;
     number = p.number;
@@ -222,7 +222,7 @@ reached_was_put h symbol l key lawful there reach name =
       | None ↦ λ e. absurd (true≢false (sym (passes (λ (x : Linked). reaches x key) (links h key.name) l (subst (λ n. Contains (links h n) l) (sym name) there) (reaches_it l key reach)) ∙ unput_is_unreached h lawful key e))
     ] refl
 
-has_same : (h new : History) (ls : List Linked) (xs : List (ℕ × List Block)) → ((l : Linked) → Contains ls l → has_index new l ≡ has_index h l)
+pub has_same : (h new : History) (ls : List Linked) (xs : List (ℕ × List Block)) → ((l : Linked) → Contains ls l → has_index new l ≡ has_index h l)
     → (filter (has_index h) ls ≡ filter (has_index new) ls) × (standing_blocks h ls xs ≡ standing_blocks new ls xs)
 has_same h new [] xs each = (refl, refl)
 has_same h new (l ∷ ls) [] each = (

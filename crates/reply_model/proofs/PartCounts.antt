@@ -17,7 +17,7 @@ use Rattle.reply_model.specs.Keyed.{block_keys, HasNames}
 use Rattle.reply_model.specs.Standing.{row_sizes, HasBlocks, rows_of_version, keys_of_version, bare_block, part_rows, fresh_in}
 use Rattle.reply_model.proofs.Among.{block_there, block_at}
 use Rattle.store_model.proofs.Lists.{contains_first, contains_later}
-use Rattle.reply_model.proofs.AloneShapes.{AreMade, shares, SharesBlocks}
+use Rattle.reply_model.proofs.Makings.{AreMade, shares, SharesBlocks}
 
 -- ---- parts
 
