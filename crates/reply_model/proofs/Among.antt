@@ -83,6 +83,11 @@ distinct_apart (x ∷ xs) ys key d e f = elim (or_cases (same_key key x) (list_a
   | inr later ↦ distinct_apart xs ys key d.1 later f
 ]
 
+-- one more key that is another one
+pub distinct_more : (key : Key) (keys : List Key) → AllByRecursion (λ y. same_key key y ≡ false) keys → IsDistinct same_key keys → IsDistinct same_key (key ∷ keys)
+unfolding IsDistinct
+distinct_more key keys other d = (other, d)
+
 -- two lists of distinct keys without a common one
 pub distinct_both : (xs ys : List Key) → IsDistinct same_key xs → IsDistinct same_key ys → ((key : Key) → is_among xs key ≡ true → is_among ys key ≡ true → ⊥) → IsDistinct same_key (xs ++ ys)
 unfolding IsDistinct
