@@ -1,6 +1,6 @@
 -- The shapes of a run behind a commit count the keys that are then stored.
 use Rattle.std.proofs.Common.{◌≡◌, ℕ, suc, ◌+◌, ◌≤◌, ◌<◌, Bool, true, false, List, [], ◌∷◌, ◌++◌, map, length, Option, Some, None, refl, sym, ◌∙◌, ap, subst, inl, inr, arith, cond, fold}
-use Rattle.std.specs.Prelude.{MatchBool, ◌*◌, ⊤, ◌&&◌, not}
+use Rattle.std.specs.Prelude.{MatchBool, ◌*◌, ⊤, ◌&&◌, not, is_some}
 use Rattle.std.proofs.lemmas.Bool.{true≢false, or_parts}
 use Rattle.std.specs.List.{list_any, AllByRecursion, AllZip}
 use Rattle.std.proofs.lemmas.List.Sums.{sum_by-append}
@@ -13,24 +13,26 @@ use Rattle.key_kind.proofs.KeyTests.{same_name_is, same_name_self}
 use Rattle.bucket_core.specs.declared.event.Change.{Change}
 use Rattle.bucket_core.specs.declared.event.Change.TheVariants as changes
 use Rattle.bucket_core.specs.declared.event.Event.TheVariants as events
-use Rattle.bucket_core.specs.History.{History}
-use Rattle.store_model.specs.Library.{State, state_of, base_of, first_of, number_after, next_number, after_change, after_changes}
+use Rattle.bucket_core.specs.History.{History, stored, body_put}
+use Rattle.store_model.specs.Library.{State, Version, state_of, base_of, first_of, number_after, next_number, after_change, after_changes}
 use Rattle.store_model.specs.declared.chain.LinkRow.{LinkRow}
 use Rattle.store_model.specs.Links.{Linked, links, links_of, links_in, links_at}
-use Rattle.store_model.specs.Commits.{is_version, IsCommit, making, marking, marks_of, MayRefer}
+use Rattle.store_model.specs.Commits.{FitsLink, is_version, IsCommit, making, marking, marks_of, MayRefer}
 use Rattle.store_model.proofs.Linking.{MakesNone, marks_make_none, refer_makes}
 use Rattle.store_model.proofs.Referring.{linked_row}
 use Rattle.store_model.specs.Law.{IsLawful}
 use Rattle.store_model.proofs.Lists.{all_weaker}
-use Rattle.store_model.proofs.Lawful.{lawful_is_intact}
+use Rattle.store_model.proofs.Lawful.{lawful_is_intact, beginning_lawful}
 use Rattle.reply_model.specs.Rows.{keys_of}
 use Rattle.reply_model.specs.Blocks.{Cutting, Block, Part, shared, fresh, Shape, tiles_in, made_for, same_block, base_blocks, blocks_from, blocks_made, with_version, shape_after}
-use Rattle.reply_model.specs.Keyed.{block_keys, HasNames, IsKeyedPart}
+use Rattle.reply_model.specs.Keyed.{HasKeys}
 use Rattle.reply_model.specs.Sole.{Alone, committing}
 use Rattle.reply_model.specs.Standing.{fresh_in, row_sizes, IsCutBy, HasBlocks, HasShape, StandsAs}
 use Rattle.reply_model.proofs.Makings.{numbers_kept, AreMade, made_later, MakesVersion, MakesMark, Makes}
 use Rattle.reply_model.proofs.StoredCounts.{keys_behind_refer, reference_behind}
-use Rattle.reply_model.proofs.TryCounts.{is_no_put, keys_behind_puts, PutsKeys}
+use Rattle.reply_model.proofs.TryCounts.{is_no_put, keys_behind_puts, PutsVersion, PutsKeys}
+use Rattle.reply_model.proofs.KeyedShapes.{keys_stay, counted_keys}
+use Rattle.reply_model.proofs.NewKeys.{stored_behind_commit, keys_of_version_behind}
 use Rattle.reply_model.proofs.AloneWindows.{IsKept}
 
 -- ---- links
@@ -59,6 +61,13 @@ module _ (c : Cutting) (client : ℕ) (symbol : Name) (makes : Bool) (old behind
 
   abbrev new : History
   new = events.Refer client symbol was entry (first ∷ rest) ∷ (behind ++ old)
+
+  lawful_old : IsLawful old
+  lawful_old = beginning_lawful behind old lawful.1
+
+  -- what was put before stands as before
+  stands_behind : (key : Key) → is_some (body_put old key) ≡ true → is_some (stored new key) ≡ is_some (stored old key)
+  stands_behind key put = stored_behind_commit client puts.client symbol old behind was entry (first ∷ rest) puts.list key puts.is lawful_old lawful.1 put
 
   -- the keys of a kind other than references
   keys_are : (other : Name) (kind : KeyKind) → same_kind kinds.VersionRef kind ≡ false
@@ -95,6 +104,7 @@ module _ (c : Cutting) (client : ℕ) (symbol : Name) (makes : Bool) (old behind
         pieces = omega (arith, keys_are other kinds.Staged refl, was_shape.pieces);
         made = subst (λ (st : State). AllByRecursion (λ (x : ℕ × List Block). AreMade (next_number st) x.1) (r.shape other).versions) (sym same) was_shape.made;
         versions = subst (λ (ls : List Linked). AllZip HasBlocks ls (r.shape other).versions) (sym (other_links other differs)) was_shape.versions;
+        keys = keys_stay old new other (r.shape other) lawful_old was_shape.keys (other_links other differs) (λ key name put. stands_behind key put);
       }
 
   -- what is told of the symbol behind the commit
@@ -108,7 +118,7 @@ module _ (c : Cutting) (client : ℕ) (symbol : Name) (makes : Bool) (old behind
       (r.shape symbol).versions (stands.shapes symbol).made
 
   -- its links
-  may : MayRefer before client symbol was entry (first ∷ rest)
+  abbrev may : MayRefer before client symbol was entry (first ∷ rest)
   may = lawful.0.1
 
   links_behind : links new symbol ≡ links_in before (marks_of may.row (first ∷ rest)) ++ links old symbol
@@ -117,7 +127,7 @@ module _ (c : Cutting) (client : ℕ) (symbol : Name) (makes : Bool) (old behind
 
   -- the version that is made is that of the newest link
   links_made : (x : MakesVersion c (r.library.state symbol) (r.shape symbol) (links old symbol) (first_of (links new symbol)) puts.tiles first rest)
-      → (links new symbol ≡ x.link ∷ links old symbol) × (x.link.row.version ≡ next_number (r.library.state symbol))
+      → (links new symbol ≡ x.link ∷ links old symbol) × (x.link.row.version ≡ next_number (r.library.state symbol)) × (v : Version) × (fits : FitsLink before client symbol may.row v) × (fits.link ≡ x.link)
   links_made x = elim (refer_makes before client symbol may.row (first ∷ rest) may.form may.fits) [
     | inl none ↦
         let same : next_number (fold after_change (state_of before symbol) (first ∷ rest)) ≡ next_number (state_of before symbol) = ap number_after none.versions in
@@ -129,7 +139,7 @@ module _ (c : Cutting) (client : ℕ) (symbol : Name) (makes : Bool) (old behind
         let number : one.fits.link.row.version ≡ next_number (r.library.state symbol) =
         ap (λ (l : LinkRow). l.version) (linked_row before may.row one.fits.link one.fits.link_is)
         ∙ (one.fits.number ∙ (one.number ∙ ap (λ (st : State). next_number st) (kept.states symbol ∙ sym (stands.states symbol)))) in
-        (list_is ∙ ap (λ l. l ∷ links old symbol) link_is, ap (λ (l : Linked). l.row.version) (sym link_is) ∙ number)
+        (list_is ∙ ap (λ l. l ∷ links old symbol) link_is, ap (λ (l : Linked). l.row.version) (sym link_is) ∙ number, one.made, one.fits, link_is)
   ]
 
   versions_behind : (x : MakesVersion c (r.library.state symbol) (r.shape symbol) (links old symbol) (first_of (links new symbol)) puts.tiles first rest)
@@ -157,6 +167,27 @@ module _ (c : Cutting) (client : ℕ) (symbol : Name) (makes : Bool) (old behind
   pieces_behind : keys_of new symbol kinds.Staged ≡ length (r.shape symbol).pieces
   pieces_behind = omega (arith, keys_are symbol kinds.Staged refl, (stands.shapes symbol).pieces)
 
+  -- the keys behind a version
+  version_keys : PutsVersion entry puts.tiles puts.list → (x : MakesVersion c (r.library.state symbol) (r.shape symbol) (links old symbol) (first_of (links new symbol)) puts.tiles first rest)
+      → HasKeys new symbol (record (r.shape symbol) {
+        versions = (next_number (r.library.state symbol), x.blocks) ∷ (r.shape symbol).versions;
+        indexes = next_number (r.library.state symbol) ∷ (r.shape symbol).indexes;
+        blocks = made_for (next_number (r.library.state symbol)) x.blocks ++ (r.shape symbol).blocks;
+        elements = suc (r.shape symbol).elements;
+      })
+  version_keys table x =
+      let links_of_x = links_made x in
+      subst (λ (st : State). (y : MakesVersion c st (r.shape symbol) (links old symbol) (first_of (links new symbol)) puts.tiles first rest)
+      → links new symbol ≡ y.link ∷ links old symbol → y.link.row.version ≡ next_number st → (v : Version) → (fits : FitsLink before client symbol may.row v) → fits.link ≡ y.link
+      → HasKeys new symbol (record (r.shape symbol) {
+        versions = (next_number st, y.blocks) ∷ (r.shape symbol).versions;
+        indexes = next_number st ∷ (r.shape symbol).indexes;
+        blocks = made_for (next_number st) y.blocks ++ (r.shape symbol).blocks;
+        elements = suc (r.shape symbol).elements;
+      })) (sym (stands.states symbol))
+      (λ y are number v fits link_is. keys_of_version_behind c client puts.client symbol old behind was entry first rest (r.shape symbol) (stands.shapes symbol) puts.tiles puts.list puts.is table lawful y v fits link_is
+      (links_kept symbol behind old puts.none) are number) x links_of_x.0 links_of_x.1 links_of_x.2 links_of_x.3 links_of_x.4
+
   -- the symbol's own shape, by what was made
   own_shape : (m : Bool) → m ≡ makes → Makes c (r.library.state symbol) (r.shape symbol) m (links old symbol) (first_of (links new symbol)) puts.tiles first rest
       → HasShape new symbol (record (with_version (blocks_made c (r.library.state symbol) (r.shape symbol) first) (r.shape symbol)) { elements = suc (r.shape symbol).elements })
@@ -176,6 +207,7 @@ module _ (c : Cutting) (client : ℕ) (symbol : Name) (makes : Bool) (old behind
     made = subst (λ (st : State). AllByRecursion (λ (x : ℕ × List Block). AreMade (next_number st) x.1) ((next_number (r.library.state symbol), made.blocks) ∷ (r.shape symbol).versions)) (sym state_behind)
         (made.made, versions_made);
     versions = versions_behind made;
+    keys = version_keys (puts.version (sym e)) made;
   })
   own_shape false e made = subst (λ o. HasShape new symbol (record (with_version o (r.shape symbol)) { elements = suc (r.shape symbol).elements })) (sym made.is) (record {
     tiles = omega (arith, keys_are symbol kinds.TableData refl, all_own puts.tiles, (stands.shapes symbol).tiles, (puts.without (sym e)).0);
@@ -185,6 +217,8 @@ module _ (c : Cutting) (client : ℕ) (symbol : Name) (makes : Bool) (old behind
     pieces = pieces_behind;
     made = subst (λ (st : State). AllByRecursion (λ (x : ℕ × List Block). AreMade (next_number st) x.1) (r.shape symbol).versions) (sym state_behind) versions_made;
     versions = versions_stay made.mark;
+    keys = counted_keys new symbol (r.shape symbol) (suc (r.shape symbol).elements)
+        (keys_stay old new symbol (r.shape symbol) lawful_old (stands.shapes symbol).keys (links_stay made.mark) (λ key name put. stands_behind key put));
   })
 
   -- each symbol's shape

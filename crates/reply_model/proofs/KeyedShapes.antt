@@ -20,7 +20,7 @@ use Rattle.store_model.proofs.Histories.{stands_from}
 use Rattle.store_model.proofs.Dropping.{reaches_it}
 use Rattle.store_model.proofs.OwnPuts.{unput_is_unreached}
 use Rattle.reply_model.specs.Tries.{IsKeyOf}
-use Rattle.reply_model.specs.Blocks.{Block, Shape, same_block}
+use Rattle.reply_model.specs.Blocks.{Block, Shape, no_shape, same_block}
 use Rattle.reply_model.specs.Keyed.{with_key, begins_block, block_keys, has_index, standing_blocks, keys_named, HasNames, NamesTable, HasKeys}
 use Rattle.reply_model.specs.Standing.{HasBlocks}
 use Rattle.reply_model.proofs.DropCounts.{is_among}
@@ -262,3 +262,23 @@ keys_stay h new symbol s lawful keys same stays =
     stand_still (k ∷ ks) all =
         let put = stands_from h k (ap (λ x. is_put x) all.0.0.0) all.0.1 in
         ((all.0.0, stays k all.0.0.1 (ap (λ o. is_some o) put.put) ∙ all.0.1), stand_still ks all.1)
+
+-- how many elements there are does not matter for it
+pub counted_keys : (h : History) (symbol : Name) (s : Shape) (n : ℕ) → HasKeys h symbol s → HasKeys h symbol (record s { elements = n })
+counted_keys h symbol s n keys = record {
+  names = keys.names;
+  named = keys.named;
+  tables = keys.tables;
+  apart = keys.apart;
+  sizes = keys.sizes;
+  distinct = keys.distinct;
+  stand = keys.stand;
+  indexes = keys.indexes;
+  blocks = keys.blocks;
+  pieces = keys.pieces;
+}
+
+-- nothing is stored in the beginning
+pub no_keys : (symbol : Name) → HasKeys [] symbol no_shape
+unfolding IsDistinct
+no_keys symbol = record { names = λ version n. []; named = tt; tables = tt; apart = tt; sizes = tt; distinct = tt; stand = tt; indexes = refl; blocks = λ b. refl; pieces = refl }
