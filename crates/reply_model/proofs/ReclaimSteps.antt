@@ -32,10 +32,10 @@ use Rattle.reply_model.specs.Windows.{Window, Client, own_events, is_refused, is
 use Rattle.reply_model.specs.Tries.{IsKeyOf}
 use Rattle.reply_model.specs.Drops.{IsDropping, IsReclaiming, IsDeadIndex, IsDeadTile, IsDeadPiece, DroppedByAnother, IsFreedAt, drops, drops_kind}
 use Rattle.reply_model.specs.OwnEvents.{IsOwn, is_done, is_empty_burial}
-use Rattle.reply_model.specs.Legal.{IsLegalRefusal, IsLegalOutcome}
+use Rattle.reply_model.specs.Legal.{IsLegalRefusal, IsLegalOutcome, IsLegalSeen}
 use Rattle.reply_model.specs.Blocks.{Cutting, Shape, dead_blocks, dead_indexes, dead_pieces, tiles_in, swept}
 use Rattle.reply_model.specs.Sole.{Alone, set_of, plain_reply, refusal, freed_alone, drops_alone, reclaiming, next_turn, step_alone}
-use Rattle.reply_model.specs.Standing.{row_sizes, HasShape, IsCutBy, StandsAs, StepsTo, IsStep}
+use Rattle.reply_model.specs.Standing.{row_sizes, HasShape, IsCutBy, StandsAs, StepsTo, IsStep, LegalReclaimsAlone}
 use Rattle.reply_model.proofs.Places.{history_at_end}
 use Rattle.reply_model.proofs.Covering.{event_at_later, event_at_end, some_is}
 use Rattle.reply_model.proofs.Isolated.{Met}
@@ -328,3 +328,11 @@ module _ (c : Cutting) (client : Client) (symbol : Name) (reply : Reply) (more o
           | inr freed ↦ freed_step r stands freed.0 freed.1 freed.2 freed.3 freed.4
         ]
       ]
+
+pub legal_reclaims_alone : LegalReclaimsAlone
+legal_reclaims_alone old new c client symbol reply faulted lawful grows legal cut placed =
+    let command = commands.Reclaim symbol in
+    let seen : IsLegalSeen new client command reply (record { start = length old; stop = length new; faulted = faulted }) =
+    subst (λ h. IsLegalSeen h client command reply (record { start = length old; stop = length new; faulted = faulted })) (history_at_end new) legal.1 in
+    subst (λ h. IsStep c client.session command reply old h) (sym grows.is) (reclaim_step c client symbol reply grows.more old faulted
+    (record { lawful = subst (λ h. IsLawful h) grows.is lawful; own = grows.own; seen = subst (λ h. IsLegalSeen h client command reply (record { start = length old; stop = length h; faulted = faulted })) grows.is seen; cut = cut }) placed)

@@ -7,6 +7,7 @@
 --     row_sizes, HasBlocks, IsCutBy      the rows of the blocks of a version, by its index; none has more than a cutting's
 --     tiles_cut, parts_laid, IsLaid, LaysOut      how a commit cuts its version, which a legal reply leaves open
 --     LegalAloneSteps      each legal reply is such a step
+--     LegalReclaimsAlone   so is each legal reclaim that looked where the window begins
 --     RunsTo, RunsAlone    a run alone gives these replies to a list of commands
 --     RunsGrow, RunsAreSole, BlocksAreSole      runs grow by steps, and from the empty history they are the replies of one client alone
 use Rattle.std.specs.Prelude.{◌≡◌, ℕ, suc, ◌+◌, ◌*◌, ◌<◌, ◌≤◌, if◌then◌else◌, Bool, true, false, List, [], ◌∷◌, ◌++◌, map, filter, find, length, Option, Some, None, nat_eq}
@@ -176,6 +177,13 @@ LegalAloneSteps = (old new : History) (c : Cutting) (client : Client) (command :
     → GrowsAlone client.session.client old new
     → IsLegalReply new client command reply (record { start = length old; stop = length new; faulted = faulted }) → is_served command ≡ true
     → is_cut reply.outcome ≡ false → LaysOut c client.session command reply old new → IsStep c client.session command reply old new
+
+-- so is each legal reclaim whose place is where the window begins: what it drops was dead there
+abbrev pub LegalReclaimsAlone : Type 0
+LegalReclaimsAlone = (old new : History) (c : Cutting) (client : Client) (symbol : Name) (reply : Reply) (faulted : Bool) → IsLawful new
+    → GrowsAlone client.session.client old new
+    → IsLegalReply new client (commands.Reclaim symbol) reply (record { start = length old; stop = length new; faulted = faulted })
+    → is_cut reply.outcome ≡ false → reply.place ≡ length old → IsStep c client.session (commands.Reclaim symbol) reply old new
 
 -- ---- runs
 
