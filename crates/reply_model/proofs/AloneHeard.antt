@@ -1,5 +1,5 @@
 -- What is known of a legal reply in a window without events of others.
-use Rattle.std.proofs.Common.{◌≡◌, ℕ, Bool, false, List, [], ◌∷◌, ◌++◌, length, Option, Some, None, refl, sym, ◌∙◌, ap, subst, arith}
+use Rattle.std.proofs.Common.{◌≡◌, Bool, false, [], ◌++◌, length, Some, None, sym, ◌∙◌, ap, subst, arith}
 use Rattle.store_model.specs.Law.{IsLawful}
 use Rattle.bucket_core.specs.History.{History, history_at}
 use Rattle.expr_clause.specs.declared.command.Command.{Command}

@@ -29,20 +29,20 @@ use Rattle.reply_model.specs.declared.outcome.Outcome.TheVariants as outcomes
 use Rattle.reply_model.specs.declared.reply.Reply.{Reply}
 use Rattle.reply_model.specs.Answering.{Answer}
 use Rattle.reply_model.specs.Answers.{answer, symbol_row}
-use Rattle.reply_model.specs.Windows.{Window, Client, library_at, refer_places, symbol_of, is_refused, is_cut, unnames, own_events, AreCommits}
+use Rattle.reply_model.specs.Windows.{Window, Client, library_at, symbol_of, is_refused, is_cut, unnames, own_events}
 use Rattle.reply_model.specs.Tries.{IsTurn}
-use Rattle.reply_model.specs.OwnEvents.{AnyMarks, IsOwn, is_done}
+use Rattle.reply_model.specs.OwnEvents.{AnyMarks, is_done}
 use Rattle.reply_model.specs.Rows.{keys_of, keys_outcome, IsAnswer, IsSymbolRow, AreSymbolRows, number_of}
 use Rattle.reply_model.specs.Legal.{IsLegalRefusal, IsLegalOutcome, IsLegalSeen}
 use Rattle.reply_model.specs.Blocks.{Cutting, tiles_in, blocks_made}
 use Rattle.reply_model.specs.Causes.{IsVersionGone}
-use Rattle.reply_model.specs.Sole.{Alone, keys_alone, plain_reply, next_turn, step_alone}
+use Rattle.reply_model.specs.Sole.{Alone, keys_alone, step_alone}
 use Rattle.reply_model.specs.Standing.{StandsAs, StepsTo, IsStep, is_served, LaysOut, LegalAloneSteps}
 use Rattle.reply_model.proofs.Places.{history_at_end}
-use Rattle.reply_model.proofs.Isolated.{some_answer, Met, Gone, plain_outcome, uncut_is_no_fault, own_events_are, read_is_live}
+use Rattle.reply_model.proofs.Isolated.{some_answer, Gone, plain_outcome, read_is_live}
 use Rattle.reply_model.proofs.Quiet.{is_plain}
-use Rattle.reply_model.proofs.AloneWindows.{AreBy, added, own_at, own_is_all, none_added, none_behind, IsKept, Commits, turn_commits}
-use Rattle.reply_model.proofs.AloneSteps.{TellsSame, is_told, answer_told, run_tells, reply_is, rows_same}
+use Rattle.reply_model.proofs.AloneWindows.{added, none_behind, IsKept, Commits, turn_commits}
+use Rattle.reply_model.proofs.AloneSteps.{TellsSame, is_told, answer_told, run_tells, rows_same}
 use Rattle.reply_model.proofs.AloneHeard.{Heard, commits_are, own_are, adds_none, not_met, listed_step}
 use Rattle.reply_model.proofs.TryCounts.{PutsKeys}
 use Rattle.reply_model.proofs.Makings.{MakesVersion, Makes}

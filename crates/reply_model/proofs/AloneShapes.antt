@@ -1,6 +1,6 @@
 -- The shapes of a run behind a commit count the keys that are then stored.
-use Rattle.std.proofs.Common.{◌≡◌, ℕ, suc, ◌+◌, ◌≤◌, ◌<◌, Bool, true, false, List, [], ◌∷◌, ◌++◌, map, length, Option, Some, None, refl, sym, ◌∙◌, ap, subst, inl, inr, arith, cond, fold}
-use Rattle.std.specs.Prelude.{MatchBool, ◌*◌, ⊤, ◌&&◌, not, is_some}
+use Rattle.std.proofs.Common.{◌≡◌, ℕ, suc, ◌+◌, ◌≤◌, Bool, true, false, List, [], ◌∷◌, ◌++◌, length, Option, Some, refl, sym, ◌∙◌, ap, subst, inl, inr, arith, cond, fold}
+use Rattle.std.specs.Prelude.{◌&&◌, not, is_some}
 use Rattle.std.proofs.lemmas.Bool.{true≢false, or_parts}
 use Rattle.std.specs.List.{list_any, AllByRecursion, AllZip}
 use Rattle.std.proofs.lemmas.List.Sums.{sum_by-append}
@@ -11,24 +11,22 @@ use Rattle.key_kind.specs.declared.key.KeyKind.TheVariants as kinds
 use Rattle.key_kind.specs.Keys.{is_put, same_kind}
 use Rattle.key_kind.proofs.KeyTests.{same_name_is, same_name_self}
 use Rattle.bucket_core.specs.declared.event.Change.{Change}
-use Rattle.bucket_core.specs.declared.event.Change.TheVariants as changes
 use Rattle.bucket_core.specs.declared.event.Event.TheVariants as events
 use Rattle.bucket_core.specs.History.{History, stored, body_put}
-use Rattle.store_model.specs.Library.{State, Version, state_of, base_of, first_of, number_after, next_number, after_change, after_changes}
+use Rattle.store_model.specs.Library.{State, Version, state_of, first_of, number_after, next_number, after_change, after_changes}
 use Rattle.store_model.specs.declared.chain.LinkRow.{LinkRow}
 use Rattle.store_model.specs.Links.{Linked, links, links_of, links_in, links_at}
 use Rattle.store_model.specs.Commits.{FitsLink, is_version, IsCommit, making, marking, marks_of, MayRefer}
 use Rattle.store_model.proofs.Linking.{MakesNone, marks_make_none, refer_makes}
 use Rattle.store_model.proofs.Referring.{linked_row}
 use Rattle.store_model.specs.Law.{IsLawful}
-use Rattle.store_model.proofs.Lists.{all_weaker}
 use Rattle.store_model.proofs.Lawful.{lawful_is_intact, beginning_lawful}
 use Rattle.reply_model.specs.Rows.{keys_of}
-use Rattle.reply_model.specs.Blocks.{Cutting, Block, Part, shared, fresh, Shape, tiles_in, made_for, same_block, base_blocks, blocks_from, blocks_made, with_version, shape_after}
+use Rattle.reply_model.specs.Blocks.{Cutting, Block, made_for, blocks_made, with_version, shape_after}
 use Rattle.reply_model.specs.Keyed.{HasKeys}
 use Rattle.reply_model.specs.Sole.{Alone, committing}
-use Rattle.reply_model.specs.Standing.{fresh_in, row_sizes, IsCutBy, HasBlocks, HasShape, StandsAs}
-use Rattle.reply_model.proofs.Makings.{numbers_kept, AreMade, made_later, MakesVersion, MakesMark, Makes}
+use Rattle.reply_model.specs.Standing.{row_sizes, IsCutBy, HasBlocks, HasShape, StandsAs}
+use Rattle.reply_model.proofs.Makings.{numbers_kept, AreMade, made_later, MakesVersion, Makes}
 use Rattle.reply_model.proofs.StoredCounts.{keys_behind_refer, reference_behind}
 use Rattle.reply_model.proofs.TryCounts.{is_no_put, keys_behind_puts, PutsVersion, PutsKeys}
 use Rattle.reply_model.proofs.KeyedShapes.{keys_stay, counted_keys}

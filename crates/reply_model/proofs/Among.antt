@@ -1,15 +1,15 @@
 -- Keys among lists of keys, and blocks among lists of blocks.
-use Rattle.std.proofs.Common.{◌≡◌, ◌⊎◌, ℕ, ◌+◌, Bool, true, false, List, [], ◌∷◌, ◌++◌, map, length, refl, sym, ◌∙◌, ap, subst, inl, inr, arith, cond}
-use Rattle.std.specs.Prelude.{◌&&◌, ◌||◌, ⊤, not, filter, flat_map, Contains, nat_eq, sum_by}
+use Rattle.std.proofs.Common.{◌≡◌, ◌⊎◌, ℕ, Bool, true, false, List, [], ◌∷◌, ◌++◌, length, refl, sym, ◌∙◌, ap, subst, inl, inr, arith, cond}
+use Rattle.std.specs.Prelude.{◌&&◌, filter, Contains, nat_eq, sum_by}
 use Rattle.std.specs.List.{list_any, AllByRecursion, IsDistinct}
-use Rattle.std.proofs.lemmas.Bool.{true≢false, or_parts, or_from, or_left, or_right, or_cases, eqb-true, eq-eqb}
+use Rattle.std.proofs.lemmas.Bool.{true≢false, or_left, or_right, or_cases, eqb-true, eq-eqb}
 use Rattle.std.proofs.lemmas.List.Concat.{flat_map-cons, length-flat_map}
 use Rattle.std.proofs.lemmas.List.Sums.{sum_by-cons}
 use Rattle.std.proofs.lemmas.List.Folds.{list_any-append}
 use Rattle.key_kind.specs.declared.key.Key.{Key}
 use Rattle.key_kind.specs.Keys.{same_key}
 use Rattle.key_kind.proofs.KeyTests.{same_key_is, same_key_self}
-use Rattle.store_model.proofs.Lists.{contains_first, contains_later, contains_cases, contains_none, filter_in, in_filter}
+use Rattle.store_model.proofs.Lists.{contains_first, contains_later, contains_cases, contains_none, filter_in}
 use Rattle.reply_model.specs.Blocks.{Block, same_block}
 use Rattle.reply_model.specs.Keyed.{keys_named}
 use Rattle.reply_model.proofs.DropCounts.{is_among}

@@ -1,16 +1,15 @@
 -- Behind drops of keys: what is then stored, and how many keys there are.
-use Rattle.std.proofs.Common.{◌≡◌, ℕ, ◌+◌, Bool, true, false, List, [], ◌∷◌, ◌++◌, map, length, Option, Some, None, refl, sym, ◌∙◌, ap, subst, arith, cond, append_assoc}
-use Rattle.std.specs.Prelude.{◌&&◌, ◌||◌, ⊤, not, filter, reverse, count_by, is_some}
+use Rattle.std.proofs.Common.{◌≡◌, ℕ, ◌+◌, Bool, true, false, List, [], ◌∷◌, ◌++◌, map, length, None, refl, sym, ◌∙◌, ap, subst, arith, cond, append_assoc}
+use Rattle.std.specs.Prelude.{◌&&◌, ◌||◌, not, reverse, count_by, is_some}
 use Rattle.std.specs.List.{list_any, AllByRecursion, IsDistinct}
-use Rattle.std.proofs.lemmas.Bool.{true≢false, or_parts, or_from, not_from_false}
+use Rattle.std.proofs.lemmas.Bool.{true≢false, or_parts}
 use Rattle.std.proofs.lemmas.List.{reverse-append}
 use Rattle.segment_cut.proofs.Lists.{count_by-cons}
 use Rattle.key_kind.specs.Names.{Name, same_name}
 use Rattle.key_kind.specs.declared.key.Key.{Key}
 use Rattle.key_kind.specs.declared.key.KeyKind.{KeyKind}
 use Rattle.key_kind.specs.Keys.{same_key, same_kind, key_before}
-use Rattle.key_kind.proofs.KeyTests.{same_key_is, same_key_self, same_name_self}
-use Rattle.bucket_core.specs.declared.event.Event.{Event}
+use Rattle.key_kind.proofs.KeyTests.{same_key_is, same_key_self}
 use Rattle.bucket_core.specs.declared.event.Event.TheVariants as events
 use Rattle.bucket_core.specs.History.{History, stored, stored_keys, without_key}
 use Rattle.store_model.specs.Library.{state_of}

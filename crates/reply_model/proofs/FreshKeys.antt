@@ -1,7 +1,7 @@
 -- The keys that a try puts are new, and those of a version are the ones of its new row blocks.
-use Rattle.std.proofs.Common.{◌≡◌, ℕ, zero, suc, ◌+◌, Bool, true, false, List, [], ◌∷◌, ◌++◌, map, length, Option, Some, None, refl, sym, ◌∙◌, ap, subst, inl, inr, arith, cond, ◌≤◌, append_assoc, length-append}
-use Rattle.std.specs.Prelude.{◌*◌, ◌||◌, ⊤, Contains, filter, reverse, is_some, option_map, option_and_then}
-use Rattle.std.specs.List.{list_any, AllByRecursion, AllZip, IsDistinct}
+use Rattle.std.proofs.Common.{◌≡◌, ℕ, Bool, true, false, List, [], ◌∷◌, ◌++◌, map, length, Option, Some, None, refl, sym, ◌∙◌, ap, subst, inl, inr, arith, cond, ◌≤◌, append_assoc, length-append}
+use Rattle.std.specs.Prelude.{◌*◌, ⊤, Contains, filter, reverse, is_some, option_map, option_and_then}
+use Rattle.std.specs.List.{AllByRecursion, AllZip, IsDistinct}
 use Rattle.std.proofs.Math.Nat.{suc-mul}
 use Rattle.std.proofs.lemmas.Bool.{true≢false}
 use Rattle.std.proofs.lemmas.List.{reverse-append}
@@ -10,21 +10,20 @@ use Rattle.std.proofs.lemmas.List.Concat.{flat_map-cons}
 use Rattle.segment_cut.specs.Tiles.{Tile}
 use Rattle.index_tree.specs.declared.index.Index.{Index}
 use Rattle.key_kind.specs.declared.key.Key.{Key}
-use Rattle.key_kind.specs.Keys.{same_key, is_put}
+use Rattle.key_kind.specs.Keys.{same_key}
 use Rattle.key_kind.proofs.KeyTests.{same_key_is, same_key_self}
 use Rattle.bucket_core.specs.declared.event.Event.TheVariants as events
 use Rattle.bucket_core.specs.History.{History, Bytes, stored, body_put, PutOnce}
 use Rattle.store_model.specs.declared.chain.LinkRow.{LinkRow}
 use Rattle.store_model.specs.Links.{Linked, linked, tiles_put, index_put}
 use Rattle.store_model.proofs.Lists.{contains_cases, contains_none}
-use Rattle.store_model.proofs.Histories.{put_stays, once_before}
+use Rattle.store_model.proofs.Histories.{put_stays}
 use Rattle.reply_model.specs.Tries.{put_of, keys_of_puts}
 use Rattle.reply_model.specs.Blocks.{Block, Part, shared, fresh}
 use Rattle.reply_model.specs.Keyed.{IsKeyedPart}
 use Rattle.reply_model.specs.Standing.{fresh_in}
 use Rattle.reply_model.proofs.StoredCounts.{no_body}
 use Rattle.reply_model.proofs.DropCounts.{is_among}
-use Rattle.reply_model.proofs.Among.{all_at}
 use Rattle.reply_model.proofs.KeyedShapes.{flat}
 
 -- ---- the index of a link

@@ -1,8 +1,8 @@
 -- What the keys of a shape tell: of which link and of which block a key is.
-use Rattle.std.proofs.Common.{◌≡◌, ◌⊎◌, ℕ, Bool, true, false, List, [], ◌∷◌, ◌++◌, map, length, Option, Some, None, refl, sym, ◌∙◌, ap, subst, inl, inr, cond}
-use Rattle.std.specs.Prelude.{◌&&◌, ◌||◌, not, filter, flat_map, Contains, is_some}
+use Rattle.std.proofs.Common.{◌≡◌, ◌⊎◌, ℕ, Bool, true, false, List, [], ◌∷◌, ◌++◌, map, Some, None, refl, sym, ◌∙◌, ap, subst, inl, inr, cond}
+use Rattle.std.specs.Prelude.{filter, flat_map, Contains, is_some}
 use Rattle.std.specs.List.{list_any, AllByRecursion, AllZip, IsDistinct}
-use Rattle.std.proofs.lemmas.Bool.{true≢false, or_left, or_right, or_cases, and_from}
+use Rattle.std.proofs.lemmas.Bool.{true≢false, or_left, or_right, or_cases}
 use Rattle.std.proofs.lemmas.List.Concat.{flat_map-cons}
 use Rattle.std.proofs.lemmas.List.Folds.{list_any-append, flat_map-map}
 use Rattle.index_tree.specs.declared.index.Slot.{Slot}
@@ -10,11 +10,11 @@ use Rattle.key_kind.specs.Names.{Name}
 use Rattle.key_kind.specs.declared.key.Key.{Key}
 use Rattle.key_kind.specs.declared.key.KeyKind.TheVariants as kinds
 use Rattle.key_kind.specs.Keys.{same_key, is_put}
-use Rattle.key_kind.proofs.KeyTests.{same_key_is, same_key_self}
-use Rattle.bucket_core.specs.History.{History, Bytes, stored, body_put}
-use Rattle.store_model.specs.Library.{State, state_of, is_kept}
+use Rattle.key_kind.proofs.KeyTests.{same_key_self}
+use Rattle.bucket_core.specs.History.{History, stored, body_put}
+use Rattle.store_model.specs.Library.{State, is_kept}
 use Rattle.store_model.specs.Law.{IsLawful}
-use Rattle.store_model.specs.Links.{Linked, links, reached, reaches, is_reached}
+use Rattle.store_model.specs.Links.{Linked, links, reached, reaches}
 use Rattle.store_model.proofs.Lists.{contains_first, contains_later, contains_cases, contains_none, passes}
 use Rattle.store_model.proofs.Histories.{stands_from}
 use Rattle.store_model.proofs.Dropping.{reaches_it}
@@ -24,7 +24,7 @@ use Rattle.reply_model.specs.Blocks.{Block, Shape, no_shape, same_block}
 use Rattle.reply_model.specs.Keyed.{with_key, begins_block, block_keys, has_index, standing_blocks, keys_named, HasNames, NamesTable, HasKeys}
 use Rattle.reply_model.specs.Standing.{HasBlocks}
 use Rattle.reply_model.proofs.DropCounts.{is_among}
-use Rattle.reply_model.proofs.Among.{among_contains, all_at, has_block, all_from}
+use Rattle.reply_model.proofs.Among.{among_contains, has_block}
 
 -- ---- the keys of an index
 

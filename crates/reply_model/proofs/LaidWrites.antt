@@ -3,13 +3,12 @@
 --     write_lays_out      a write is laid out where its frame is
 --     none_lays_out       a command that makes no version leaves nothing open
 use Rattle.std.proofs.Common.{◌≡◌, ℕ, Bool, true, false, List, [], ◌∷◌, ◌++◌, map, Option, Some, None, Ok, refl, sym, ◌∙◌, ap, subst, inl, inr, cond}
-use Rattle.std.specs.Prelude.{ℤ, ⊤, Result, Err, IfSome, not, reverse, option_map, option_and_then}
+use Rattle.std.specs.Prelude.{ℤ, ⊤, Result, Err, IfSome, not, reverse, option_map}
 use Rattle.std.specs.List.{cons_option}
 use Rattle.std.proofs.lemmas.Bool.{true≢false}
 use Rattle.frame_core.specs.Frames.{Frame}
 use Rattle.frame_core.specs.declared.refusal.Refusal.{Refusal}
 use Rattle.frame_core.specs.declared.refusal.Refusal.TheVariants as refusals
-use Rattle.segment_cut.specs.Tiles.{Tile}
 use Rattle.index_tree.specs.declared.index.Index.{Index}
 use Rattle.key_kind.specs.Names.{Name}
 use Rattle.key_kind.specs.declared.key.Key.{Key}
@@ -22,7 +21,7 @@ use Rattle.store_model.specs.declared.chain.LinkRow.{LinkRow}
 use Rattle.store_model.specs.Library.{State, Version, state_of, first_of, new_version}
 use Rattle.store_model.specs.Snapshots.{library_of}
 use Rattle.store_model.specs.Law.{IsLawful}
-use Rattle.store_model.specs.Links.{Linked, links, links_of, links_in, links_at, linked, tiles_put, index_put}
+use Rattle.store_model.specs.Links.{Linked, links, links_of, links_in, links_at, linked, index_put}
 use Rattle.store_model.specs.Commits.{FitsLink, is_version, marks_of}
 use Rattle.store_model.proofs.Linking.{refer_makes}
 use Rattle.expr_clause.specs.declared.command.Command.{Command}

@@ -1,6 +1,6 @@
 -- The keys of the blocks of a new version, by its parts.
 use Rattle.std.proofs.Common.{◌≡◌, ◌⊎◌, ℕ, zero, suc, ◌+◌, ◌<◌, Bool, true, false, List, [], ◌∷◌, ◌++◌, map, length, refl, sym, ◌∙◌, ap, subst, inl, inr, arith, cond}
-use Rattle.std.specs.Prelude.{◌||◌, filter, nat_eq, Contains}
+use Rattle.std.specs.Prelude.{◌||◌, nat_eq}
 use Rattle.std.specs.List.{list_any, AllByRecursion, AllZip}
 use Rattle.std.proofs.lemmas.Bool.{true≢false, eq-eqb, ne_eqb, or_cases}
 use Rattle.std.proofs.lemmas.List.Concat.{flat_map-cons}

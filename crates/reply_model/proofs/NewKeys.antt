@@ -1,18 +1,17 @@
 -- Behind the commit of a version the shape has the keys of the links.
-use Rattle.std.proofs.Common.{◌≡◌, ◌⊎◌, ℕ, zero, suc, ◌+◌, ◌<◌, Bool, true, false, List, [], ◌∷◌, ◌++◌, map, length, Option, Some, None, Ok, refl, sym, ◌∙◌, ap, subst, inl, inr, arith, cond}
-use Rattle.std.specs.Prelude.{◌*◌, ◌||◌, ⊤, not, filter, find, reverse, nat_eq, Contains, is_some, option_and_then}
+use Rattle.std.proofs.Common.{◌≡◌, ◌⊎◌, ℕ, suc, ◌+◌, ◌<◌, Bool, true, false, List, [], ◌∷◌, ◌++◌, map, length, Option, Some, None, refl, sym, ◌∙◌, ap, subst, inl, inr, arith, cond}
+use Rattle.std.specs.Prelude.{not, filter, find, reverse, nat_eq, Contains, is_some, option_and_then}
 use Rattle.std.specs.Option.{option_map_or}
-use Rattle.std.specs.List.{list_any, AllByRecursion, AllZip, IsDistinct}
-use Rattle.std.proofs.lemmas.Bool.{true≢false, or_left, or_right, or_cases, and_from, eq-eqb, eqb-true, ne_eqb}
+use Rattle.std.specs.List.{AllByRecursion, AllZip, IsDistinct}
+use Rattle.std.proofs.lemmas.Bool.{true≢false, or_left, and_from, eq-eqb, eqb-true, ne_eqb}
 use Rattle.std.proofs.lemmas.List.{length-map}
-use Rattle.std.proofs.lemmas.List.Folds.{list_any-append}
 use Rattle.byte_fields.specs.Reading.{read_of}
 use Rattle.index_tree.specs.declared.index.Slot.{Slot}
 use Rattle.index_tree.specs.IndexText.{index_of}
 use Rattle.key_kind.specs.Names.{Name}
 use Rattle.key_kind.specs.declared.key.Key.{Key}
 use Rattle.key_kind.specs.declared.key.KeyKind.TheVariants as kinds
-use Rattle.key_kind.specs.Keys.{same_key, is_put, reference_key}
+use Rattle.key_kind.specs.Keys.{same_key, is_put}
 use Rattle.key_kind.specs.KeyText.{key_text}
 use Rattle.key_kind.proofs.KeyTests.{same_key_is, put_is_no_reference}
 use Rattle.bucket_core.specs.declared.event.Change.{Change}
@@ -24,20 +23,20 @@ use Rattle.store_model.specs.declared.chain.Entry.{Entry}
 use Rattle.store_model.specs.ChainText.{entry_of}
 use Rattle.store_model.specs.Library.{State, Version, state_of, base_of, first_of, next_number, is_kept, is_live, is_buried, is_linked}
 use Rattle.store_model.specs.Law.{IsLawful}
-use Rattle.store_model.specs.Links.{Linked, links, linked, reached, element, index_put, is_reached}
+use Rattle.store_model.specs.Links.{Linked, links, reached, element, index_put}
 use Rattle.store_model.specs.Commits.{FitsLink, MayRefer, MayNameKey, is_version, marks_of}
 use Rattle.store_model.proofs.Lists.{contains_first, contains_later, contains_cases, contains_none, contains_right, filter_in, passes}
-use Rattle.store_model.proofs.Histories.{choose_false, stands_from}
+use Rattle.store_model.proofs.Histories.{stands_from}
 use Rattle.store_model.proofs.Lawful.{lawful_is_intact, beginning_lawful}
 use Rattle.store_model.proofs.Referring.{linked_row}
 use Rattle.reply_model.specs.Tries.{put_of, keys_of_puts, IsKeyOf, index_linked}
-use Rattle.reply_model.specs.Blocks.{Cutting, Block, Part, shared, fresh, Shape, same_block, base_blocks, blocks_from, made_for}
+use Rattle.reply_model.specs.Blocks.{Cutting, Block, Part, shared, fresh, Shape, base_blocks, blocks_from, made_for}
 use Rattle.reply_model.specs.Keyed.{block_keys, has_index, standing_blocks, keys_named, HasNames, NamesTable, HasKeys, IsKeyedPart}
-use Rattle.reply_model.specs.Standing.{HasBlocks, HasShape, fresh_in}
+use Rattle.reply_model.specs.Standing.{HasBlocks, HasShape}
 use Rattle.reply_model.proofs.TryCounts.{PutsVersion}
 use Rattle.reply_model.proofs.DropCounts.{is_among}
-use Rattle.reply_model.proofs.Among.{all_at, all_from, among_left, among_contains, contains_among, distinct_first, distinct_more, distinct_both, among_named, named_among, named_cons, named_append, has_block, block_there, block_among, block_at, same_block_is, same_keys}
-use Rattle.reply_model.proofs.KeyedShapes.{flat, blocks_flat, Pairs, pairs_first, pairs_later, standing_in, has_append, has_left, has_right, has_same, link_at, reached_cases, slot_reached, reached_was_put, keys_stay}
+use Rattle.reply_model.proofs.Among.{all_at, all_from, among_left, among_contains, contains_among, distinct_first, distinct_more, distinct_both, named_among, named_cons, named_append, has_block, block_there, block_among, block_at, same_block_is, same_keys}
+use Rattle.reply_model.proofs.KeyedShapes.{flat, blocks_flat, Pairs, pairs_first, pairs_later, has_append, has_left, has_right, has_same, link_at, reached_cases, slot_reached, reached_was_put}
 use Rattle.reply_model.proofs.ReachedKeys.{same_test, not_passing, reaching, needed_stands}
 use Rattle.reply_model.proofs.Makings.{AreMade, SharesBlocks, MakesVersion}
 use Rattle.reply_model.proofs.FreshKeys.{index_is, behind_puts, puts_reversed, puts_new, puts_distinct, puts_found, stored_behind_puts, fresh_keys, SharedFail, fresh_are_put}

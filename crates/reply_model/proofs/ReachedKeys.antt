@@ -1,7 +1,6 @@
 -- Which links reach a key of the symbol.
-use Rattle.std.proofs.Common.{◌≡◌, Bool, true, false, List, ◌∷◌, refl, sym, ◌∙◌, ap, subst}
+use Rattle.std.proofs.Common.{◌≡◌, Bool, true, false, refl, sym, ◌∙◌, ap, subst}
 use Rattle.std.specs.Prelude.{◌&&◌, Contains, is_some}
-use Rattle.std.specs.List.{list_any}
 use Rattle.std.proofs.lemmas.Bool.{true≢false, and_from}
 use Rattle.key_kind.specs.Names.{Name}
 use Rattle.key_kind.specs.declared.key.Key.{Key}

@@ -1,8 +1,8 @@
 -- The shapes of a run behind a reclaim count the keys that are then stored.
-use Rattle.std.proofs.Common.{◌≡◌, ℕ, suc, ◌+◌, Bool, true, false, List, [], ◌∷◌, ◌++◌, map, length, Option, Some, None, refl, sym, ◌∙◌, ap, subst, inl, inr, arith, cond}
-use Rattle.std.specs.Prelude.{◌&&◌, ◌<◌, not, filter, count_by, sum_by, is_some}
+use Rattle.std.proofs.Common.{◌≡◌, ℕ, ◌+◌, Bool, true, false, List, [], ◌∷◌, ◌++◌, length, refl, sym, ◌∙◌, ap, subst, inl, inr, arith, cond}
+use Rattle.std.specs.Prelude.{◌&&◌, ◌<◌, not, count_by, is_some}
 use Rattle.std.specs.List.{list_any, AllByRecursion, AllZip}
-use Rattle.std.proofs.lemmas.Bool.{true≢false, or_cases, or_parts}
+use Rattle.std.proofs.lemmas.Bool.{true≢false, or_cases}
 use Rattle.std.proofs.lemmas.List.Sums.{sum_by-append}
 use Rattle.std.proofs.lemmas.List.Filters.{sum_by-filter_both, length-filter_both}
 use Rattle.segment_cut.proofs.Lists.{count_by-cons}
@@ -11,9 +11,9 @@ use Rattle.key_kind.specs.declared.key.Key.{Key}
 use Rattle.key_kind.specs.declared.key.KeyKind.{KeyKind}
 use Rattle.key_kind.specs.declared.key.KeyKind.TheVariants as kinds
 use Rattle.key_kind.specs.Keys.{same_kind, same_key}
-use Rattle.key_kind.proofs.KeyTests.{same_name_self, same_name_is, same_key_is}
+use Rattle.key_kind.proofs.KeyTests.{same_name_self, same_key_is}
 use Rattle.bucket_core.specs.declared.event.Event.TheVariants as events
-use Rattle.bucket_core.specs.History.{History, stored_keys, stored}
+use Rattle.bucket_core.specs.History.{History, stored_keys}
 use Rattle.store_model.specs.Library.{State, state_of, is_kept, next_number}
 use Rattle.store_model.specs.Law.{IsLawful}
 use Rattle.store_model.specs.Links.{Linked, links}
@@ -22,7 +22,6 @@ use Rattle.reply_model.specs.Tries.{IsKeyOf}
 use Rattle.reply_model.specs.Drops.{IsDeadIndex, IsDeadTile, IsDeadPiece}
 use Rattle.reply_model.specs.Rows.{keys_of}
 use Rattle.reply_model.specs.Blocks.{Block, Shape, is_unneeded, dead_blocks, dead_indexes, tiles_in, swept}
-use Rattle.reply_model.specs.Keyed.{HasKeys}
 use Rattle.reply_model.specs.Standing.{HasBlocks, HasShape}
 use Rattle.reply_model.proofs.StoredCounts.{is_of, stored_there}
 use Rattle.reply_model.proofs.DropCounts.{behind_drops, is_among, lawful_behind, stored_beside, links_behind_drops, state_behind_drops, keys_behind_drops, counted_of}

@@ -1,8 +1,8 @@
 -- The theorem for a reclaim: its drops, its reply and where the run then stands.
-use Rattle.std.proofs.Common.{◌≡◌, ◌⊎◌, ℕ, zero, suc, ◌+◌, ◌-◌, ◌≤◌, ◌<◌, Bool, true, false, List, [], ◌∷◌, ◌++◌, map, length, drop, Option, Some, None, refl, sym, ◌∙◌, ap, subst, inl, inr, arith, cond, length-append}
-use Rattle.std.specs.Prelude.{◌&&◌, not, filter, reverse, count_by, Contains, nat_le, MatchBool, is_some}
+use Rattle.std.proofs.Common.{◌≡◌, ◌⊎◌, ℕ, zero, suc, ◌+◌, ◌-◌, ◌≤◌, ◌<◌, Bool, true, false, List, [], ◌∷◌, ◌++◌, map, length, drop, Some, None, refl, sym, ◌∙◌, ap, subst, inl, inr, arith, cond, length-append}
+use Rattle.std.specs.Prelude.{◌&&◌, not, filter, reverse, count_by, Contains, nat_le, is_some}
 use Rattle.std.specs.List.{list_any, AllByRecursion}
-use Rattle.std.proofs.lemmas.Bool.{true≢false, or_from, leb-true, leb-false}
+use Rattle.std.proofs.lemmas.Bool.{true≢false, leb-true, leb-false}
 use Rattle.std.proofs.lemmas.List.{reverse-reverse}
 use Rattle.std.proofs.lemmas.List.Sums.{sum_by-append}
 use Rattle.segment_cut.proofs.Lists.{count_by-cons}
@@ -13,33 +13,30 @@ use Rattle.key_kind.specs.declared.key.Key.{Key}
 use Rattle.key_kind.specs.declared.key.KeyKind.{KeyKind}
 use Rattle.key_kind.specs.declared.key.KeyKind.TheVariants as kinds
 use Rattle.key_kind.specs.Keys.{same_kind, same_key, is_put}
-use Rattle.key_kind.proofs.KeyTests.{same_name_is, same_key_is, same_key_self, put_is_no_reference, put_is_no_snapshot}
+use Rattle.key_kind.proofs.KeyTests.{same_name_is, same_key_is, put_is_no_reference, put_is_no_snapshot}
 use Rattle.bucket_core.specs.declared.event.Event.{Event}
 use Rattle.bucket_core.specs.declared.event.Event.TheVariants as events
-use Rattle.bucket_core.specs.History.{History, author, newest, stored, body_put, history_at, event_at}
+use Rattle.bucket_core.specs.History.{History, newest, stored, body_put, history_at, event_at}
 use Rattle.store_model.specs.Library.{State, state_of, is_consumed}
 use Rattle.store_model.specs.Law.{IsLawful}
-use Rattle.store_model.specs.Links.{Linked, links, reached, IsUnneeded}
-use Rattle.store_model.specs.Snapshots.{library_of}
+use Rattle.store_model.specs.Links.{Linked, links, IsUnneeded}
 use Rattle.store_model.proofs.Histories.{choose_false, stands_from}
 use Rattle.store_model.proofs.Lawful.{lawful_is_intact}
-use Rattle.expr_clause.specs.declared.command.Command.{Command}
 use Rattle.expr_clause.specs.declared.command.Command.TheVariants as commands
 use Rattle.reply_model.specs.declared.outcome.Outcome.{Outcome}
 use Rattle.reply_model.specs.declared.outcome.Outcome.TheVariants as outcomes
 use Rattle.reply_model.specs.declared.reply.Reply.{Reply}
 use Rattle.reply_model.specs.Windows.{Window, Client, own_events, is_refused, is_cut, refer_places}
-use Rattle.reply_model.specs.Tries.{IsKeyOf}
-use Rattle.reply_model.specs.Drops.{IsDropping, IsReclaiming, IsDeadIndex, IsDeadTile, IsDeadPiece, DroppedByAnother, IsFreedAt, drops, drops_kind}
+use Rattle.reply_model.specs.Drops.{IsDropping, IsDeadIndex, IsDeadTile, IsDeadPiece, DroppedByAnother, IsFreedAt, drops, drops_kind}
 use Rattle.reply_model.specs.OwnEvents.{IsOwn, is_done, is_empty_burial}
 use Rattle.reply_model.specs.Legal.{IsLegalRefusal, IsLegalOutcome, IsLegalSeen}
 use Rattle.reply_model.specs.Blocks.{Cutting, Shape, dead_blocks, dead_indexes, dead_pieces, tiles_in, swept}
-use Rattle.reply_model.specs.Sole.{Alone, set_of, plain_reply, refusal, freed_alone, drops_alone, reclaiming, next_turn, step_alone}
-use Rattle.reply_model.specs.Standing.{row_sizes, HasShape, IsCutBy, StandsAs, StepsTo, IsStep, LegalReclaimsAlone}
+use Rattle.reply_model.specs.Sole.{Alone, set_of, plain_reply, refusal, freed_alone, drops_alone, reclaiming, next_turn}
+use Rattle.reply_model.specs.Standing.{row_sizes, HasShape, StandsAs, StepsTo, IsStep, LegalReclaimsAlone}
 use Rattle.reply_model.proofs.Places.{history_at_end}
 use Rattle.reply_model.proofs.Covering.{event_at_later, event_at_end, some_is}
 use Rattle.reply_model.proofs.Isolated.{Met}
-use Rattle.reply_model.proofs.AloneWindows.{AreBy, added, history_at_start, own_at, own_is_all, IsKept, tells, kept_behind, none_behind}
+use Rattle.reply_model.proofs.AloneWindows.{added, history_at_start, own_at, own_is_all, IsKept, tells, kept_behind}
 use Rattle.reply_model.proofs.AloneSteps.{reply_is}
 use Rattle.reply_model.proofs.DropCounts.{behind_drops, drops_reversed, lawful_behind, links_behind_drops}
 use Rattle.reply_model.proofs.Reclaimed.{Frees}
@@ -308,7 +305,7 @@ module _ (c : Cutting) (client : Client) (symbol : Name) (reply : Reply) (more o
         let command = commands.Reclaim symbol in
         let undone : is_done reply ≡ false = ap (λ o. not (is_refused o) && not (is_empty_burial reply o)) is in
         let nothing : more ≡ [] = adds_none client command reply more old faulted heard
-            (subst (λ b. IsOwn h client.session w command reply b (own_events h own w)) undone (own_are client command reply more old faulted heard)) in
+        (subst (λ b. IsOwn h client.session w command reply b (own_events h own w)) undone (own_are client command reply more old faulted heard)) in
         let unreferred : (r.library.state symbol).has_reference ≡ false = ap (λ (x : State). x.has_reference) (stands.states symbol) ∙ (ap (λ g. (state_of g symbol).has_reference) (sym at_place) ∙ none) in
         let reclaims : reclaiming symbol r ≡ (refusal r.events None refusals.NoSuchSymbol, r) =
         ap (λ b. cond b (plain_reply r.events None (freed_alone (r.library.state symbol) s), record r { events = r.events + drops_alone (r.library.state symbol) s; shape = set_of symbol (swept (r.library.state symbol) s) r.shape })

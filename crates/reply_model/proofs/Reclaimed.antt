@@ -1,7 +1,7 @@
 -- What a reclaim without events of others drops is what the run alone counts.
-use Rattle.std.proofs.Common.{◌≡◌, ◌⊎◌, ℕ, ◌+◌, Bool, true, false, List, [], ◌∷◌, ◌++◌, map, length, Option, Some, None, refl, sym, ◌∙◌, ap, subst, inl, inr, arith, cond}
-use Rattle.std.specs.Prelude.{◌&&◌, ◌||◌, not, filter, flat_map, count_by, Contains, is_some}
-use Rattle.std.specs.List.{list_any, AllByRecursion, AllZip, IsDistinct}
+use Rattle.std.proofs.Common.{◌≡◌, ℕ, Bool, true, false, List, [], ◌∷◌, ◌++◌, map, length, Option, Some, None, refl, sym, ◌∙◌, ap, subst, inl, inr, cond}
+use Rattle.std.specs.Prelude.{not, filter, Contains, is_some}
+use Rattle.std.specs.List.{AllByRecursion, AllZip, IsDistinct}
 use Rattle.std.proofs.lemmas.Bool.{true≢false}
 use Rattle.std.proofs.lemmas.List.{length-map}
 use Rattle.std.proofs.lemmas.Map.Made.{length-from_same_keys}
@@ -18,7 +18,7 @@ use Rattle.store_model.specs.Links.{Linked, links, reached, IsUnneeded}
 use Rattle.store_model.proofs.Lists.{contains_first, contains_later, contains_cases, contains_none, filter_in, in_filter}
 use Rattle.reply_model.specs.Tries.{IsKeyOf}
 use Rattle.reply_model.specs.Drops.{KeysRise, IsDeadIndex, IsDeadTile, IsDeadPiece}
-use Rattle.reply_model.specs.Blocks.{Block, Shape, same_block, needed_blocks, is_unneeded, dead_blocks, dead_indexes, tiles_in, swept}
+use Rattle.reply_model.specs.Blocks.{Block, Shape, is_unneeded, dead_blocks, dead_indexes, tiles_in, swept}
 use Rattle.reply_model.specs.Keyed.{has_index, standing_blocks, keys_named, HasNames, NamesTable, HasKeys}
 use Rattle.reply_model.specs.Standing.{HasBlocks}
 use Rattle.reply_model.proofs.DropCounts.{behind_drops, is_among, lawful_behind, none_stays, was_dropped, links_behind_drops, state_behind_drops, rising_distinct}
@@ -294,12 +294,12 @@ module _ (client : ℕ) (symbol : Name) (old : History) (s : Shape) (tiles index
   blocks_behind : (b : Block) → has_block (filter stays s.blocks) b ≡ has_block (kept_blocks st s.versions) b
   blocks_behind b = same_test (has_block (filter stays s.blocks) b) (has_block (kept_blocks st s.versions) b)
       (λ there.
-          let a = block_among (filter stays s.blocks) b there in
-          same_there a.0 b (kept_blocks st s.versions) (same_back b a.0 a.2) ∙ (sym (stays_is (has_block (kept_blocks st s.versions) a.0)) ∙ (filter_in stays s.blocks a.0 a.1).1))
+      let a = block_among (filter stays s.blocks) b there in
+      same_there a.0 b (kept_blocks st s.versions) (same_back b a.0 a.2) ∙ (sym (stays_is (has_block (kept_blocks st s.versions) a.0)) ∙ (filter_in stays s.blocks a.0 a.1).1))
       (λ needed.
-          let a = block_among s.blocks b (needed_is_stored b needed) in
-          same_there a.0 b (filter stays s.blocks) (same_back b a.0 a.2)
-          ∙ block_there (filter stays s.blocks) a.0 (in_filter stays s.blocks a.0 a.1 (stays_is (has_block (kept_blocks st s.versions) a.0) ∙ (same_there b a.0 (kept_blocks st s.versions) a.2 ∙ needed))))
+      let a = block_among s.blocks b (needed_is_stored b needed) in
+      same_there a.0 b (filter stays s.blocks) (same_back b a.0 a.2)
+      ∙ block_there (filter stays s.blocks) a.0 (in_filter stays s.blocks a.0 a.1 (stays_is (has_block (kept_blocks st s.versions) a.0) ∙ (same_there b a.0 (kept_blocks st s.versions) a.2 ∙ needed))))
 
   -- the keys of the blocks that stay are stored
   keys_stand : (bs : List Block) → ((b : Block) → Contains bs b → Contains s.blocks b) → AllByRecursion (λ key. IsKeyOf kinds.TableData symbol key × (is_some (stored new key) ≡ true)) (keys_named keys.names (filter stays bs))
@@ -307,9 +307,11 @@ module _ (client : ℕ) (symbol : Name) (old : History) (s : Shape) (tiles index
       let b = among_named keys.names (filter stays bs) key there in
       let within = filter_in stays bs b.0 b.1 in
       let stand = all_at (λ k. IsKeyOf kinds.TableData symbol k × (is_some (stored old k) ≡ true)) (keys_named keys.names s.blocks) key keys.stand (named_among keys.names s.blocks b.0 key (inside b.0 within.0) b.2) in
-      let r = kept_in keys.names old st (links old symbol) s.versions has keys.named b.0 (sym (stays_is (has_block (kept_blocks st s.versions) b.0)) ∙ within.1) in
-      (stand.0, needed_stands new symbol r.0 key lawful (subst (λ ls. Contains ls r.0) (sym (links_behind_drops client ((tiles ++ indexes) ++ pieces) old symbol)) r.2.there)
-      (ap (λ (x : State). is_kept x r.0.row.version) (state_behind_drops client ((tiles ++ indexes) ++ pieces) old symbol) ∙ (ap (is_kept st) r.2.number ∙ r.3)) (slot_of_block r.0 r.1 b.0 key r.2 r.4 b.2)))
+      let r = kept_in keys.names old st (links old symbol) s.versions has keys.named b.0 (sym (stays_is (has_block (kept_blocks st s.versions) b.0)) ∙ within.1) in (
+        stand.0,
+        needed_stands new symbol r.0 key lawful (subst (λ ls. Contains ls r.0) (sym (links_behind_drops client ((tiles ++ indexes) ++ pieces) old symbol)) r.2.there)
+            (ap (λ (x : State). is_kept x r.0.row.version) (state_behind_drops client ((tiles ++ indexes) ++ pieces) old symbol) ∙ (ap (is_kept st) r.2.number ∙ r.3)) (slot_of_block r.0 r.1 b.0 key r.2 r.4 b.2),
+      ))
 
   sizes_stay : (bs : List Block) → AllByRecursion (λ (b : Block). length (keys.names b.version b.number) ≡ b.tiles) bs → AllByRecursion (λ (b : Block). length (keys.names b.version b.number) ≡ b.tiles) (filter stays bs)
   sizes_stay [] all = tt

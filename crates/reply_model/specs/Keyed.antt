@@ -3,7 +3,7 @@
 --     standing_blocks      the blocks of the versions whose index is stored
 --     HasKeys              the blocks and indexes of a shape have the keys of the links
 --     IsKeyedPart          the keys of a part of a new version
-use Rattle.std.specs.Prelude.{◌≡◌, ℕ, ◌<◌, if◌then◌else◌, Bool, true, List, [], ◌∷◌, ◌++◌, map, filter, length, flat_map, nat_eq, is_some}
+use Rattle.std.specs.Prelude.{◌≡◌, ℕ, if◌then◌else◌, Bool, true, List, [], ◌∷◌, ◌++◌, map, filter, length, flat_map, nat_eq, is_some}
 use Rattle.std.specs.List.{list_any, AllByRecursion, AllZip, IsDistinct}
 use Rattle.index_tree.specs.declared.index.Slot.{Slot}
 use Rattle.key_kind.specs.declared.key.Key.{Key}
