@@ -162,15 +162,15 @@ event_before : (more old : History) (n : ℕ) → n ≤ length old → event_at 
 event_before [] old n low = refl
 event_before (e ∷ more) old n low = event_at_later e (more ++ old) n (omega (arith, low, length-append more old)) ∙ event_before more old n low
 
-module _ (c : Cutting) (client : Client) (symbol : Name) (reply : Reply) (more old : History) (faulted : Bool) (heard : Heard client (commands.Reclaim symbol) reply more old faulted) (placed : reply.place ≡ length old) where
+module _ (c : Cutting) (client : Client) (symbol : Name) (reply : Reply) (more old : History) (faulted : Bool) (heard : Heard client (commands.Reclaim symbol) reply more old faulted) (placed : is_refused reply.outcome ≡ false → reply.place ≡ length old) where
   abbrev h : History
   h = more ++ old
 
   abbrev own : ℕ
   own = client.session.client
 
-  at_place : history_at h reply.place ≡ old
-  at_place = ap (history_at h) placed ∙ history_at_start more old
+  at_place : reply.place ≡ length old → history_at h reply.place ≡ old
+  at_place here = ap (history_at h) here ∙ history_at_start more old
 
   -- no index that was stored at the place was dropped by another event
   not_by_another : (index : Key) → IsDeadIndex old symbol index → IsLawful old → DroppedByAnother h own (added more old faulted) index → ⊥
@@ -189,9 +189,9 @@ module _ (c : Cutting) (client : Client) (symbol : Name) (reply : Reply) (more o
       ] refl
 
   -- what was dropped, and what is then not stored
-  frees_of : (tiles indexes pieces : ℕ) → IsFreedAt h own symbol tiles indexes pieces reply (added more old faulted) → IsLawful old → (es : List Event) (d : IsDropping old own symbol es) → Frees old h symbol d.tiles d.indexes d.pieces
-  frees_of tiles indexes pieces freed lawful es d =
-      let dead_then : (key : Key) → IsDeadIndex old symbol key → IsDeadIndex (history_at h reply.place) symbol key = λ key dead. subst (λ g. IsDeadIndex g symbol key) (sym at_place) dead in
+  frees_of : reply.place ≡ length old → (tiles indexes pieces : ℕ) → IsFreedAt h own symbol tiles indexes pieces reply (added more old faulted) → IsLawful old → (es : List Event) (d : IsDropping old own symbol es) → Frees old h symbol d.tiles d.indexes d.pieces
+  frees_of here tiles indexes pieces freed lawful es d =
+      let dead_then : (key : Key) → IsDeadIndex old symbol key → IsDeadIndex (history_at h reply.place) symbol key = λ key dead. subst (λ g. IsDeadIndex g symbol key) (sym (at_place here)) dead in
       record {
         tiles_rise = d.tiles_rise;
         indexes_rise = d.indexes_rise;
@@ -200,7 +200,7 @@ module _ (c : Cutting) (client : Client) (symbol : Name) (reply : Reply) (more o
         dead_pieces = d.dead_pieces;
         no_index = λ key dead. ap (λ g. stored g key) (sym (history_at_end h)) ∙ freed.no_index key (dead_then key dead);
         no_tile = λ l key there dead reach table unneeded.
-            elim (freed.no_tile l key (subst (λ g. Contains (links g symbol) l) (sym at_place) there) (dead_then l.row.index dead) reach table (subst (λ g. IsUnneeded g key) (sym at_place) unneeded)) [
+            elim (freed.no_tile l key (subst (λ g. Contains (links g symbol) l) (sym (at_place here)) there) (dead_then l.row.index dead) reach table (subst (λ g. IsUnneeded g key) (sym (at_place here)) unneeded)) [
               | inl gone ↦ ap (λ g. stored g key) (sym (history_at_end h)) ∙ gone
               | inr another ↦ absurd (not_by_another l.row.index dead lawful another)
             ];
@@ -261,18 +261,19 @@ module _ (c : Cutting) (client : Client) (symbol : Name) (reply : Reply) (more o
     freed_step : (tiles indexes pieces : ℕ) → reply.outcome ≡ outcomes.Freed tiles indexes pieces → IsFreedAt h own symbol tiles indexes pieces reply (added more old faulted)
         → StepsTo c (Some (next_turn (reclaiming symbol r))) reply h
     freed_step tiles indexes pieces is freed =
+        let here : reply.place ≡ length old = placed (ap is_refused is) in
         let w : Window = added more old faulted in
         let done : is_done reply ≡ true = ap (λ o. not (is_refused o) && not (is_empty_burial reply o)) is in
         let dropping = subst (λ b. IsOwn h client.session w (commands.Reclaim symbol) reply b (own_events h own w)) done (own_are client (commands.Reclaim symbol) reply more old faulted heard) in
-        let here : dropping.0 ≡ length old = dropping.3 (ap is_refused is) ∙ placed in
-        let d = subst (λ g. IsDropping g own symbol (own_events h own w)) (ap (history_at h) here ∙ history_at_start more old) dropping.4 in
+        let looked : dropping.0 ≡ length old = dropping.3 (ap is_refused is) ∙ here in
+        let d = subst (λ g. IsDropping g own symbol (own_events h own w)) (ap (history_at h) looked ∙ history_at_start more old) dropping.4 in
         let keys : List Key = (d.tiles ++ d.indexes) ++ d.pieces in
         let all : more ≡ reverse (map (events.Drop own) keys) = sym (reverse-reverse more) ∙ ap (λ es. reverse es) (sym (own_is_all more old own faulted heard.own) ∙ d.is) in
         let new_is : h ≡ behind_drops own keys old = ap (λ es. es ++ old) all ∙ drops_reversed own keys old in
         let lawful = subst (λ g. IsLawful g) new_is heard.lawful in
-        let frees = subst (λ g. Frees old g symbol d.tiles d.indexes d.pieces) new_is (frees_of tiles indexes pieces freed (lawful_behind own keys old lawful) (own_events h own w) d) in
+        let frees = subst (λ g. Frees old g symbol d.tiles d.indexes d.pieces) new_is (frees_of here tiles indexes pieces freed (lawful_behind own keys old lawful) (own_events h own w) d) in
         let shape = stands.shapes symbol in
-        let referred : st.has_reference ≡ true = ap (λ g. (state_of g symbol).has_reference) (sym at_place) ∙ freed.referred in
+        let referred : st.has_reference ≡ true = ap (λ g. (state_of g symbol).has_reference) (sym (at_place here)) ∙ freed.referred in
         let counted : (kind : KeyKind) → count_by (drops_kind kind) (own_events h own w) ≡ cond (same_kind kinds.TableData kind) (length d.tiles) 0 + cond (same_kind kinds.TableIndex kind) (length d.indexes) 0 + cond (same_kind kinds.Staged kind) (length d.pieces) 0 =
         λ kind. ap (count_by (drops_kind kind)) d.is ∙ drops_counted kind d.tiles d.indexes d.pieces d.dead_tiles d.dead_indexes d.dead_pieces in
         let tiles_is : tiles ≡ tiles_in (dead_blocks st s) = omega (arith, freed.tiles_are, counted kinds.TableData, tiles_are own symbol old s d.tiles d.indexes d.pieces shape lawful frees) in
@@ -290,7 +291,7 @@ module _ (c : Cutting) (client : Client) (symbol : Name) (reply : Reply) (more o
         let kept = drops_tell_nothing own keys old (kept_behind own old [] refl) in
         let commits : reply.commits ≡ [] = commits_are client (commands.Reclaim symbol) reply more old faulted heard ∙ (ap (refer_places own (length old)) new_is ∙ kept.refers) in
         let reply_now : reply ≡ plain_reply r.events None (freed_alone st s) =
-        reply_is reply r.events None [] (placed ∙ sym stands.events) heard.seen.listed commits heard.seen.left.left ∙ ap (λ o. plain_reply r.events None o) outcome_is in
+        reply_is reply r.events None [] (here ∙ sym stands.events) heard.seen.listed commits heard.seen.left.left ∙ ap (λ o. plain_reply r.events None o) outcome_is in
         let step : Reply × Alone = (plain_reply r.events None (freed_alone st s), record r { events = r.events + drops_alone st s; shape = set_of symbol (swept st s) r.shape }) in
         let reclaims : reclaiming symbol r ≡ step =
         ap (λ (x : State). cond x.has_reference (plain_reply r.events None (freed_alone x s), record r { events = r.events + drops_alone x s; shape = set_of symbol (swept x s) r.shape }) (refusal r.events None refusals.NoSuchSymbol, r)) (stands.states symbol)
@@ -306,7 +307,8 @@ module _ (c : Cutting) (client : Client) (symbol : Name) (reply : Reply) (more o
         let undone : is_done reply ≡ false = ap (λ o. not (is_refused o) && not (is_empty_burial reply o)) is in
         let nothing : more ≡ [] = adds_none client command reply more old faulted heard
         (subst (λ b. IsOwn h client.session w command reply b (own_events h own w)) undone (own_are client command reply more old faulted heard)) in
-        let unreferred : (r.library.state symbol).has_reference ≡ false = ap (λ (x : State). x.has_reference) (stands.states symbol) ∙ (ap (λ g. (state_of g symbol).has_reference) (sym at_place) ∙ none) in
+        let here : reply.place ≡ length old = omega (arith, heard.seen.after, heard.seen.before, ap (λ (es : List Event). length (es ++ old)) nothing) in
+        let unreferred : (r.library.state symbol).has_reference ≡ false = ap (λ (x : State). x.has_reference) (stands.states symbol) ∙ (ap (λ g. (state_of g symbol).has_reference) (sym (at_place here)) ∙ none) in
         let reclaims : reclaiming symbol r ≡ (refusal r.events None refusals.NoSuchSymbol, r) =
         ap (λ b. cond b (plain_reply r.events None (freed_alone (r.library.state symbol) s), record r { events = r.events + drops_alone (r.library.state symbol) s; shape = set_of symbol (swept (r.library.state symbol) s) r.shape })
         (refusal r.events None refusals.NoSuchSymbol, r)) unreferred in
@@ -315,7 +317,7 @@ module _ (c : Cutting) (client : Client) (symbol : Name) (reply : Reply) (more o
         (subst (λ es. StepsTo c (Some (next_turn (refusal r.events None refusals.NoSuchSymbol, r))) reply (es ++ old)) (sym nothing)
         (listed_step c client command reply r old faulted (outcomes.Refused refusals.NoSuchSymbol) stands still heard.seen.listed heard.seen.left.left is))
 
-  -- a legal reclaim whose place is where the window begins is a step of the run alone
+  -- a legal reclaim whose place is where the window begins, if it is done, is a step of the run alone
   pub reclaim_step : IsStep c client.session (commands.Reclaim symbol) reply old h
   reclaim_step r stands =
       elim (reclaim_outcome h client symbol reply (added more old faulted) reply.outcome heard.cut heard.seen.outcome) [

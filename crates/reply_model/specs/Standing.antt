@@ -32,7 +32,7 @@ use Rattle.expr_clause.specs.declared.command.Command.TheVariants as commands
 use Rattle.reply_model.specs.declared.reply.Reply.{Reply}
 use Rattle.reply_model.specs.Answering.{Session}
 use Rattle.reply_model.specs.Answers.{answer}
-use Rattle.reply_model.specs.Windows.{Client, symbol_of, is_cut}
+use Rattle.reply_model.specs.Windows.{Client, symbol_of, is_refused, is_cut}
 use Rattle.reply_model.specs.Legal.{IsLegalReply}
 use Rattle.reply_model.specs.Rows.{keys_of}
 use Rattle.reply_model.specs.Blocks.{Cutting, Block, Part, shared, fresh, parts_of, tiles_across, Shape, tiles_in}
@@ -178,12 +178,12 @@ LegalAloneSteps = (old new : History) (c : Cutting) (client : Client) (command :
     → IsLegalReply new client command reply (record { start = length old; stop = length new; faulted = faulted }) → is_served command ≡ true
     → is_cut reply.outcome ≡ false → LaysOut c client.session command reply old new → IsStep c client.session command reply old new
 
--- so is each legal reclaim whose place is where the window begins: what it drops was dead there
+-- so is each legal reclaim that is refused, or whose place is where the window begins: what it drops was dead there
 abbrev pub LegalReclaimsAlone : Type 0
 LegalReclaimsAlone = (old new : History) (c : Cutting) (client : Client) (symbol : Name) (reply : Reply) (faulted : Bool) → IsLawful new
     → GrowsAlone client.session.client old new
     → IsLegalReply new client (commands.Reclaim symbol) reply (record { start = length old; stop = length new; faulted = faulted })
-    → is_cut reply.outcome ≡ false → reply.place ≡ length old → IsStep c client.session (commands.Reclaim symbol) reply old new
+    → is_cut reply.outcome ≡ false → (is_refused reply.outcome ≡ false → reply.place ≡ length old) → IsStep c client.session (commands.Reclaim symbol) reply old new
 
 -- ---- runs
 

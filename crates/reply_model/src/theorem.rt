@@ -26,7 +26,7 @@ pub fn legal_replies_alone_are_sole()
     ensures { LegalAloneSteps }
 {}
 
-/// So is a legal reclaim whose place is where the window begins: it counts the keys that the fold's blocks, indexes and pieces have
+/// So is a legal reclaim that is refused, or whose place is where the window begins: it counts the keys that the fold's blocks, indexes and pieces have
 /// which no live or held version has, and these keys are then not stored.
 pub fn legal_reclaims_alone_are_sole()
     ensures { LegalReclaimsAlone }
