@@ -5,11 +5,7 @@
 #[cfg(test)]
 mod appends;
 #[cfg(test)]
-mod buckets;
-#[cfg(test)]
 mod burying;
-#[cfg(test)]
-mod elements;
 #[cfg(test)]
 mod libraries;
 #[cfg(test)]

@@ -92,69 +92,6 @@ fn lacks_version<R: Wait, B: Bucket<StoreLaw>>(
     Ok(refused(&reply) == Some((place, Refusal::NoSuchVersion { asked })))
 }
 
-// How many events a store has.
-fn length(store: &PlainBucket<StoreLaw>) -> usize {
-    store.events().len()
-}
-
-#[test]
-fn what_was_written_is_read(rt: HostRuntime) -> Result<(), Fail> {
-    let alloc = rt.alloc();
-    let mut library = library(store(alloc, 1_000)?);
-    assert!(rt; version(&write(&rt, alloc, &mut library, Some(50), false)?) == Some((4, 0, 0)));
-    assert!(rt; read_version(&rt, alloc, &mut library, AsOf::Back(1))? == Some((4, 0, 5)));
-    assert!(rt; length(&library.into_bucket()) == 4);
-    Ok(())
-}
-
-// The library after two writes, at the moments 50 and 60.
-fn written_twice<R: Wait>(rt: &R, alloc: Global) -> Result<Library<PlainBucket<StoreLaw>>, Fail> {
-    let mut library = library(store(alloc, 1_000)?);
-    write(rt, alloc, &mut library, Some(50), false)?;
-    write(rt, alloc, &mut library, Some(60), false)?;
-    Ok(library)
-}
-
-#[test]
-fn a_read_takes_the_version_that_is_asked(rt: HostRuntime) -> Result<(), Fail> {
-    let alloc = rt.alloc();
-    let mut library = written_twice(&rt, alloc)?;
-    assert!(rt; read_version(&rt, alloc, &mut library, AsOf::Back(1))? == Some((8, 1, 5)));
-    assert!(rt; read_version(&rt, alloc, &mut library, AsOf::Back(2))? == Some((8, 0, 5)));
-    assert!(rt; read_version(&rt, alloc, &mut library, AsOf::Moment(55))? == Some((8, 0, 5)));
-    Ok(())
-}
-
-#[test]
-fn a_version_that_is_not_there_is_refused_as_it_was_asked(rt: HostRuntime) -> Result<(), Fail> {
-    let alloc = rt.alloc();
-    let mut library = written_twice(&rt, alloc)?;
-    let (number, moment) = (Asked::Number(7), Asked::Moment(49));
-    assert!(rt; lacks_version(&rt, alloc, &mut library, AsOf::Number(7), number, 8)?);
-    assert!(rt; lacks_version(&rt, alloc, &mut library, AsOf::Moment(49), moment, 8)?);
-    Ok(())
-}
-
-#[test]
-fn the_moment_of_the_session_is_the_stamp_where_none_is_given(rt: HostRuntime) -> Result<(), Fail> {
-    let alloc = rt.alloc();
-    let mut library = library(store(alloc, 1_000)?);
-    write(&rt, alloc, &mut library, None, false)?;
-    assert!(rt; read_version(&rt, alloc, &mut library, AsOf::Moment(70))? == Some((4, 0, 5)));
-    let early = Asked::Moment(69);
-    assert!(rt; lacks_version(&rt, alloc, &mut library, AsOf::Moment(69), early, 4)?);
-    Ok(())
-}
-
-#[test]
-fn a_full_store_refuses_a_write(rt: HostRuntime) -> Result<(), Fail> {
-    let alloc = rt.alloc();
-    let mut library = library(store(alloc, 3)?);
-    let full = write(&rt, alloc, &mut library, Some(50), false)?;
-    assert!(rt; refused(&full) == Some((3, Refusal::Spent { count: 3 })));
-    Ok(())
-}
-
 // A store whose fifth call fails after its effect.
 fn flaky(alloc: Global) -> Result<Flaky<PlainBucket<StoreLaw>>, Fail> {
     let mut fails = Items::new(alloc);
@@ -222,18 +159,6 @@ fn prune<R: Wait, B: Bucket<StoreLaw>>(
     Ok(library.step(rt, alloc, &command, &[]))
 }
 
-// What it answers to a reclaim of S.
-fn reclaim<R: Wait, B: Bucket<StoreLaw>>(
-    rt: &R,
-    alloc: Global,
-    library: &mut Library<B>,
-) -> Result<Reply, Fail> {
-    let command = Command::Reclaim {
-        symbol: symbol(alloc)?,
-    };
-    Ok(library.step(rt, alloc, &command, &[]))
-}
-
 // The place of a delete or a prune, and how many versions it buried.
 fn buried(reply: &Reply) -> Option<(u64, u64)> {
     match &reply.outcome {
@@ -279,29 +204,6 @@ fn buried_versions_are_listed_and_are_not_read(rt: HostRuntime) -> Result<(), Fa
     assert!(rt; buried(&delete(&rt, alloc, &mut library)?) == Some((10, 1)));
     assert!(rt; lacks_version(&rt, alloc, &mut library, AsOf::Back(1), Asked::Back(1), 10)?);
     assert!(rt; buried(&prune(&rt, alloc, &mut library)?) == Some((10, 0)));
-    Ok(())
-}
-
-#[test]
-fn a_reclaim_counts_the_keys_of_buried_versions(rt: HostRuntime) -> Result<(), Fail> {
-    let alloc = rt.alloc();
-    let mut library = library(store(alloc, 1_000)?);
-    write(&rt, alloc, &mut library, Some(50), false)?;
-    write(&rt, alloc, &mut library, Some(60), false)?;
-    assert!(rt; buried(&prune(&rt, alloc, &mut library)?) == Some((10, 1)));
-    let freed = reclaim(&rt, alloc, &mut library)?;
-    assert!(rt; freed.place == 10);
-    assert!(rt;
-        matches!(
-            freed.outcome,
-            Outcome::Freed {
-                tiles: 1,
-                indexes: 1,
-                staged: 0
-            }
-        )
-    );
-    assert!(rt; read_version(&rt, alloc, &mut library, AsOf::Back(1))? == Some((12, 1, 5)));
     Ok(())
 }
 

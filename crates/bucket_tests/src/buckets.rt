@@ -287,8 +287,9 @@ fn looks<R: Wait, B: Bucket<OnceLaw>>(
 #[test]
 fn each_call_of_a_counting_bucket_is_one_below(rt: HostRuntime) -> Result<(), Fail> {
     let alloc = rt.alloc();
-    let mut bucket = Counting::make(plain(alloc, 9)?);
-    assert!(rt; looks(&rt, alloc, &mut bucket)? == (1, 0, 0, 0, true));
+    let mut fresh = Counting::make(plain(alloc, 9)?);
+    assert!(rt; looks(&rt, alloc, &mut fresh)? == (1, 0, 0, 0, true));
+    let mut bucket = Counting::make(PlainBucket::make(alloc, 1, 9)?);
     assert!(rt; each_change(&rt, alloc, &mut bucket)?);
     assert!(rt; looks(&rt, alloc, &mut bucket)? == (1, 1, 4, 2, false));
     assert_eq!(rt; bucket.into_inner().events().len(), 4);
@@ -298,8 +299,9 @@ fn each_call_of_a_counting_bucket_is_one_below(rt: HostRuntime) -> Result<(), Fa
 #[test]
 fn each_call_of_a_flaky_bucket_without_a_failure_is_one_below(rt: HostRuntime) -> Result<(), Fail> {
     let alloc = rt.alloc();
-    let mut bucket = Flaky::make(plain(alloc, 9)?, Items::new(alloc));
-    assert!(rt; looks(&rt, alloc, &mut bucket)? == (1, 0, 0, 0, true));
+    let mut fresh = Flaky::make(plain(alloc, 9)?, Items::new(alloc));
+    assert!(rt; looks(&rt, alloc, &mut fresh)? == (1, 0, 0, 0, true));
+    let mut bucket = Flaky::make(PlainBucket::make(alloc, 1, 9)?, Items::new(alloc));
     assert!(rt; each_change(&rt, alloc, &mut bucket)?);
     assert!(rt; looks(&rt, alloc, &mut bucket)? == (1, 1, 4, 2, false));
     Ok(())
@@ -308,8 +310,9 @@ fn each_call_of_a_flaky_bucket_without_a_failure_is_one_below(rt: HostRuntime) -
 #[test]
 fn each_call_of_a_gated_bucket_is_one_below(rt: HostRuntime) -> Result<(), Fail> {
     let alloc = rt.alloc();
-    let mut bucket = Gated::make(plain(alloc, 9)?, &OpenGate);
-    assert!(rt; looks(&rt, alloc, &mut bucket)? == (1, 0, 0, 0, true));
+    let mut fresh = Gated::make(plain(alloc, 9)?, &OpenGate);
+    assert!(rt; looks(&rt, alloc, &mut fresh)? == (1, 0, 0, 0, true));
+    let mut bucket = Gated::make(PlainBucket::make(alloc, 1, 9)?, &OpenGate);
     assert!(rt; each_change(&rt, alloc, &mut bucket)?);
     assert!(rt; looks(&rt, alloc, &mut bucket)? == (1, 1, 4, 2, false));
     Ok(())
