@@ -1,5 +1,6 @@
 -- A reclaim: its keys may be dropped, and its reply is legal for each session of its client.
-use Rattle.std.proofs.Common.{ℕ, Bool, List, [], ◌∷◌, map, sym, ◌∙◌, subst, inl, inr, Ok, Err}
+use Rattle.std.proofs.Common.{◌≡◌, ℕ, Bool, List, [], ◌∷◌, ◌++◌, map, length, refl, ap, arith, length-append, sym, ◌∙◌, subst, inl, inr, Ok, Err}
+use Rattle.std.proofs.lemmas.List.{append_cancel_right}
 use Rattle.std.specs.List.{AllByRecursion}
 use Rattle.std.specs.List.Sorted.{IsStrictlySortedBy}
 use Rattle.frame_core.specs.declared.refusal.Refused.{Refused}
@@ -7,9 +8,12 @@ use Rattle.key_kind.specs.declared.key.Key.{Key}
 use Rattle.key_kind.specs.Keys.{key_cmp}
 use Rattle.key_kind.specs.Names.{Name}
 use Rattle.bucket_core.specs.Calls.{IsSteady, drop_event}
-use Rattle.bucket_core.specs.History.{History}
+use Rattle.bucket_core.specs.declared.event.Event.{Event}
+use Rattle.bucket_core.specs.History.{History, author, AllByOthers}
 use Rattle.bucket_core.specs.Laws.{Looks}
 use Rattle.store_model.specs.Law.{IsClaimed, IsLawful}
+use Rattle.reply_model.specs.Standing.{GrowsAlone}
+use Rattle.reply_model.proofs.AloneRuns.{grows_parts}
 use Rattle.version_chain.specs.Stops.{StopsAt, HasCause}
 use Rattle.version_chain.specs.Traces.{Went}
 use Rattle.version_chain.proofs.SteadyLemmas.{went_steady, cause_sooner}
@@ -81,3 +85,27 @@ whole_went client sole old mid new freed looks w = went_then client sole old mid
 
 pub drops_these : (client : ℕ) (sole : Bool) (old new : History) (freed : List Key) → Went client sole old new (map (drop_event client) freed) → DropsThese client old new freed
 drops_these client sole old new freed w = record { more = w.more; is = w.is; own = w.own_are ∙ drops_are client freed }
+
+-- ---- where nobody else makes events
+
+-- what others added, and one client alone, is nothing
+none_added : (client : ℕ) (others : History) → AllByRecursion (λ e. author e ≡ client) others → AllByOthers client others → others ≡ []
+none_added client [] own by = refl
+none_added client (e ∷ others) own by = absurd (by.0 own.0)
+
+-- so the dead keys were found where the call began
+pub found_alone : (client : ℕ) (sole : Bool) (old mid new : History) (symbol : Name) (dead : Dead) (es : List Event) → Looks IsClaimed client sole old mid → FoundDead old mid symbol dead → Went client sole mid new es
+    → GrowsAlone client old new → dead.place ≡ length old
+found_alone client sole old mid new symbol dead es looks found went grows =
+    let part = (grows_parts client old mid new looks.others went.more looks.is went.is grows).0 in
+    let own = subst (λ xs. AllByRecursion (λ e. author e ≡ client) xs) (append_cancel_right part.more looks.others old (sym part.is ∙ looks.is)) part.own in
+    let none : looks.others ≡ [] = none_added client looks.others own looks.by_others in
+    omega (
+      arith,
+      found.place,
+      found.from,
+      ap (λ (h : History). length h) found.split,
+      length-append found.later found.before,
+      ap (λ (h : History). length h) looks.is,
+      ap (λ (xs : History). length (xs ++ old)) none,
+    )

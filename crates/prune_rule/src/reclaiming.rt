@@ -1,7 +1,8 @@
 //! Keys of a symbol that nobody needs are dropped.
 
-ghost use Rattle.std.specs.Prelude.{◌≤◌, IfOk};
+ghost use Rattle.std.specs.Prelude.{◌≡◌, ◌≤◌, length, IfOk};
 ghost use Rattle.bucket_core.specs.Calls.{IsSteady};
+ghost use Rattle.reply_model.specs.Standing.{GrowsAlone};
 ghost use Rattle.version_chain.specs.Traces.{GoesOn};
 ghost use Rattle.prune_rule.specs.Reclaims.{DropsThese, IsLegalReclaim};
 
@@ -43,6 +44,8 @@ pub fn reclaim<R: Wait, B: Bucket<StoreLaw>>(
     ensures steady { IsSteady B.number B.limit B.faults B.sole bucket.old bucket.new }
     ensures grown { GoesOn (B.number bucket.old) (B.sole bucket.old) (B.seen bucket.old) (B.seen bucket.new) }
     ensures dropped { IfOk result (λ freed. DropsThese (B.number bucket.old) (B.seen bucket.old) (B.seen bucket.new) freed.keys) }
+    // Where nobody else makes events, it looked at the reference where it began.
+    ensures looked { IfOk result (λ freed. GrowsAlone (B.number bucket.old) (B.seen bucket.old) (B.seen bucket.new) → freed.place ≡ length (B.seen bucket.old)) }
     ensures legal { IsLegalReclaim (B.limit bucket.old) (B.number bucket.old) tries symbol.now (B.faults bucket.old) (B.faults bucket.new) (B.seen bucket.old) (B.seen bucket.new) result }
 {
     let dead = find_dead(rt, alloc, bucket, symbol, tries)?;

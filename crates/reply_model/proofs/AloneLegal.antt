@@ -8,6 +8,7 @@ use Rattle.frame_core.specs.declared.refusal.Asked.TheVariants as asks
 use Rattle.frame_core.specs.declared.refusal.Refusal.{Refusal}
 use Rattle.frame_core.specs.declared.refusal.Refusal.TheVariants as refusals
 use Rattle.key_kind.specs.Names.{Name}
+use Rattle.key_kind.specs.declared.key.Key.{Key}
 use Rattle.bucket_core.specs.declared.event.Change.{Change}
 use Rattle.bucket_core.specs.declared.event.Change.TheVariants as changes
 use Rattle.bucket_core.specs.declared.event.Event.{Event}
@@ -37,7 +38,8 @@ use Rattle.reply_model.proofs.Places.{history_at_end}
 use Rattle.reply_model.proofs.Covering.{event_at_end, some_is}
 use Rattle.reply_model.proofs.Isolated.{some_answer}
 use Rattle.reply_model.proofs.TryCounts.{PutsKeys}
-use Rattle.reply_model.proofs.AloneShapes.{Makes, shapes_behind, cut_behind}
+use Rattle.reply_model.proofs.Makings.{Makes}
+use Rattle.reply_model.proofs.AloneShapes.{shapes_behind, cut_behind}
 use Rattle.reply_model.proofs.AloneWindows.{Commits}
 use Rattle.reply_model.proofs.AloneSteps.{TellsSame, is_told, run_tells, told_step, commit_step}
 
@@ -144,16 +146,16 @@ buried_first (Ok a) outcome first rest o e = of_removed o.0 (sym o.1 ∙ ap (λ 
 -- ---- a reply to a command of one symbol
 
 -- a commit has the events that the run gives it, and its puts are the blocks that the run makes
-pub record IsCounted (c : Cutting) (r : Alone) (symbol : Name) (makes : Bool) (old new behind : History) (puts : PutsKeys symbol makes behind) (first : Change) (rest : List Change) : Type 0 where
+pub record IsCounted (c : Cutting) (r : Alone) (symbol : Name) (makes : Bool) (old new behind : History) (entry : Key) (puts : PutsKeys symbol makes entry behind) (first : Change) (rest : List Change) : Type 0 where
   pub events : suc (length (behind ++ old)) ≡ r.events + events_of c (r.library.state symbol) (r.shape symbol) (first ∷ rest)
-  pub blocks : Makes c (r.library.state symbol) (r.shape symbol) makes (first_of (links new symbol)) puts.tiles first rest
+  pub blocks : Makes c (r.library.state symbol) (r.shape symbol) makes (links old symbol) (first_of (links new symbol)) puts.tiles first rest
 
 -- a commit's events are the puts of the blocks that it makes, its index, its element and its Refer
-pub made_events : (c : Cutting) (r : Alone) (symbol : Name) (makes : Bool) (old new behind : History) (puts : PutsKeys symbol makes behind) (first : Change) (rest : List Change) → StandsAs c old r
-    → Makes c (r.library.state symbol) (r.shape symbol) makes (first_of (links new symbol)) puts.tiles first rest → IsCounted c r symbol makes old new behind puts first rest
-made_events c r symbol makes old new behind puts first rest stands made = record { events = by_blocks makes puts made; blocks = made }
+pub made_events : (c : Cutting) (r : Alone) (symbol : Name) (makes : Bool) (old new behind : History) (entry : Key) (puts : PutsKeys symbol makes entry behind) (first : Change) (rest : List Change) → StandsAs c old r
+    → Makes c (r.library.state symbol) (r.shape symbol) makes (links old symbol) (first_of (links new symbol)) puts.tiles first rest → IsCounted c r symbol makes old new behind entry puts first rest
+made_events c r symbol makes old new behind entry puts first rest stands made = record { events = by_blocks makes puts made; blocks = made }
   where
-    by_blocks : (m : Bool) (p : PutsKeys symbol m behind) → Makes c (r.library.state symbol) (r.shape symbol) m (first_of (links new symbol)) p.tiles first rest
+    by_blocks : (m : Bool) (p : PutsKeys symbol m entry behind) → Makes c (r.library.state symbol) (r.shape symbol) m (links old symbol) (first_of (links new symbol)) p.tiles first rest
         → suc (length (behind ++ old)) ≡ r.events + events_of c (r.library.state symbol) (r.shape symbol) (first ∷ rest)
     by_blocks true p m = omega (arith, stands.events, length-append behind old, p.size, p.with_index refl, m.counted, ap (λ o. puts_of_version o + 2) m.is)
     by_blocks false p m = omega (arith, stands.events, length-append behind old, p.size, (p.without refl).0, (p.without refl).1, ap (λ o. puts_of_version o + 2) m.is)
@@ -188,7 +190,7 @@ list_of e = []
 pub committing_reply : (c : Cutting) (client : Client) (command : Command) (symbol : Name) (makes : Bool) (r : Alone) (reply : Reply) (old new : History) → StandsAs c old r → symbol_of command ≡ Some symbol
     → IsLawful new → Plain client.session command reply old new → (k : Commits client.session.client symbol makes old new) → IsAnswer new client command reply
     → ((list : Library) (q : ℕ) (first : Change) (rest : List Change) → answer client.session list (library_of (k.behind ++ old)) q command ≡ Some (record { outcome = reply.outcome; marks = first ∷ rest })
-    → reply.place ≡ suc (length (k.behind ++ old)) → IsCounted c r symbol makes old new k.behind k.puts first rest)
+    → reply.place ≡ suc (length (k.behind ++ old)) → IsCounted c r symbol makes old new k.behind k.entry k.puts first rest)
     → StepsTo c (step_alone c client.session command r) reply new
 committing_reply c client command symbol makes r reply old new stands named lawful plain k is counted =
     let own : ℕ = client.session.client in
@@ -214,7 +216,7 @@ committing_reply c client command symbol makes r reply old new stands named lawf
           let new_is : new ≡ events.Refer own symbol k.was k.entry (made.0 ∷ made.1) ∷ before = k.is ∙ ap (λ list. events.Refer own symbol k.was k.entry list ∷ before) list_is in
           let count = counted (library_at new (listed_at reply)) (reply.place - 1) made.0 made.1 answered_is here in
           let lawful_is = subst (λ h. IsLawful h) new_is lawful in
-          let makes_is = subst (λ h. Makes c (r.library.state symbol) (r.shape symbol) makes (first_of (links h symbol)) k.puts.tiles made.0 made.1) new_is count.blocks in
+          let makes_is = subst (λ h. Makes c (r.library.state symbol) (r.shape symbol) makes (links old symbol) (first_of (links h symbol)) k.puts.tiles made.0 made.1) new_is count.blocks in
           subst (λ h. StepsTo c (step_alone c client.session command r) reply h) (sym new_is)
           (commit_step c client.session command symbol r reply old before k.was k.entry made.0 made.1 (library_at new (listed_at reply)) (reply.place - 1) plain.told named stands k.kept
           here plain.unlisted made.6 plain.unleft answered_is count.events

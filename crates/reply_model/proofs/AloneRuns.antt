@@ -11,6 +11,7 @@ use Rattle.reply_model.specs.declared.reply.Reply.{Reply}
 use Rattle.reply_model.specs.Answering.{Session}
 use Rattle.reply_model.specs.Blocks.{Cutting}
 use Rattle.reply_model.specs.Sole.{Alone, SoleRun, beginning, step_alone, alone, session_of}
+use Rattle.reply_model.proofs.KeyedShapes.{no_keys}
 use Rattle.reply_model.specs.Standing.{StandsAs, StepsTo, IsStep, GrowsAlone, RunsTo, RunsAlone, RunsGrow, RunsAreSole, BlocksAreSole}
 
 -- ---- one command more
@@ -115,7 +116,7 @@ begins c = record {
   symbols = refl;
   states = λ symbol. refl;
   snapshots = refl;
-  shapes = λ symbol. record { tiles = refl; indexes = refl; elements = refl; references = refl; pieces = refl; made = tt; versions = tt };
+  shapes = λ symbol. record { tiles = refl; indexes = refl; elements = refl; references = refl; pieces = refl; made = tt; versions = tt; keys = no_keys symbol };
   cut = λ symbol. tt;
 }
 

@@ -8,6 +8,7 @@ use Rattle.frame_core.specs.Texts.{Text}
 use Rattle.frame_core.specs.declared.refusal.Refusal.{Refusal}
 use Rattle.frame_core.specs.declared.refusal.Refusal.TheVariants as refusals
 use Rattle.key_kind.specs.Names.{Name}
+use Rattle.key_kind.specs.declared.key.Key.{Key}
 use Rattle.bucket_core.specs.declared.event.Change.{Change}
 use Rattle.bucket_core.specs.History.{History, history_at}
 use Rattle.store_model.specs.Library.{State, state_of, is_buried, base_of, first_of}
@@ -28,54 +29,27 @@ use Rattle.reply_model.specs.declared.outcome.Outcome.TheVariants as outcomes
 use Rattle.reply_model.specs.declared.reply.Reply.{Reply}
 use Rattle.reply_model.specs.Answering.{Answer}
 use Rattle.reply_model.specs.Answers.{answer, symbol_row}
-use Rattle.reply_model.specs.Windows.{Window, Client, library_at, refer_places, symbol_of, is_refused, is_cut, unnames, own_events, AreCommits}
+use Rattle.reply_model.specs.Windows.{Window, Client, library_at, symbol_of, is_refused, is_cut, unnames, own_events}
 use Rattle.reply_model.specs.Tries.{IsTurn}
-use Rattle.reply_model.specs.OwnEvents.{AnyMarks, IsOwn, is_done}
+use Rattle.reply_model.specs.OwnEvents.{AnyMarks, is_done}
 use Rattle.reply_model.specs.Rows.{keys_of, keys_outcome, IsAnswer, IsSymbolRow, AreSymbolRows, number_of}
 use Rattle.reply_model.specs.Legal.{IsLegalRefusal, IsLegalOutcome, IsLegalSeen}
 use Rattle.reply_model.specs.Blocks.{Cutting, tiles_in, blocks_made}
 use Rattle.reply_model.specs.Causes.{IsVersionGone}
-use Rattle.reply_model.specs.Sole.{Alone, keys_alone, plain_reply, next_turn, step_alone}
+use Rattle.reply_model.specs.Sole.{Alone, keys_alone, step_alone}
 use Rattle.reply_model.specs.Standing.{StandsAs, StepsTo, IsStep, is_served, LaysOut, LegalAloneSteps}
 use Rattle.reply_model.proofs.Places.{history_at_end}
-use Rattle.reply_model.proofs.Isolated.{some_answer, Met, Gone, plain_outcome, uncut_is_no_fault, own_events_are, read_is_live}
+use Rattle.reply_model.proofs.Isolated.{some_answer, Gone, plain_outcome, read_is_live}
 use Rattle.reply_model.proofs.Quiet.{is_plain}
-use Rattle.reply_model.proofs.AloneWindows.{AreBy, added, own_at, own_is_all, none_added, none_behind, IsKept, Commits, turn_commits}
-use Rattle.reply_model.proofs.AloneSteps.{TellsSame, is_told, answer_told, run_tells, reply_is, rows_same}
+use Rattle.reply_model.proofs.AloneWindows.{added, none_behind, IsKept, Commits, turn_commits}
+use Rattle.reply_model.proofs.AloneSteps.{TellsSame, is_told, answer_told, run_tells, rows_same}
+use Rattle.reply_model.proofs.AloneHeard.{Heard, commits_are, own_are, adds_none, not_met, listed_step}
 use Rattle.reply_model.proofs.TryCounts.{PutsKeys}
-use Rattle.reply_model.proofs.AloneShapes.{MakesVersion, Makes}
+use Rattle.reply_model.proofs.Makings.{MakesVersion, Makes}
 use Rattle.reply_model.proofs.BlockCounts.{laid_makes}
 use Rattle.reply_model.proofs.AloneLegal.{write_first, append_first, update_first, delete_range_first, delete_buries, prune_buries, buried_first, made_events, Plain, looking, committing_reply}
 
 -- ---- what is known of a legal reply
-
--- a legal reply for what was added, which no failure cut
-record Heard (client : Client) (command : Command) (reply : Reply) (more old : History) (faulted : Bool) : Type 0 where
-  lawful : IsLawful (more ++ old)
-  own : AreBy client.session.client more
-  seen : IsLegalSeen (more ++ old) client command reply (added more old faulted)
-  cut : is_cut reply.outcome ≡ false
-
-commits_are : (client : Client) (command : Command) (reply : Reply) (more old : History) (faulted : Bool) → Heard client command reply more old faulted
-    → reply.commits ≡ refer_places client.session.client (length old) (more ++ old)
-commits_are client command reply more old faulted heard =
-    subst (λ b. AreCommits b reply.commits (refer_places client.session.client (length old) (history_at (more ++ old) (length (more ++ old))))) (uncut_is_no_fault reply.outcome heard.cut) heard.seen.own.commits
-    ∙ ap (refer_places client.session.client (length old)) (history_at_end (more ++ old))
-
-own_are : (client : Client) (command : Command) (reply : Reply) (more old : History) (faulted : Bool) → Heard client command reply more old faulted
-    → IsOwn (more ++ old) client.session (added more old faulted) command reply (is_done reply) (own_events (more ++ old) client.session.client (added more old faulted))
-own_are client command reply more old faulted heard = own_events_are (more ++ old) client.session command reply (added more old faulted) heard.seen.own heard.cut
-
--- a command without own events adds none
-adds_none : (client : Client) (command : Command) (reply : Reply) (more old : History) (faulted : Bool) → Heard client command reply more old faulted
-    → own_events (more ++ old) client.session.client (added more old faulted) ≡ [] → more ≡ []
-adds_none client command reply more old faulted heard none = none_added more (sym (own_is_all more old client.session.client faulted heard.own) ∙ none)
-
--- no Refer of others is met
-not_met : (client : Client) (command : Command) (reply : Reply) (more old : History) (faulted : Bool) → Heard client command reply more old faulted
-    → Met (more ++ old) client command reply (added more old faulted) → ⊥
-not_met client command reply more old faulted heard m =
-    m.3.others (own_at more old client.session.client reply.place m.3.event heard.own m.3.inside heard.seen.before m.3.at)
 
 -- a reply of a command that has an answer is its answer
 answered_or_gone : (client : Client) (command : Command) (reply : Reply) (more old : History) (faulted : Bool) → is_plain command ≡ true → Heard client command reply more old faulted
@@ -102,9 +76,9 @@ plain_of client command reply more old faulted heard told unlisted unleft = reco
 -- how a commit with this answer counts
 abbrev Counts : Cutting → Client → Command → Name → Bool → Reply → History → History → Alone → Type 0
 Counts c client command symbol makes reply more old r =
-    (behind : History) (kept : IsKept client.session.client old (behind ++ old)) (puts : PutsKeys symbol makes behind) (list : Library) (q : ℕ) (first : Change) (rest : List Change)
+    (behind : History) (entry : Key) (kept : IsKept client.session.client old (behind ++ old)) (puts : PutsKeys symbol makes entry behind) (list : Library) (q : ℕ) (first : Change) (rest : List Change)
     → answer client.session list (library_of (behind ++ old)) q command ≡ Some (record { outcome = reply.outcome; marks = first ∷ rest })
-    → reply.place ≡ suc (length (behind ++ old)) → Makes c (r.library.state symbol) (r.shape symbol) makes (first_of (links (more ++ old) symbol)) puts.tiles first rest
+    → reply.place ≡ suc (length (behind ++ old)) → Makes c (r.library.state symbol) (r.shape symbol) makes (links old symbol) (first_of (links (more ++ old) symbol)) puts.tiles first rest
 
 -- a command that commits, or had nothing to do
 turn_step : (c : Cutting) (client : Client) (command : Command) (symbol : Name) (makes : Bool) (reply : Reply) (more old : History) (r : Alone) → StandsAs c old r → symbol_of command ≡ Some symbol
@@ -112,7 +86,7 @@ turn_step : (c : Cutting) (client : Client) (command : Command) (symbol : Name) 
     → MatchBool done (Commits client.session.client symbol makes old (more ++ old)) (more ≡ []) → StepsTo c (step_alone c client.session command r) reply (more ++ old)
 turn_step c client command symbol makes reply more old r stands named lawful plain is true counts k =
     committing_reply c client command symbol makes r reply old (more ++ old) stands named lawful plain k is
-    (λ list q first rest answered here. made_events c r symbol makes old (more ++ old) k.behind k.puts first rest stands (counts k.behind k.kept k.puts list q first rest answered here))
+    (λ list q first rest answered here. made_events c r symbol makes old (more ++ old) k.behind k.entry k.puts first rest stands (counts k.behind k.entry k.kept k.puts list q first rest answered here))
 turn_step c client command symbol makes reply more old r stands named lawful plain is false counts none =
     subst (λ es. StepsTo c (step_alone c client.session command r) reply (es ++ old)) (sym none)
     (looking c client command r reply old stands (subst (λ es. Plain client.session command reply old (es ++ old)) none plain) (none_behind client.session.client (length old) old (omega arith))
@@ -123,12 +97,12 @@ version_counts : (c : Cutting) (client : Client) (command : Command) (symbol : N
     → LaysOut c client.session command reply old (more ++ old)
     → ((list l : Library) (q : ℕ) (first : Change) (rest : List Change) → answer client.session list l q command ≡ Some (record { outcome = reply.outcome; marks = first ∷ rest }) → is_version first ≡ true)
     → Counts c client command symbol true reply more old r
-version_counts c client command symbol reply more old r stands told named laid version behind kept puts list q first rest answered here =
+version_counts c client command symbol reply more old r stands told named laid version behind entry kept puts list q first rest answered here =
     let same : TellsSame (library_of old) (library_of (behind ++ old)) = record { symbols = sym kept.symbols; states = λ x. sym (kept.states x); snapshots = sym kept.snapshots } in
     let answered_before = answer_told client.session (library_of old) list (library_of old) (library_of (behind ++ old)) (length old) q command told same ∙ answered in
     let makes = version list (library_of (behind ++ old)) q first rest answered in
     let is_laid = laid stands.cut symbol first rest named answered_before makes in
-    subst (λ (st : State). MakesVersion c st (r.shape symbol) (first_of (links (more ++ old) symbol)) puts.tiles first rest) (sym (stands.states symbol))
+    subst (λ (st : State). MakesVersion c st (r.shape symbol) (links old symbol) (first_of (links (more ++ old) symbol)) puts.tiles first rest) (sym (stands.states symbol))
     (laid_makes c (r.shape symbol) symbol puts.tiles reply.place first rest old (more ++ old) makes (stands.shapes symbol) stands.cut is_laid
     (omega (arith, here, is_laid.tiles, length-append behind old, puts.size, puts.with_index refl)))
 
@@ -188,9 +162,9 @@ delete_range_step c client symbol range at prune reply more old faulted heard la
     ]
 
 -- a burial makes no blocks
-burial_makes : (c : Cutting) (r : Alone) (symbol : Name) (newest : Option Linked) (tiles : ℕ) (first : Change) (rest : List Change) → ((numbers : List ℕ) × (first ≡ changes.Removed numbers))
-    → Makes c (r.library.state symbol) (r.shape symbol) false newest tiles first rest
-burial_makes c r symbol newest tiles first rest b = record { is = ap (λ x. blocks_made c (r.library.state symbol) (r.shape symbol) x) b.1; mark = ap is_version b.1 }
+burial_makes : (c : Cutting) (r : Alone) (symbol : Name) (before : List Linked) (newest : Option Linked) (tiles : ℕ) (first : Change) (rest : List Change) → ((numbers : List ℕ) × (first ≡ changes.Removed numbers))
+    → Makes c (r.library.state symbol) (r.shape symbol) false before newest tiles first rest
+burial_makes c r symbol before newest tiles first rest b = record { is = ap (λ x. blocks_made c (r.library.state symbol) (r.shape symbol) x) b.1; mark = ap is_version b.1 }
 
 delete_step : (c : Cutting) (client : Client) (symbol : Name) (versions : Option (List ℕ)) (reply : Reply) (more old : History) (faulted : Bool)
     → Heard client (commands.Delete symbol versions) reply more old faulted → IsStep c client.session (commands.Delete symbol versions) reply old (more ++ old)
@@ -199,7 +173,7 @@ delete_step c client symbol versions reply more old faulted heard r stands =
     elim (answered_or_gone client command reply more old faulted refl heard) [
       | inl gone ↦ absurd gone
       | inr is ↦ turn_step c client command symbol false reply more old r stands refl heard.lawful (plain_of client command reply more old faulted heard refl heard.seen.listed heard.seen.left.left)
-          is (is_done reply) (λ behind kept puts list q first rest answered here. burial_makes c r symbol (first_of (links (more ++ old) symbol)) puts.tiles first rest
+          is (is_done reply) (λ behind entry kept puts list q first rest answered here. burial_makes c r symbol (links old symbol) (first_of (links (more ++ old) symbol)) puts.tiles first rest
           (buried_first (delete_answer ((library_of (behind ++ old)).state symbol) versions) reply.outcome first rest (delete_buries ((library_of (behind ++ old)).state symbol) versions) answered))
           (turn_commits more old client.session symbol false (is_done reply) faulted heard.own (own_are client command reply more old faulted heard))
     ]
@@ -211,7 +185,7 @@ prune_step c client symbol reply more old faulted heard r stands =
     elim (answered_or_gone client command reply more old faulted refl heard) [
       | inl gone ↦ absurd gone
       | inr is ↦ turn_step c client command symbol false reply more old r stands refl heard.lawful (plain_of client command reply more old faulted heard refl heard.seen.listed heard.seen.left.left)
-          is (is_done reply) (λ behind kept puts list q first rest answered here. burial_makes c r symbol (first_of (links (more ++ old) symbol)) puts.tiles first rest
+          is (is_done reply) (λ behind entry kept puts list q first rest answered here. burial_makes c r symbol (links old symbol) (first_of (links (more ++ old) symbol)) puts.tiles first rest
           (buried_first (prune_answer ((library_of (behind ++ old)).state symbol)) reply.outcome first rest (prune_buries ((library_of (behind ++ old)).state symbol)) answered))
           (turn_commits more old client.session symbol false (is_done reply) faulted heard.own (own_are client command reply more old faulted heard))
     ]
@@ -262,17 +236,6 @@ versions_step c client symbol reply old faulted heard r stands =
     ]
 
 -- ---- the lists of the library
-
--- a reply to a list has its outcome, at the place where the window begins and ends
-listed_step : (c : Cutting) (client : Client) (command : Command) (reply : Reply) (r : Alone) (old : History) (faulted : Bool) (outcome : Outcome) → StandsAs c old r → Heard client command reply [] old faulted
-    → reply.listed ≡ None → reply.left ≡ [] → reply.outcome ≡ outcome → StepsTo c (Some (next_turn (plain_reply r.events None outcome, r))) reply old
-listed_step c client command reply r old faulted outcome stands heard unlisted unleft is =
-    let here : reply.place ≡ length old = omega (arith, heard.seen.after, heard.seen.before) in (
-      reply_is reply r.events None [] (here ∙ sym stands.events) unlisted
-          (commits_are client command reply [] old faulted heard ∙ none_behind client.session.client (length old) old (omega arith)) unleft
-          ∙ ap (λ o. plain_reply r.events None o) is,
-      record { events = stands.events; symbols = stands.symbols; states = stands.states; snapshots = stands.snapshots; shapes = stands.shapes; cut = stands.cut },
-    )
 
 no_symbol : (symbol : Name) → None ≡ Some symbol → ⊥
 no_symbol symbol e = cc

@@ -1,6 +1,6 @@
 -- The shapes of a run behind a commit count the keys that are then stored.
-use Rattle.std.proofs.Common.{◌≡◌, ℕ, suc, ◌+◌, ◌≤◌, ◌<◌, Bool, true, false, List, [], ◌∷◌, ◌++◌, map, length, Option, Some, None, refl, sym, ◌∙◌, ap, subst, inl, inr, arith, cond, fold}
-use Rattle.std.specs.Prelude.{MatchBool, ◌&&◌, not}
+use Rattle.std.proofs.Common.{◌≡◌, ℕ, suc, ◌+◌, ◌≤◌, Bool, true, false, List, [], ◌∷◌, ◌++◌, length, Option, Some, refl, sym, ◌∙◌, ap, subst, inl, inr, arith, cond, fold}
+use Rattle.std.specs.Prelude.{◌&&◌, not, is_some}
 use Rattle.std.proofs.lemmas.Bool.{true≢false, or_parts}
 use Rattle.std.specs.List.{list_any, AllByRecursion, AllZip}
 use Rattle.std.proofs.lemmas.List.Sums.{sum_by-append}
@@ -11,72 +11,27 @@ use Rattle.key_kind.specs.declared.key.KeyKind.TheVariants as kinds
 use Rattle.key_kind.specs.Keys.{is_put, same_kind}
 use Rattle.key_kind.proofs.KeyTests.{same_name_is, same_name_self}
 use Rattle.bucket_core.specs.declared.event.Change.{Change}
-use Rattle.bucket_core.specs.declared.event.Change.TheVariants as changes
 use Rattle.bucket_core.specs.declared.event.Event.TheVariants as events
-use Rattle.bucket_core.specs.History.{History}
-use Rattle.store_model.specs.Library.{State, state_of, first_of, number_after, next_number, after_change, after_changes}
+use Rattle.bucket_core.specs.History.{History, stored, body_put}
+use Rattle.store_model.specs.Library.{State, Version, state_of, first_of, number_after, next_number, after_change, after_changes}
 use Rattle.store_model.specs.declared.chain.LinkRow.{LinkRow}
 use Rattle.store_model.specs.Links.{Linked, links, links_of, links_in, links_at}
-use Rattle.store_model.specs.Commits.{is_version, IsCommit, making, marking, marks_of, MayRefer}
+use Rattle.store_model.specs.Commits.{FitsLink, is_version, IsCommit, making, marking, marks_of, MayRefer}
 use Rattle.store_model.proofs.Linking.{MakesNone, marks_make_none, refer_makes}
 use Rattle.store_model.proofs.Referring.{linked_row}
 use Rattle.store_model.specs.Law.{IsLawful}
-use Rattle.store_model.proofs.Lists.{all_weaker}
-use Rattle.store_model.proofs.Lawful.{lawful_is_intact}
+use Rattle.store_model.proofs.Lawful.{lawful_is_intact, beginning_lawful}
 use Rattle.reply_model.specs.Rows.{keys_of}
-use Rattle.reply_model.specs.Blocks.{Cutting, Block, Shape, tiles_in, made_for, blocks_made, with_version, shape_after}
+use Rattle.reply_model.specs.Blocks.{Cutting, Block, made_for, blocks_made, with_version, shape_after}
+use Rattle.reply_model.specs.Keyed.{HasKeys}
 use Rattle.reply_model.specs.Sole.{Alone, committing}
 use Rattle.reply_model.specs.Standing.{row_sizes, IsCutBy, HasBlocks, HasShape, StandsAs}
+use Rattle.reply_model.proofs.Makings.{numbers_kept, AreMade, made_later, MakesVersion, Makes}
 use Rattle.reply_model.proofs.StoredCounts.{keys_behind_refer, reference_behind}
-use Rattle.reply_model.proofs.TryCounts.{is_no_put, keys_behind_puts, PutsKeys}
+use Rattle.reply_model.proofs.TryCounts.{is_no_put, keys_behind_puts, PutsVersion, PutsKeys}
+use Rattle.reply_model.proofs.KeyedShapes.{keys_stay, counted_keys}
+use Rattle.reply_model.proofs.NewKeys.{stored_behind_commit, keys_of_version_behind}
 use Rattle.reply_model.proofs.AloneWindows.{IsKept}
-
--- ---- numbers of versions
-
--- a change takes no number back
-number_kept : (st : State) (c : Change) → next_number st ≤ next_number (after_change st c)
-number_kept st (changes.Wrote frame at) = omega arith
-number_kept st (changes.Appended frame at) = omega arith
-number_kept st (changes.Updated frame range at) = omega arith
-number_kept st (changes.Removed versions) = omega arith
-number_kept st (changes.Held holder version) = omega arith
-number_kept st (changes.Released holder) = omega arith
-number_kept st (changes.Discarded pieces) = omega arith
-
-pub numbers_kept : (st : State) (list : List Change) → next_number st ≤ next_number (fold after_change st list)
-numbers_kept st [] = omega arith
-numbers_kept st (c ∷ list) = omega (arith, number_kept st c, numbers_kept (after_change st c) list)
-
--- blocks that were made for versions below a number
-abbrev pub AreMade : ℕ → List Block → Type 0
-AreMade number blocks = AllByRecursion (λ (b : Block). b.version < number) blocks
-
-made_later : (n m : ℕ) → n ≤ m → (versions : List (ℕ × List Block)) → AllByRecursion (λ (x : ℕ × List Block). AreMade n x.1) versions → AllByRecursion (λ (x : ℕ × List Block). AreMade m x.1) versions
-made_later n m le versions all =
-    all_weaker (λ (x : ℕ × List Block). AreMade n x.1) (λ (x : ℕ × List Block). AreMade m x.1)
-    (λ x made. all_weaker (λ (b : Block). b.version < n) (λ (b : Block). b.version < m) (λ b low. omega (arith, le, low)) x.1 made) versions all
-
--- ---- one commit
-
--- the version that a commit makes: its number, so many new tiles, blocks that were made for versions that there then are, and the rows of the newest link
-pub record MakesVersion (c : Cutting) (st : State) (s : Shape) (newest : Option Linked) (tiles : ℕ) (first : Change) (rest : List Change) : Type 0 where
-  pub blocks : List Block
-  pub is : blocks_made c st s first ≡ Some (next_number st, blocks)
-  pub counted : tiles_in (made_for (next_number st) blocks) ≡ tiles
-  pub more : suc (next_number st) ≤ next_number (after_changes st (first ∷ rest))
-  pub made : AreMade (next_number (after_changes st (first ∷ rest))) blocks
-  pub link : Linked
-  pub link_is : newest ≡ Some link
-  pub rows : map (λ (b : Block). b.rows) blocks ≡ row_sizes link.index.slots
-  pub within : AllByRecursion (λ n. n ≤ c.rows) (row_sizes link.index.slots)
-
--- or it makes none
-pub record MakesMark (c : Cutting) (st : State) (s : Shape) (first : Change) : Type 0 where
-  pub is : blocks_made c st s first ≡ None
-  pub mark : is_version first ≡ false
-
-abbrev pub Makes : Cutting → State → Shape → Bool → Option Linked → ℕ → Change → List Change → Type 0
-Makes c st s makes newest tiles first rest = MatchBool makes (MakesVersion c st s newest tiles first rest) (MakesMark c st s first)
 
 -- ---- links
 
@@ -98,12 +53,19 @@ same_some : (a b : Linked) → Some a ≡ Some b → a ≡ b
 same_some a b e = cc
 
 module _ (c : Cutting) (client : ℕ) (symbol : Name) (makes : Bool) (old behind : History) (was : Option Key) (entry : Key) (first : Change) (rest : List Change) (r : Alone) (stands : StandsAs c old r)
-    (kept : IsKept client old (behind ++ old)) (puts : PutsKeys symbol makes behind) (lawful : IsLawful (events.Refer client symbol was entry (first ∷ rest) ∷ (behind ++ old))) where
+    (kept : IsKept client old (behind ++ old)) (puts : PutsKeys symbol makes entry behind) (lawful : IsLawful (events.Refer client symbol was entry (first ∷ rest) ∷ (behind ++ old))) where
   abbrev before : History
   before = behind ++ old
 
   abbrev new : History
   new = events.Refer client symbol was entry (first ∷ rest) ∷ (behind ++ old)
+
+  lawful_old : IsLawful old
+  lawful_old = beginning_lawful behind old lawful.1
+
+  -- what was put before stands as before
+  stands_behind : (key : Key) → is_some (body_put old key) ≡ true → is_some (stored new key) ≡ is_some (stored old key)
+  stands_behind key put = stored_behind_commit client puts.client symbol old behind was entry (first ∷ rest) puts.list key puts.is lawful_old lawful.1 put
 
   -- the keys of a kind other than references
   keys_are : (other : Name) (kind : KeyKind) → same_kind kinds.VersionRef kind ≡ false
@@ -140,6 +102,7 @@ module _ (c : Cutting) (client : ℕ) (symbol : Name) (makes : Bool) (old behind
         pieces = omega (arith, keys_are other kinds.Staged refl, was_shape.pieces);
         made = subst (λ (st : State). AllByRecursion (λ (x : ℕ × List Block). AreMade (next_number st) x.1) (r.shape other).versions) (sym same) was_shape.made;
         versions = subst (λ (ls : List Linked). AllZip HasBlocks ls (r.shape other).versions) (sym (other_links other differs)) was_shape.versions;
+        keys = keys_stay old new other (r.shape other) lawful_old was_shape.keys (other_links other differs) (λ key name put. stands_behind key put);
       }
 
   -- what is told of the symbol behind the commit
@@ -153,7 +116,7 @@ module _ (c : Cutting) (client : ℕ) (symbol : Name) (makes : Bool) (old behind
       (r.shape symbol).versions (stands.shapes symbol).made
 
   -- its links
-  may : MayRefer before client symbol was entry (first ∷ rest)
+  abbrev may : MayRefer before client symbol was entry (first ∷ rest)
   may = lawful.0.1
 
   links_behind : links new symbol ≡ links_in before (marks_of may.row (first ∷ rest)) ++ links old symbol
@@ -161,8 +124,8 @@ module _ (c : Cutting) (client : ℕ) (symbol : Name) (makes : Bool) (old behind
       ∙ (ap (λ ls. ls ++ links before symbol) (ap (links_of before) may.spelled) ∙ ap (λ ls. links_in before (marks_of may.row (first ∷ rest)) ++ ls) (links_kept symbol behind old puts.none))
 
   -- the version that is made is that of the newest link
-  links_made : (x : MakesVersion c (r.library.state symbol) (r.shape symbol) (first_of (links new symbol)) puts.tiles first rest)
-      → (links new symbol ≡ x.link ∷ links old symbol) × (x.link.row.version ≡ next_number (r.library.state symbol))
+  links_made : (x : MakesVersion c (r.library.state symbol) (r.shape symbol) (links old symbol) (first_of (links new symbol)) puts.tiles first rest)
+      → (links new symbol ≡ x.link ∷ links old symbol) × (x.link.row.version ≡ next_number (r.library.state symbol)) × (v : Version) × (fits : FitsLink before client symbol may.row v) × (fits.link ≡ x.link)
   links_made x = elim (refer_makes before client symbol may.row (first ∷ rest) may.form may.fits) [
     | inl none ↦
         let same : next_number (fold after_change (state_of before symbol) (first ∷ rest)) ≡ next_number (state_of before symbol) = ap number_after none.versions in
@@ -174,10 +137,10 @@ module _ (c : Cutting) (client : ℕ) (symbol : Name) (makes : Bool) (old behind
         let number : one.fits.link.row.version ≡ next_number (r.library.state symbol) =
         ap (λ (l : LinkRow). l.version) (linked_row before may.row one.fits.link one.fits.link_is)
         ∙ (one.fits.number ∙ (one.number ∙ ap (λ (st : State). next_number st) (kept.states symbol ∙ sym (stands.states symbol)))) in
-        (list_is ∙ ap (λ l. l ∷ links old symbol) link_is, ap (λ (l : Linked). l.row.version) (sym link_is) ∙ number)
+        (list_is ∙ ap (λ l. l ∷ links old symbol) link_is, ap (λ (l : Linked). l.row.version) (sym link_is) ∙ number, one.made, one.fits, link_is)
   ]
 
-  versions_behind : (x : MakesVersion c (r.library.state symbol) (r.shape symbol) (first_of (links new symbol)) puts.tiles first rest)
+  versions_behind : (x : MakesVersion c (r.library.state symbol) (r.shape symbol) (links old symbol) (first_of (links new symbol)) puts.tiles first rest)
       → AllZip HasBlocks (links new symbol) ((next_number (r.library.state symbol), x.blocks) ∷ (r.shape symbol).versions)
   versions_behind x =
       let made = links_made x in
@@ -202,8 +165,29 @@ module _ (c : Cutting) (client : ℕ) (symbol : Name) (makes : Bool) (old behind
   pieces_behind : keys_of new symbol kinds.Staged ≡ length (r.shape symbol).pieces
   pieces_behind = omega (arith, keys_are symbol kinds.Staged refl, (stands.shapes symbol).pieces)
 
+  -- the keys behind a version
+  version_keys : PutsVersion entry puts.tiles puts.list → (x : MakesVersion c (r.library.state symbol) (r.shape symbol) (links old symbol) (first_of (links new symbol)) puts.tiles first rest)
+      → HasKeys new symbol (record (r.shape symbol) {
+        versions = (next_number (r.library.state symbol), x.blocks) ∷ (r.shape symbol).versions;
+        indexes = next_number (r.library.state symbol) ∷ (r.shape symbol).indexes;
+        blocks = made_for (next_number (r.library.state symbol)) x.blocks ++ (r.shape symbol).blocks;
+        elements = suc (r.shape symbol).elements;
+      })
+  version_keys table x =
+      let links_of_x = links_made x in
+      subst (λ (st : State). (y : MakesVersion c st (r.shape symbol) (links old symbol) (first_of (links new symbol)) puts.tiles first rest)
+      → links new symbol ≡ y.link ∷ links old symbol → y.link.row.version ≡ next_number st → (v : Version) → (fits : FitsLink before client symbol may.row v) → fits.link ≡ y.link
+      → HasKeys new symbol (record (r.shape symbol) {
+        versions = (next_number st, y.blocks) ∷ (r.shape symbol).versions;
+        indexes = next_number st ∷ (r.shape symbol).indexes;
+        blocks = made_for (next_number st) y.blocks ++ (r.shape symbol).blocks;
+        elements = suc (r.shape symbol).elements;
+      })) (sym (stands.states symbol))
+      (λ y are number v fits link_is. keys_of_version_behind c client puts.client symbol old behind was entry first rest (r.shape symbol) (stands.shapes symbol) puts.tiles puts.list puts.is table lawful y v fits link_is
+      (links_kept symbol behind old puts.none) are number) x links_of_x.0 links_of_x.1 links_of_x.2 links_of_x.3 links_of_x.4
+
   -- the symbol's own shape, by what was made
-  own_shape : (m : Bool) → m ≡ makes → Makes c (r.library.state symbol) (r.shape symbol) m (first_of (links new symbol)) puts.tiles first rest
+  own_shape : (m : Bool) → m ≡ makes → Makes c (r.library.state symbol) (r.shape symbol) m (links old symbol) (first_of (links new symbol)) puts.tiles first rest
       → HasShape new symbol (record (with_version (blocks_made c (r.library.state symbol) (r.shape symbol) first) (r.shape symbol)) { elements = suc (r.shape symbol).elements })
   own_shape true e made = subst (λ o. HasShape new symbol (record (with_version o (r.shape symbol)) { elements = suc (r.shape symbol).elements })) (sym made.is) (record {
     tiles = omega (
@@ -221,6 +205,7 @@ module _ (c : Cutting) (client : ℕ) (symbol : Name) (makes : Bool) (old behind
     made = subst (λ (st : State). AllByRecursion (λ (x : ℕ × List Block). AreMade (next_number st) x.1) ((next_number (r.library.state symbol), made.blocks) ∷ (r.shape symbol).versions)) (sym state_behind)
         (made.made, versions_made);
     versions = versions_behind made;
+    keys = version_keys (puts.version (sym e)) made;
   })
   own_shape false e made = subst (λ o. HasShape new symbol (record (with_version o (r.shape symbol)) { elements = suc (r.shape symbol).elements })) (sym made.is) (record {
     tiles = omega (arith, keys_are symbol kinds.TableData refl, all_own puts.tiles, (stands.shapes symbol).tiles, (puts.without (sym e)).0);
@@ -230,10 +215,12 @@ module _ (c : Cutting) (client : ℕ) (symbol : Name) (makes : Bool) (old behind
     pieces = pieces_behind;
     made = subst (λ (st : State). AllByRecursion (λ (x : ℕ × List Block). AreMade (next_number st) x.1) (r.shape symbol).versions) (sym state_behind) versions_made;
     versions = versions_stay made.mark;
+    keys = counted_keys new symbol (r.shape symbol) (suc (r.shape symbol).elements)
+        (keys_stay old new symbol (r.shape symbol) lawful_old (stands.shapes symbol).keys (links_stay made.mark) (λ key name put. stands_behind key put));
   })
 
   -- each symbol's shape
-  pub shapes_behind : Makes c (r.library.state symbol) (r.shape symbol) makes (first_of (links new symbol)) puts.tiles first rest → (other : Name) → HasShape new other ((committing c symbol (first ∷ rest) r).shape other)
+  pub shapes_behind : Makes c (r.library.state symbol) (r.shape symbol) makes (links old symbol) (first_of (links new symbol)) puts.tiles first rest → (other : Name) → HasShape new other ((committing c symbol (first ∷ rest) r).shape other)
   shapes_behind made other =
       elim (same_name symbol other) as (λ b. same_name symbol other ≡ b → HasShape new other (cond b (shape_after c (r.library.state symbol) (r.shape symbol) (first ∷ rest)) (r.shape other))) [
         | true ↦ λ e. subst (λ n. HasShape new n (shape_after c (r.library.state symbol) (r.shape symbol) (first ∷ rest))) (same_name_is symbol other e) (own_shape makes refl made)
@@ -244,11 +231,11 @@ module _ (c : Cutting) (client : ℕ) (symbol : Name) (makes : Bool) (old behind
   abbrev AreCut : List Linked → Type 0
   AreCut ls = AllByRecursion (λ (l : Linked). AllByRecursion (λ n. n ≤ c.rows) (row_sizes l.index.slots)) ls
 
-  own_cut : (m : Bool) → Makes c (r.library.state symbol) (r.shape symbol) m (first_of (links new symbol)) puts.tiles first rest → AreCut (links new symbol)
+  own_cut : (m : Bool) → Makes c (r.library.state symbol) (r.shape symbol) m (links old symbol) (first_of (links new symbol)) puts.tiles first rest → AreCut (links new symbol)
   own_cut true made = subst AreCut (sym (links_made made).0) (made.within, stands.cut symbol)
   own_cut false made = subst AreCut (sym (links_stay made.mark)) (stands.cut symbol)
 
-  pub cut_behind : Makes c (r.library.state symbol) (r.shape symbol) makes (first_of (links new symbol)) puts.tiles first rest → IsCutBy c new
+  pub cut_behind : Makes c (r.library.state symbol) (r.shape symbol) makes (links old symbol) (first_of (links new symbol)) puts.tiles first rest → IsCutBy c new
   cut_behind made other =
       elim (same_name symbol other) as (λ b. same_name symbol other ≡ b → AreCut (links new other)) [
         | true ↦ λ e. subst (λ n. AreCut (links new n)) (same_name_is symbol other e) (own_cut makes made)

@@ -160,7 +160,7 @@ pub record Commits (client : ℕ) (symbol : Name) (makes : Bool) (old h : Histor
   pub list : List Change
   pub is : h ≡ events.Refer client symbol was entry list ∷ (behind ++ old)
   pub kept : IsKept client old (behind ++ old)
-  pub puts : PutsKeys symbol makes behind
+  pub puts : PutsKeys symbol makes entry behind
 
 accepted_commits : (more old : History) (client : ℕ) (symbol : Name) (makes : Bool) → IsAccepted client symbol makes AnyMarks (reverse more) → Commits client symbol makes old (more ++ old)
 accepted_commits more old client symbol makes a =

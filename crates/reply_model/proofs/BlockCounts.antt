@@ -13,9 +13,9 @@ use Rattle.store_model.specs.Links.{links}
 use Rattle.store_model.specs.Commits.{is_version}
 use Rattle.reply_model.specs.Blocks.{Cutting, Block, Part, parts_of, blocks_from, Shape, base_blocks, blocks_made}
 use Rattle.reply_model.specs.Standing.{HasShape, IsCutBy, bare_block, part_rows, fresh_in, slices, parts_laid, IsLaid}
-use Rattle.reply_model.proofs.AloneShapes.{numbers_kept, AreMade, MakesVersion}
+use Rattle.reply_model.proofs.Makings.{numbers_kept, AreMade, MakesVersion}
 use Rattle.reply_model.proofs.PartRows.{laid_within}
-use Rattle.reply_model.proofs.PartCounts.{bare, bare_part, bare_parts, fresh_bare, rows_bare, shared_parts, parts_counted, parts_made, parts_rows, base_has_rows}
+use Rattle.reply_model.proofs.PartCounts.{bare, bare_part, bare_parts, fresh_bare, rows_bare, shared_parts, parts_counted, parts_made, parts_rows, base_has_rows, base_has_keys, parts_share}
 
 -- ---- blocks of the base
 
@@ -71,14 +71,19 @@ one_more st (changes.Discarded pieces) rest e = absurd (true≢false (sym e))
 -- what is laid out is what the run makes
 pub laid_makes : (c : Cutting) (s : Shape) (symbol : Name) (tiles place : ℕ) (change : Change) (rest : List Change) (old new : History) → is_version change ≡ true → HasShape old symbol s
     → IsCutBy c old → IsLaid c symbol change place old new → tiles ≡ fresh_in (parts_laid c old symbol change) * slices c (state_of old symbol) change
-    → MakesVersion c (state_of old symbol) s (first_of (links new symbol)) tiles change rest
+    → MakesVersion c (state_of old symbol) s (links old symbol) (first_of (links new symbol)) tiles change rest
 laid_makes c s symbol tiles place change rest old new version shape cut laid counted =
     let st : State = state_of old symbol in
     let made : List Part = parts_made_of c st s change in
     let are = laid_are c old symbol s change shape in
     let shared = shared_parts (next_number st) c (base_of st) (base_blocks s (base_of st)) change (base_made (next_number st) s (base_of st) shape.made) in
     record {
+      parts = made;
+      slices = slices c st change;
       blocks = blocks_from (next_number st) (slices c st change) 0 made;
+      blocks_are = refl;
+      version = version;
+      based = parts_share (next_number st) (base_blocks s (base_of st)) (base_made (next_number st) s (base_of st) shape.made) c (base_of st) change;
       is = blocks_are c st s change version;
       counted = parts_counted (next_number st) (slices c st change) 0 made shared
           ∙ (ap (λ n. n * slices c st change) (sym (fresh_bare made)) ∙ (ap (λ ps. fresh_in ps * slices c st change) (sym are) ∙ sym counted));
@@ -86,6 +91,8 @@ laid_makes c s symbol tiles place change rest old new version shape cut laid cou
       made = parts_made (next_number st) (slices c st change) 0 (next_number (after_changes st (change ∷ rest))) made (one_more st change rest version) shared;
       link = laid.link;
       link_is = laid.newest;
+      fresh = counted ∙ (ap (λ ps. fresh_in ps * slices c st change) are ∙ ap (λ n. n * slices c st change) (fresh_bare made));
+      keyed = λ names named. laid.keys (base_blocks s (base_of st)) (λ (b : Block). names b.version b.number) (base_has_rows (links old symbol) s (base_of st) shape.versions) (base_has_keys names (links old symbol) s (base_of st) shape.versions named);
       within = laid_within c symbol change place old new cut laid;
       rows = parts_rows (next_number st) (slices c st change) 0 made ∙ (sym (rows_bare made) ∙ (ap (λ ps. map part_rows ps) (sym are) ∙ sym laid.rows));
     }

@@ -1,7 +1,7 @@
 -- A frame is cut into as many tiles as its blocks have.
 use Rattle.std.proofs.Common.{◌≡◌, ℕ, zero, suc, ◌+◌, ◌-◌, ◌≤◌, ◌<◌, Bool, true, false, ◌++◌, Some, subst, List, [], ◌∷◌, map, length, refl, sym, ◌∙◌, ap, arith, length-append, cond}
 use Rattle.std.specs.Prelude.{ℤ, filter, nat_eq, ◌*◌, ◌/◌, ◌%◌, min, max, replicate, sum_by}
-use Rattle.std.specs.List.{flat_map, range_with_len}
+use Rattle.std.specs.List.{flat_map, range_with_len, AllByRecursion, AllZip}
 use Rattle.std.specs.Int.{div_ceil}
 use Rattle.std.proofs.Math.Nat.{suc-mul, mod-lt, mul-le-mul, mul-le-mul_right}
 use Rattle.std.proofs.lemmas.Nat.{div-add-mod'}
@@ -10,6 +10,7 @@ use Rattle.std.proofs.lemmas.List.Concat.{flat_map-cons}
 use Rattle.frame_core.specs.declared.part.Part as frame_parts
 use Rattle.index_tree.specs.declared.index.Slot.{Slot}
 use Rattle.key_kind.specs.Names.{Name}
+use Rattle.key_kind.specs.declared.key.Key.{Key}
 use Rattle.bucket_core.specs.declared.event.Change.TheVariants as changes
 use Rattle.bucket_core.specs.History.{History}
 use Rattle.store_model.specs.Library.{first_of}
@@ -22,6 +23,7 @@ use Rattle.std.proofs.lemmas.List.FromFn.{length-range_with_len, length-map-rang
 use Rattle.frame_core.specs.Frames.{Frame}
 use Rattle.segment_cut.specs.Grids.{Grid, row_blocks, col_blocks, part_at, block_parts, parts, grid_of}
 use Rattle.reply_model.specs.Blocks.{Cutting, Block, some_rows, block_sizes, tiles_across, fresh, cut_rows, blocks_from, tiles_in, made_for}
+use Rattle.reply_model.specs.Keyed.{with_key, begins_block, block_keys, IsKeyedPart}
 use Rattle.reply_model.specs.Standing.{grid_cutting, tiles_cut, row_sizes, part_rows, fresh_in, IsLaid}
 
 -- the sum of one number
@@ -169,6 +171,94 @@ grid_rows c frame slots rows columns are =
     slots_lead slots ∙ (ap (λ ps. map (λ (x : frame_parts.Part). x.rows) (filter leads ps)) are
     ∙ (rows_lead (grid_of frame (grid_cutting c)) (range_with_len 0 (row_blocks (grid_of frame (grid_cutting c)))) columns ∙ blocks_sized c (length frame.rows) rows))
 
+-- ---- the keys of the row blocks
+
+-- here a row block begins, or there are no more parts
+abbrev begins : List frame_parts.Part → Bool
+begins [] = true
+begins (x ∷ ps) = leads x
+
+-- one tile more in the first row block
+abbrev one_tile : List ℕ → List ℕ
+one_tile [] = 1 ∷ []
+one_tile (n ∷ ns) = suc n ∷ ns
+
+-- how many parts each row block has
+abbrev block_lengths : List frame_parts.Part → List ℕ
+block_lengths [] = []
+block_lengths (x ∷ ps) = cond (begins ps) (1 ∷ block_lengths ps) (one_tile (block_lengths ps))
+
+begins_same : (slots : List Slot) → begins_block slots ≡ begins (map (λ (s : Slot). s.part) slots)
+begins_same [] = refl
+begins_same (s ∷ slots) = refl
+
+one_key : (key : Key) (blocks : List (List Key)) → map (λ (ks : List Key). length ks) (with_key key blocks) ≡ one_tile (map (λ (ks : List Key). length ks) blocks)
+one_key key [] = refl
+one_key key (ks ∷ blocks) = refl
+
+-- an index has as many keys in each
+keys_counted : (slots : List Slot) → map (λ (ks : List Key). length ks) (block_keys slots) ≡ block_lengths (map (λ (s : Slot). s.part) slots)
+keys_counted [] = refl
+keys_counted (s ∷ slots) =
+    elim (begins_block slots) as (λ b. map (λ (ks : List Key). length ks) (cond b ((s.key ∷ []) ∷ block_keys slots) (with_key s.key (block_keys slots)))
+    ≡ cond b (1 ∷ map (λ (ks : List Key). length ks) (block_keys slots)) (one_tile (map (λ (ks : List Key). length ks) (block_keys slots)))) [
+      | true ↦ refl
+      | false ↦ one_key s.key (block_keys slots)
+    ]
+    ∙ (ap (λ b. cond b (1 ∷ map (λ (ks : List Key). length ks) (block_keys slots)) (one_tile (map (λ (ks : List Key). length ks) (block_keys slots)))) (begins_same slots)
+    ∙ ap (λ ns. cond (begins (map (λ (x : Slot). x.part) slots)) (1 ∷ ns) (one_tile ns)) (keys_counted slots))
+
+others_follow : (grid : Grid) (block a m : ℕ) → 1 ≤ a → 1 ≤ grid.cutting.cols → AllByRecursion (λ (x : frame_parts.Part). leads x ≡ false) (map (part_at grid block) (range_with_len a m))
+others_follow grid block a zero some cols = tt
+others_follow grid block a (suc m) some cols =
+    let more : 1 * 1 ≤ a * grid.cutting.cols = mul-le-mul some cols in
+    (ne_eqb (a * grid.cutting.cols) 0 (λ e. omega (arith, e, more)), others_follow grid block (a + 1) m (omega arith) cols)
+
+-- a block's first part, others that do not begin one, and what is behind it
+one_block : (x : frame_parts.Part) (others rest : List frame_parts.Part) → AllByRecursion (λ (p : frame_parts.Part). leads p ≡ false) others → begins rest ≡ true
+    → block_lengths (x ∷ others ++ rest) ≡ suc (length others) ∷ block_lengths rest
+one_block x [] rest all first = ap (λ b. cond b (1 ∷ block_lengths rest) (one_tile (block_lengths rest))) first
+one_block x (p ∷ others) rest all first =
+    ap (λ b. cond b (1 ∷ block_lengths (p ∷ others ++ rest)) (one_tile (block_lengths (p ∷ others ++ rest)))) all.0 ∙ ap one_tile (one_block p others rest all.1 first)
+
+block_counted : (grid : Grid) (block m : ℕ) (rest : List frame_parts.Part) → 1 ≤ m → 1 ≤ grid.cutting.cols → begins rest ≡ true → block_lengths (map (part_at grid block) (range_with_len 0 m) ++ rest) ≡ m ∷ block_lengths rest
+block_counted grid block zero rest some cols first = absurd (omega (arith, some))
+block_counted grid block (suc m) rest some cols first =
+    one_block (part_at grid block 0) (map (part_at grid block) (range_with_len (0 + 1) m)) rest (others_follow grid block (0 + 1) m (omega arith) cols) first
+    ∙ ap (λ n. suc n ∷ block_lengths rest) (length-map-range_with_len (part_at grid block) (0 + 1) m)
+
+blocks_begin : (grid : Grid) (blocks : List ℕ) → begins (flat_map (block_parts grid) blocks) ≡ true
+blocks_begin grid [] = refl
+blocks_begin grid (k ∷ blocks) = ap begins (flat_map-cons (block_parts grid) k blocks) ∙ first (col_blocks grid) (omega arith) (flat_map (block_parts grid) blocks)
+  where
+    first : (m : ℕ) → 1 ≤ m → (rest : List frame_parts.Part) → begins (map (part_at grid k) (range_with_len 0 m) ++ rest) ≡ true
+    first zero some rest = absurd (omega (arith, some))
+    first (suc m) some rest = let none : 0 * grid.cutting.cols ≡ 0 = omega arith in eq-eqb (0 * grid.cutting.cols) 0 none
+
+-- each block of a grid has a part for each slice
+grid_counted : (grid : Grid) (blocks : List ℕ) → 1 ≤ grid.cutting.cols → block_lengths (flat_map (block_parts grid) blocks) ≡ map (λ k. col_blocks grid) blocks
+grid_counted grid [] cols = refl
+grid_counted grid (k ∷ blocks) cols =
+    ap block_lengths (flat_map-cons (block_parts grid) k blocks)
+    ∙ (block_counted grid k (col_blocks grid) (flat_map (block_parts grid) blocks) (omega arith) cols (blocks_begin grid blocks) ∙ ap (λ ns. col_blocks grid ∷ ns) (grid_counted grid blocks cols))
+
+-- new parts have so many keys each
+fresh_keyed : (names : Block → List Key) (slices : ℕ) (sizes : List ℕ) (blocks : List (List Key)) (ks : List ℕ) → map (λ (keys : List Key). length keys) blocks ≡ map (λ k. slices) ks → length ks ≡ length sizes
+    → AllZip (IsKeyedPart names slices) (map fresh sizes) blocks
+fresh_keyed names slices [] [] ks is size = tt
+fresh_keyed names slices [] (keys ∷ blocks) [] is size = absurd cc
+fresh_keyed names slices [] (keys ∷ blocks) (k ∷ ks) is size = absurd (omega (arith, size))
+fresh_keyed names slices (n ∷ sizes) blocks [] is size = absurd (omega (arith, size))
+fresh_keyed names slices (n ∷ sizes) [] (k ∷ ks) is size = absurd cc
+fresh_keyed names slices (n ∷ sizes) (keys ∷ blocks) (k ∷ ks) is size =
+    (first_is (length keys) slices (map (λ (x : List Key). length x) blocks) (map (λ x. slices) ks) is, fresh_keyed names slices sizes blocks ks (rest_is (length keys) slices (map (λ (x : List Key). length x) blocks) (map (λ x. slices) ks) is) (omega (arith, size)))
+  where
+    first_is : (a b : ℕ) (xs ys : List ℕ) → a ∷ xs ≡ b ∷ ys → a ≡ b
+    first_is a b xs ys e = cc
+
+    rest_is : (a b : ℕ) (xs ys : List ℕ) → a ∷ xs ≡ b ∷ ys → xs ≡ ys
+    rest_is a b xs ys e = cc
+
 -- ---- a write that cuts its whole frame is laid out
 
 pub write_is_laid : (c : Cutting) (symbol : Name) (whole : Frame) (at : ℤ) (place : ℕ) (old new : History) (link : Linked) → 1 ≤ c.rows → 1 ≤ c.columns → first_of (links new symbol) ≡ Some link
@@ -179,6 +269,11 @@ write_is_laid c symbol whole at place old new link rows columns newest are here 
   link = link;
   newest = newest;
   rows = grid_rows c whole link.index.slots rows columns are ∙ sizes_of (block_sizes c (length whole.rows));
+  keys = λ blocks names rows_are names_are. fresh_keyed names (tiles_across c (length whole.schema.columns)) (block_sizes c (length whole.rows)) (block_keys link.index.slots)
+      (range_with_len 0 (row_blocks (grid_of whole (grid_cutting c))))
+      (keys_counted link.index.slots ∙ (ap block_lengths are ∙ (grid_counted (grid_of whole (grid_cutting c)) (range_with_len 0 (row_blocks (grid_of whole (grid_cutting c)))) columns
+      ∙ ap (λ n. map (λ k. n) (range_with_len 0 (row_blocks (grid_of whole (grid_cutting c))))) (sym (across_counted c (length whole.schema.columns))))))
+      (length-range_with_len 0 (row_blocks (grid_of whole (grid_cutting c))) ∙ sym (sizes_counted c (length whole.rows)));
 }
   where
     sizes_of : (sizes : List ℕ) → sizes ≡ map part_rows (map fresh sizes)

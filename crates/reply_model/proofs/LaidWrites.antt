@@ -3,13 +3,12 @@
 --     write_lays_out      a write is laid out where its frame is
 --     none_lays_out       a command that makes no version leaves nothing open
 use Rattle.std.proofs.Common.{◌≡◌, ℕ, Bool, true, false, List, [], ◌∷◌, ◌++◌, map, Option, Some, None, Ok, refl, sym, ◌∙◌, ap, subst, inl, inr, cond}
-use Rattle.std.specs.Prelude.{ℤ, ⊤, Result, Err, IfSome, not, reverse, option_map, option_and_then}
+use Rattle.std.specs.Prelude.{ℤ, ⊤, Result, Err, IfSome, not, reverse, option_map}
 use Rattle.std.specs.List.{cons_option}
 use Rattle.std.proofs.lemmas.Bool.{true≢false}
 use Rattle.frame_core.specs.Frames.{Frame}
 use Rattle.frame_core.specs.declared.refusal.Refusal.{Refusal}
 use Rattle.frame_core.specs.declared.refusal.Refusal.TheVariants as refusals
-use Rattle.segment_cut.specs.Tiles.{Tile}
 use Rattle.index_tree.specs.declared.index.Index.{Index}
 use Rattle.key_kind.specs.Names.{Name}
 use Rattle.key_kind.specs.declared.key.Key.{Key}
@@ -22,7 +21,7 @@ use Rattle.store_model.specs.declared.chain.LinkRow.{LinkRow}
 use Rattle.store_model.specs.Library.{State, Version, state_of, first_of, new_version}
 use Rattle.store_model.specs.Snapshots.{library_of}
 use Rattle.store_model.specs.Law.{IsLawful}
-use Rattle.store_model.specs.Links.{Linked, links, links_of, links_in, links_at, linked, tiles_put, index_put}
+use Rattle.store_model.specs.Links.{Linked, links, links_of, links_in, links_at, linked, index_put}
 use Rattle.store_model.specs.Commits.{FitsLink, is_version, marks_of}
 use Rattle.store_model.proofs.Linking.{refer_makes}
 use Rattle.expr_clause.specs.declared.command.Command.{Command}
@@ -37,23 +36,10 @@ use Rattle.reply_model.specs.Windows.{is_refused}
 use Rattle.reply_model.specs.Blocks.{Cutting}
 use Rattle.reply_model.specs.Standing.{LaysOut, IsLaid}
 use Rattle.reply_model.proofs.Isolated.{some_answer}
+use Rattle.reply_model.proofs.FreshKeys.{index_is}
 use Rattle.reply_model.proofs.AloneLegal.{delete_buries, prune_buries, buried_first}
 
 -- ---- the newest link
-
--- a link has the index that was put under its row's key
-index_is : (h : History) (row : LinkRow) (link : Linked) (index : Index) → linked h row ≡ Some link → index_put h row.index ≡ Some index → link.index ≡ index
-index_is h row link index is put = by_index (index_put h row.index) is put
-  where
-    by_tiles : (o : Option (List Tile)) → option_map (λ tiles. record { row = row; index = index; tiles = tiles }) o ≡ Some link → link.index ≡ index
-    by_tiles None e = absurd cc
-    by_tiles (Some tiles) e = sym (ap (λ (l : Linked). l.index) (same (record { row = row; index = index; tiles = tiles }) link e))
-      where
-        same : (a b : Linked) → Some a ≡ Some b → a ≡ b
-        same a b f = cc
-
-    by_index : (o : Option Index) → option_and_then (λ i. option_map (λ tiles. record { row = row; index = i; tiles = tiles }) (tiles_put h i.slots)) o ≡ Some link → o ≡ Some index → link.index ≡ index
-    by_index o e f = by_tiles (tiles_put h index.slots) (subst (λ p. option_and_then (λ i. option_map (λ tiles. record { row = row; index = i; tiles = tiles }) (tiles_put h i.slots)) p ≡ Some link) f e)
 
 -- the link has this index
 pub link_with : (o : Option Linked) (index : Index) → option_map (λ (l : Linked). l.index) o ≡ Some index → (link : Linked) × (o ≡ Some link) × (link.index ≡ index)

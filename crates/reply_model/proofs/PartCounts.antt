@@ -1,19 +1,23 @@
 -- The blocks of a new version by its parts: how many tiles are new, and the rows of each block.
 use Rattle.std.proofs.Common.{◌≡◌, ℕ, suc, ◌+◌, ◌-◌, ◌<◌, Bool, true, false, List, [], ◌∷◌, ◌++◌, map, length, Option, Some, None, refl, sym, ◌∙◌, ap, subst, arith, cond}
-use Rattle.std.specs.Prelude.{◌*◌, ⊤, nat_eq, nat_le, find}
+use Rattle.std.specs.Prelude.{◌*◌, ⊤, Contains, nat_eq, nat_le, find}
 use Rattle.std.specs.Option.{option_map_or}
-use Rattle.std.specs.List.{AllZip}
+use Rattle.std.specs.List.{list_any, AllByRecursion, AllZip}
 use Rattle.std.proofs.Math.Nat.{suc-mul}
 use Rattle.std.proofs.lemmas.Bool.{eqb-true, eq-eqb}
 use Rattle.std.proofs.lemmas.List.Sums.{sum_by-cons}
 use Rattle.frame_core.specs.Frames.{rows_between}
+use Rattle.key_kind.specs.declared.key.Key.{Key}
 use Rattle.bucket_core.specs.declared.event.Change.{Change}
 use Rattle.bucket_core.specs.declared.event.Change.TheVariants as changes
 use Rattle.store_model.specs.Library.{Version}
 use Rattle.store_model.specs.Links.{Linked}
-use Rattle.reply_model.specs.Blocks.{Cutting, Block, Part, shared, fresh, some_rows, block_sizes, cut_rows, parts_before, parts_behind, parts_of, blocks_from, Shape, base_blocks, tiles_in, made_for}
-use Rattle.reply_model.specs.Standing.{row_sizes, HasBlocks, rows_of_version, bare_block, part_rows, fresh_in}
-use Rattle.reply_model.proofs.AloneShapes.{AreMade}
+use Rattle.reply_model.specs.Blocks.{Cutting, Block, Part, shared, fresh, some_rows, block_sizes, cut_rows, parts_before, parts_behind, parts_of, blocks_from, Shape, base_blocks, same_block, tiles_in, made_for}
+use Rattle.reply_model.specs.Keyed.{block_keys, HasNames}
+use Rattle.reply_model.specs.Standing.{row_sizes, HasBlocks, rows_of_version, keys_of_version, bare_block, part_rows, fresh_in}
+use Rattle.reply_model.proofs.Among.{block_there, block_at}
+use Rattle.store_model.proofs.Lists.{contains_first, contains_later}
+use Rattle.reply_model.proofs.Makings.{AreMade, shares, SharesBlocks}
 
 -- ---- parts
 
@@ -198,3 +202,82 @@ base_has_rows ls s (Some v) all = found ls s.versions all
           | true ↦ a.0.1
           | false ↦ found xs ys a.1
         ])
+
+-- and their keys
+pub base_has_keys : (names : ℕ → ℕ → List Key) (ls : List Linked) (s : Shape) (base : Option Version) → AllZip HasBlocks ls s.versions → AllZip (HasNames names) ls s.versions
+    → map (λ (b : Block). names b.version b.number) (base_blocks s base) ≡ keys_of_version ls base
+base_has_keys names ls s None all named = refl
+base_has_keys names ls s (Some v) all named = found ls s.versions all named
+  where
+    keys : Block → List Key
+    keys b = names b.version b.number
+
+    found : (xs : List Linked) (ys : List (ℕ × List Block)) → AllZip HasBlocks xs ys → AllZip (HasNames names) xs ys
+        → map keys (option_map_or (λ (x : ℕ × List Block). x.1) (find (λ (x : ℕ × List Block). nat_eq v.number x.0) ys) [])
+        ≡ option_map_or (λ (l : Linked). block_keys l.index.slots) (find (λ (l : Linked). nat_eq v.number l.row.version) xs) []
+    found [] [] a n = refl
+    found [] (y ∷ ys) a n = absurd a
+    found (x ∷ xs) [] a n = absurd a
+    found (x ∷ xs) (y ∷ ys) a n =
+        subst (λ k. map keys (option_map_or (λ (z : ℕ × List Block). z.1) (cond (nat_eq v.number k) (Some y) (find (λ (z : ℕ × List Block). nat_eq v.number z.0) ys)) [])
+        ≡ option_map_or (λ (l : Linked). block_keys l.index.slots) (cond (nat_eq v.number x.row.version) (Some x) (find (λ (l : Linked). nat_eq v.number l.row.version) xs)) []) a.0.0
+        (elim (nat_eq v.number x.row.version) as (λ t. map keys (option_map_or (λ (z : ℕ × List Block). z.1) (cond t (Some y) (find (λ (z : ℕ × List Block). nat_eq v.number z.0) ys)) [])
+        ≡ option_map_or (λ (l : Linked). block_keys l.index.slots) (cond t (Some x) (find (λ (l : Linked). nat_eq v.number l.row.version) xs)) []) [
+          | true ↦ sym n.0
+          | false ↦ found xs ys a.1 n.1
+        ])
+
+-- ---- which blocks are shared
+
+all_append : (P : Part → Type 0) (xs ys : List Part) → AllByRecursion P xs → AllByRecursion P ys → AllByRecursion P (xs ++ ys)
+all_append P [] ys a b = b
+all_append P (x ∷ xs) ys a b = (a.0, all_append P xs ys a.1 b)
+
+shares_fresh : (n : ℕ) (blocks : List Block) (sizes : List ℕ) → AllByRecursion (shares n blocks) (map fresh sizes)
+shares_fresh n blocks [] = tt
+shares_fresh n blocks (k ∷ sizes) = (tt, shares_fresh n blocks sizes)
+
+module _ (n : ℕ) (blocks : List Block) (made : AreMade n blocks) where
+  one_shares : (x : Block) → Contains blocks x → (list_any (same_block x) blocks ≡ true) × (x.version < n)
+  one_shares x there = (block_there blocks x there, block_at (λ (b : Block). b.version < n) blocks x made there)
+
+  shares_all : (bs : List Block) → ((b : Block) → Contains bs b → Contains blocks b) → AllByRecursion (shares n blocks) (map shared bs)
+  shares_all [] inside = tt
+  shares_all (b ∷ bs) inside = (one_shares b (inside b (contains_first b bs)), shares_all bs (λ x c. inside x (contains_later x b bs c)))
+
+  shares_before : (a b start : ℕ) (bs : List Block) → ((x : Block) → Contains bs x → Contains blocks x) → AllByRecursion (shares n blocks) (parts_before a b start bs)
+  shares_before a b start [] inside = tt
+  shares_before a b start (x ∷ bs) inside =
+      all_append (shares n blocks) (cond (nat_le (start + x.rows) a) (shared x ∷ []) (cond (nat_le b start) [] (map fresh (some_rows (a - start))))) (parts_before a b (start + x.rows) bs)
+      (first (nat_le (start + x.rows) a) (nat_le b start)) (shares_before a b (start + x.rows) bs (λ y c. inside y (contains_later y x bs c)))
+    where
+      first : (p q : Bool) → AllByRecursion (shares n blocks) (cond p (shared x ∷ []) (cond q [] (map fresh (some_rows (a - start)))))
+      first true q = (one_shares x (inside x (contains_first x bs)), tt)
+      first false true = tt
+      first false false = shares_fresh n blocks (some_rows (a - start))
+
+  shares_behind : (a b start : ℕ) (bs : List Block) → ((x : Block) → Contains bs x → Contains blocks x) → AllByRecursion (shares n blocks) (parts_behind a b start bs)
+  shares_behind a b start [] inside = tt
+  shares_behind a b start (x ∷ bs) inside =
+      all_append (shares n blocks) (cond (nat_le (start + x.rows) a) [] (cond (nat_le b start) (shared x ∷ []) (map fresh (some_rows (start + x.rows - b))))) (parts_behind a b (start + x.rows) bs)
+      (first (nat_le (start + x.rows) a) (nat_le b start)) (shares_behind a b (start + x.rows) bs (λ y c. inside y (contains_later y x bs c)))
+    where
+      first : (p q : Bool) → AllByRecursion (shares n blocks) (cond p [] (cond q (shared x ∷ []) (map fresh (some_rows (start + x.rows - b)))))
+      first true q = tt
+      first false true = (one_shares x (inside x (contains_first x bs)), tt)
+      first false false = shares_fresh n blocks (some_rows (start + x.rows - b))
+
+  -- the parts of a new version share blocks of its base
+  pub parts_share : (c : Cutting) (base : Option Version) (change : Change) → SharesBlocks n blocks (parts_of c base blocks change)
+  parts_share c base (changes.Wrote frame at) = shares_fresh n blocks (block_sizes c (length frame.rows))
+  parts_share c base (changes.Appended frame at) = all_append (shares n blocks) (map shared blocks) (cut_rows c (length frame.rows)) (shares_all blocks (λ x d. d)) (shares_fresh n blocks (block_sizes c (length frame.rows)))
+  parts_share c None (changes.Updated frame range at) = shares_fresh n blocks (block_sizes c (length frame.rows))
+  parts_share c (Some v) (changes.Updated frame range at) =
+      let between = rows_between range v.frame in
+      all_append (shares n blocks) (parts_before between.0 between.1 0 blocks ++ cut_rows c (length frame.rows)) (parts_behind between.0 between.1 0 blocks)
+      (all_append (shares n blocks) (parts_before between.0 between.1 0 blocks) (cut_rows c (length frame.rows)) (shares_before between.0 between.1 0 blocks (λ x d. d)) (shares_fresh n blocks (block_sizes c (length frame.rows))))
+      (shares_behind between.0 between.1 0 blocks (λ x d. d))
+  parts_share c base (changes.Removed versions) = tt
+  parts_share c base (changes.Held holder version) = tt
+  parts_share c base (changes.Released holder) = tt
+  parts_share c base (changes.Discarded pieces) = tt

@@ -38,18 +38,21 @@ greater_of Less e f = absurd (true≢false e)
 greater_of Equal e f = absurd (true≢false f)
 greater_of Greater e f = refl
 
-before_trans : (a b c : Key) → key_before a b ≡ true → key_before b c ≡ true → key_before a c ≡ true
+pub before_trans : (a b c : Key) → key_before a b ≡ true → key_before b c ≡ true → key_before a c ≡ true
 before_trans a b c p q = ap is_lt (key_cmp_total.trans a b c (less_of (key_cmp a b) p) (less_of (key_cmp b c) q))
 
 before_back : (a b : Key) → key_before a b ≡ true → key_before b a ≡ false
 before_back a b p = ap is_lt (key_cmp_total.antisymm b a ∙ ap ordering_reverse (less_of (key_cmp a b) p))
+
+pub before_is_other : (a b : Key) → key_before a b ≡ true → same_key a b ≡ false
+before_is_other a b p = same_key_ties a b ∙ ap is_eq (less_of (key_cmp a b) p)
 
 before_other : (a b : Key) → same_key a b ≡ false → key_before a b ≡ false → key_before b a ≡ true
 before_other a b differ not_before =
     ap is_lt (key_cmp_total.antisymm b a ∙ ap ordering_reverse (greater_of (key_cmp a b) not_before (sym (same_key_ties a b) ∙ differ)))
 
 -- each key stands before those behind it
-abbrev Ascending : List Key → Type 0
+abbrev pub Ascending : List Key → Type 0
 Ascending [] = ⊤
 Ascending (k ∷ ks) = AllByRecursion (λ (x : Key). key_before k x ≡ true) ks × Ascending ks
 
@@ -91,7 +94,7 @@ ascending_filtered p (k ∷ ks) up =
       | false ↦ ascending_filtered p ks up.1
     ]
 
-stored_ascending : (h : History) → Ascending (stored_keys h)
+pub stored_ascending : (h : History) → Ascending (stored_keys h)
 stored_ascending [] = tt
 stored_ascending (e ∷ h) = elim (is_some (body_of e)) as (λ t. Ascending (cond t (insert_key (key_of e) (stored_keys h)) (without_key (key_of e) (stored_keys h)))) [
   | true ↦ ascending_inserted (key_of e) (stored_keys h) (stored_ascending h)
@@ -160,13 +163,13 @@ none_filtered p q (k ∷ ks) none =
     let parts = or_parts (p k) (list_any p ks) none in
     elim (q k) as (λ t. list_any p (cond t (k ∷ filter q ks) (filter q ks)) ≡ false) [ true ↦ or_from (p k) (list_any p (filter q ks)) parts.0 (none_filtered p q ks parts.1) | false ↦ none_filtered p q ks parts.1 ]
 
-same_key_back : (a b : Key) → same_key a b ≡ false → same_key b a ≡ false
+pub same_key_back : (a b : Key) → same_key a b ≡ false → same_key b a ≡ false
 same_key_back a b other = elim (same_key b a) as (λ t. same_key b a ≡ t → t ≡ false) [
   | true ↦ λ e. absurd (true≢false (sym (subst (λ x. same_key a x ≡ true) (sym (same_key_is b a e)) (same_key_self a)) ∙ other))
   | false ↦ λ e. refl
 ] refl
 
-no_body : (b : Bool) (body : Bytes) (o : Option Bytes) → cond b (Some body) o ≡ None → (b ≡ false) × (o ≡ None)
+pub no_body : (b : Bool) (body : Bytes) (o : Option Bytes) → cond b (Some body) o ≡ None → (b ≡ false) × (o ≡ None)
 no_body true body o e = absurd cc
 no_body false body o e = (refl, e)
 
@@ -195,7 +198,7 @@ keys_behind_put h c key body symbol kind put none = count_inserted (is_of symbol
 -- ---- behind a Refer
 
 -- a key is stored where something stands under it
-stored_there : (h : History) (key : Key) → list_any (same_key key) (stored_keys h) ≡ is_some (stored h key)
+pub stored_there : (h : History) (key : Key) → list_any (same_key key) (stored_keys h) ≡ is_some (stored h key)
 stored_there h key = ap (list_any (same_key key)) (sym (keys-contents_of h)) ∙ (found (contents_of h) ∙ ap (λ o. is_some o) (body_found h key))
   where
     found : (es : List Shown) → list_any (same_key key) (map (λ (e : Shown). e.0) es) ≡ is_some (option_map (λ (v : Bytes × ℕ). v.0) (lookup (same_key key) es))

@@ -1,6 +1,6 @@
 -- How many keys of each kind a try puts.
 use Rattle.std.proofs.Common.{◌≡◌, ℕ, suc, ◌+◌, Bool, true, false, List, [], ◌∷◌, ◌++◌, map, length, Option, Some, None, refl, sym, ◌∙◌, ap, arith, length-append, cond}
-use Rattle.std.specs.Prelude.{◌&&◌, not, reverse, count_by, is_some}
+use Rattle.std.specs.Prelude.{◌&&◌, Ok, not, filter, reverse, count_by, is_some}
 use Rattle.std.specs.List.{list_any, AllByRecursion}
 use Rattle.std.proofs.lemmas.Bool.{true≢false, or_parts, or_from}
 use Rattle.std.proofs.lemmas.List.{reverse-reverse, reverse-append, length-reverse, length-map}
@@ -11,11 +11,16 @@ use Rattle.key_kind.specs.Names.{Name, same_name}
 use Rattle.key_kind.specs.declared.key.Key.{Key}
 use Rattle.key_kind.specs.declared.key.KeyKind.{KeyKind}
 use Rattle.key_kind.specs.declared.key.KeyKind.TheVariants as kinds
-use Rattle.key_kind.specs.Keys.{is_put, same_kind}
+use Rattle.key_kind.specs.Keys.{is_put, same_kind, same_key}
 use Rattle.bucket_core.specs.declared.event.Event.{Event}
 use Rattle.bucket_core.specs.declared.event.Event.TheVariants as events
 use Rattle.bucket_core.specs.History.{History, Bytes, PutOnce}
-use Rattle.reply_model.specs.Tries.{put_of, IsKeyOf, Before, of_mark, of_version, IsTry, index_linked}
+use Rattle.index_tree.specs.declared.index.Slot.{Slot}
+use Rattle.index_tree.specs.declared.index.Index.{Index}
+use Rattle.index_tree.specs.IndexText.{index_of}
+use Rattle.store_model.specs.declared.chain.Entry.{Entry}
+use Rattle.store_model.specs.ChainText.{entry_of}
+use Rattle.reply_model.specs.Tries.{put_of, keys_of_puts, IsKeyOf, Before, of_mark, of_version, IsTry, index_linked}
 use Rattle.reply_model.specs.Rows.{keys_of}
 use Rattle.reply_model.proofs.Places.{none_of_reversed}
 use Rattle.reply_model.proofs.StoredCounts.{is_of, keys_behind_put}
@@ -94,8 +99,20 @@ map_append client (x ∷ xs) ys = ap (λ es. put_of client x ∷ es) (map_append
 none_append : (xs ys : List Event) → list_any is_no_put xs ≡ false → list_any is_no_put ys ≡ false → list_any is_no_put (xs ++ ys) ≡ false
 none_append xs ys e f = list_any-append is_no_put xs ys ∙ or_from (list_any is_no_put xs) (list_any is_no_put ys) e f
 
+-- the tiles and the index of a version that is put, the tiles in the order of the index
+record PutsTable (o : Option Key) (tiles : ℕ) (first : List (Key × Bytes)) : Type 0 where
+  tile_puts : List (Key × Bytes)
+  key : Key
+  body : Bytes
+  index : Index
+  is : first ≡ tile_puts ++ (key, body) ∷ []
+  linked : o ≡ Some key
+  counted : tiles ≡ length tile_puts
+  spelled : index_of body ≡ Ok index
+  order : keys_of_puts tile_puts ≡ filter (λ k. list_any (same_key k) (keys_of_puts tile_puts)) (map (λ (s : Slot). s.key) index.slots)
+
 -- how many tiles and indexes stand before the element
-record PutsFirst (client : ℕ) (symbol : Name) (makes : Bool) (first : List (Key × Bytes)) : Type 0 where
+record PutsFirst (client : ℕ) (symbol : Name) (o : Option Key) (makes : Bool) (first : List (Key × Bytes)) : Type 0 where
   tiles : ℕ
   indexes : ℕ
   size : length first ≡ tiles + indexes
@@ -104,8 +121,9 @@ record PutsFirst (client : ℕ) (symbol : Name) (makes : Bool) (first : List (Ke
       ≡ cond (same_kind kinds.TableData kind && same_name symbol other) tiles 0 + cond (same_kind kinds.TableIndex kind && same_name symbol other) indexes 0
   with_index : makes ≡ true → indexes ≡ 1
   without : makes ≡ false → (tiles ≡ 0) × (indexes ≡ 0)
+  table : makes ≡ true → PutsTable o tiles first
 
-first_puts : (client : ℕ) (symbol : Name) (o : Option Key) (makes : Bool) (first : List (Key × Bytes)) → Before symbol o first → is_some o ≡ makes → PutsFirst client symbol makes first
+first_puts : (client : ℕ) (symbol : Name) (o : Option Key) (makes : Bool) (first : List (Key × Bytes)) → Before symbol o first → is_some o ≡ makes → PutsFirst client symbol o makes first
 first_puts client symbol None makes first of_mark is = record {
   tiles = 0;
   indexes = 0;
@@ -114,6 +132,7 @@ first_puts client symbol None makes first of_mark is = record {
   counted = λ other kind. nothing (same_kind kinds.TableData kind && same_name symbol other) (same_kind kinds.TableIndex kind && same_name symbol other);
   with_index = λ m. absurd (true≢false (sym (is ∙ m)));
   without = λ m. (refl, refl);
+  table = λ m. absurd (true≢false (sym (is ∙ m)));
 }
   where
     nothing : (a b : Bool) → ◌≡◌ {A = ℕ} 0 (cond a 0 0 + cond b 0 0)
@@ -136,10 +155,29 @@ first_puts client symbol (Some key) makes first (of_version tiles own body index
       );
   with_index = λ m. refl;
   without = λ m. absurd (true≢false (is ∙ m));
+  table = λ m. record { tile_puts = tiles; key = key; body = body; index = index; is = refl; linked = refl; counted = refl; spelled = spelled; order = order };
 }
 
+-- the puts of a version: its tiles, its index over them, and the element that links it
+pub record PutsVersion (entry : Key) (tiles : ℕ) (list : List (Key × Bytes)) : Type 0 where
+  pub tile_puts : List (Key × Bytes)
+  pub key : Key
+  pub body : Bytes
+  pub index : Index
+  pub element_body : Bytes
+  pub element : Entry
+  pub is : list ≡ (tile_puts ++ (key, body) ∷ []) ++ (entry, element_body) ∷ []
+  pub linked : index_linked element.changes ≡ Some key
+  pub counted : tiles ≡ length tile_puts
+  pub spelled : index_of body ≡ Ok index
+  pub element_spelled : entry_of element_body ≡ Ok element
+  pub order : keys_of_puts tile_puts ≡ filter (λ k. list_any (same_key k) (keys_of_puts tile_puts)) (map (λ (s : Slot). s.key) index.slots)
+
 -- what a try puts, the newest first: so many tiles and indexes, and an element
-pub record PutsKeys (symbol : Name) (makes : Bool) (es : List Event) : Type 0 where
+pub record PutsKeys (symbol : Name) (makes : Bool) (entry : Key) (es : List Event) : Type 0 where
+  pub client : ℕ
+  pub list : List (Key × Bytes)
+  pub is : es ≡ reverse (map (put_of client) list)
   pub tiles : ℕ
   pub indexes : ℕ
   pub size : length es ≡ tiles + indexes + 1
@@ -149,16 +187,20 @@ pub record PutsKeys (symbol : Name) (makes : Bool) (es : List Event) : Type 0 wh
       + cond (same_kind kinds.Version kind && same_name symbol other) 1 0
   pub with_index : makes ≡ true → indexes ≡ 1
   pub without : makes ≡ false → (tiles ≡ 0) × (indexes ≡ 0)
+  pub version : makes ≡ true → PutsVersion entry tiles list
 
 pub reversed_none : (p : Event → Bool) (es : List Event) → list_any p es ≡ false → list_any p (reverse es) ≡ false
 reversed_none p es none = none_of_reversed p (reverse es) (ap (list_any p) (reverse-reverse es) ∙ none)
 
-pub try_puts : (client : ℕ) (symbol : Name) (makes : Bool) (puts : List (Key × Bytes)) (entry : Key) → IsTry symbol makes puts entry → PutsKeys symbol makes (reverse (map (put_of client) puts))
+pub try_puts : (client : ℕ) (symbol : Name) (makes : Bool) (puts : List (Key × Bytes)) (entry : Key) → IsTry symbol makes puts entry → PutsKeys symbol makes entry (reverse (map (put_of client) puts))
 try_puts client symbol makes puts entry t =
     let first = first_puts client symbol (index_linked t.element.changes) makes t.first t.before t.of_kind in
     let last : List (Key × Bytes) = (entry, t.body) ∷ [] in
     let is : map (put_of client) puts ≡ map (put_of client) t.first ++ map (put_of client) last = ap (λ ps. map (put_of client) ps) t.is ∙ map_append client t.first last in
     record {
+      client = client;
+      list = puts;
+      is = refl;
       tiles = first.tiles;
       indexes = first.indexes;
       size = omega (arith, length-reverse (map (put_of client) puts), length-map puts (put_of client), ap (λ (ps : List (Key × Bytes)). length ps) t.is, length-append t.first last, first.size);
@@ -173,4 +215,18 @@ try_puts client symbol makes puts entry t =
           ));
       with_index = first.with_index;
       without = first.without;
+      version = λ m. let table = first.table m in record {
+        tile_puts = table.tile_puts;
+        key = table.key;
+        body = table.body;
+        index = table.index;
+        element_body = t.body;
+        element = t.element;
+        is = t.is ∙ ap (λ ps. ps ++ last) table.is;
+        linked = table.linked;
+        counted = table.counted;
+        spelled = table.spelled;
+        element_spelled = t.spelled;
+        order = table.order;
+      };
     }

@@ -7,6 +7,7 @@
 --     row_sizes, HasBlocks, IsCutBy      the rows of the blocks of a version, by its index; none has more than a cutting's
 --     tiles_cut, parts_laid, IsLaid, LaysOut      how a commit cuts its version, which a legal reply leaves open
 --     LegalAloneSteps      each legal reply is such a step
+--     LegalReclaimsAlone   so is each legal reclaim that looked where the window begins
 --     RunsTo, RunsAlone    a run alone gives these replies to a list of commands
 --     RunsGrow, RunsAreSole, BlocksAreSole      runs grow by steps, and from the empty history they are the replies of one client alone
 use Rattle.std.specs.Prelude.{◌≡◌, ℕ, suc, ◌+◌, ◌*◌, ◌<◌, ◌≤◌, if◌then◌else◌, Bool, true, false, List, [], ◌∷◌, ◌++◌, map, filter, find, length, Option, Some, None, nat_eq}
@@ -16,6 +17,7 @@ use Rattle.frame_core.specs.Frames.{Frame}
 use Rattle.segment_cut.specs.Cuttings as cuttings
 use Rattle.segment_cut.specs.Grids.{parts, grid_of}
 use Rattle.key_kind.specs.Names.{Name}
+use Rattle.key_kind.specs.declared.key.Key.{Key}
 use Rattle.key_kind.specs.declared.key.KeyKind.TheVariants as kinds
 use Rattle.bucket_core.specs.History.{History, author}
 use Rattle.store_model.specs.Law.{IsLawful}
@@ -30,10 +32,11 @@ use Rattle.expr_clause.specs.declared.command.Command.TheVariants as commands
 use Rattle.reply_model.specs.declared.reply.Reply.{Reply}
 use Rattle.reply_model.specs.Answering.{Session}
 use Rattle.reply_model.specs.Answers.{answer}
-use Rattle.reply_model.specs.Windows.{Client, symbol_of, is_cut}
+use Rattle.reply_model.specs.Windows.{Client, symbol_of, is_refused, is_cut}
 use Rattle.reply_model.specs.Legal.{IsLegalReply}
 use Rattle.reply_model.specs.Rows.{keys_of}
 use Rattle.reply_model.specs.Blocks.{Cutting, Block, Part, shared, fresh, parts_of, tiles_across, Shape, tiles_in}
+use Rattle.reply_model.specs.Keyed.{block_keys, HasKeys, IsKeyedPart}
 use Rattle.reply_model.specs.Sole.{Alone, step_alone, alone, sole}
 
 -- ---- where a run stands
@@ -51,7 +54,7 @@ abbrev pub HasBlocks : Linked → ℕ × List Block → Type 0
 HasBlocks l x = (l.row.version ≡ x.0) × (map (λ (b : Block). b.rows) x.1 ≡ row_sizes l.index.slots)
 
 -- the shape has as many tiles, indexes, elements and pieces as are stored of the symbol, and the blocks of each of its versions, which
--- were made for versions that there are; one reference is stored where the symbol has one
+-- were made for versions that there are; one reference is stored where the symbol has one; and its blocks have the keys of the links
 pub record HasShape (h : History) (symbol : Name) (s : Shape) : Type 0 where
   pub tiles : keys_of h symbol kinds.TableData ≡ tiles_in s.blocks
   pub indexes : keys_of h symbol kinds.TableIndex ≡ length s.indexes
@@ -60,6 +63,7 @@ pub record HasShape (h : History) (symbol : Name) (s : Shape) : Type 0 where
   pub pieces : keys_of h symbol kinds.Staged ≡ length s.pieces
   pub made : AllByRecursion (λ x. AllByRecursion (λ (b : Block). b.version < next_number (state_of h symbol)) x.1) s.versions
   pub versions : AllZip HasBlocks (links h symbol) s.versions
+  pub keys : HasKeys h symbol s
 
 -- what a run alone of this cutting tells is what the history tells: how many events there are, the symbols, the state of each, the
 -- snapshots, and the shape of each symbol; and all versions were cut so
@@ -119,6 +123,14 @@ rows_of_version links (Some v) = option_map_or (λ (l : Linked). row_sizes l.ind
 abbrev pub base_rows : History → Name → List ℕ
 base_rows h symbol = rows_of_version (links h symbol) (base_of (state_of h symbol))
 
+-- the keys of the row blocks of a version, as its index has them, and of the base
+abbrev pub keys_of_version : List Linked → Option Version → List (List Key)
+keys_of_version links None = []
+keys_of_version links (Some v) = option_map_or (λ (l : Linked). block_keys l.index.slots) (find (λ (l : Linked). nat_eq v.number l.row.version) links) []
+
+abbrev pub base_keys : History → Name → List (List Key)
+base_keys h symbol = keys_of_version (links h symbol) (base_of (state_of h symbol))
+
 -- a block of which only the rows are told
 abbrev pub bare_block : ℕ → Block
 bare_block rows = record { version = 0; number = 0; rows = rows; tiles = 0 }
@@ -141,13 +153,16 @@ fresh_in (fresh rows ∷ more) = suc (fresh_in more)
 abbrev pub slices : Cutting → State → Change → ℕ
 slices c st change = option_map_or (λ (v : Version). tiles_across c (length v.frame.schema.columns)) (new_version st change) 0
 
--- the commit of a version put the tiles of its new blocks, the index and the element, and its index has the rows of all parts
+-- the commit of a version put the tiles of its new blocks, the index and the element, and its index has the rows and the keys of all parts:
+-- however the base's blocks are told apart, each that is shared keeps its keys
 pub record IsLaid (c : Cutting) (symbol : Name) (change : Change) (place : ℕ) (old new : History) : Type 0 where
   pub some_rows : 1 ≤ c.rows
   pub tiles : place ≡ length old + (fresh_in (parts_laid c old symbol change) * slices c (state_of old symbol) change + 3)
   pub link : Linked
   pub newest : first_of (links new symbol) ≡ Some link
   pub rows : row_sizes link.index.slots ≡ map part_rows (parts_laid c old symbol change)
+  pub keys : (blocks : List Block) (names : Block → List Key) → map (λ (b : Block). b.rows) blocks ≡ base_rows old symbol → map names blocks ≡ base_keys old symbol
+      → AllZip (IsKeyedPart names (slices c (state_of old symbol) change)) (parts_of c (base_of (state_of old symbol)) blocks change) (block_keys link.index.slots)
 
 -- where all versions were cut so, a command that is done lays out the version that the one-thread library answers; other commands leave
 -- nothing open
@@ -162,6 +177,13 @@ LegalAloneSteps = (old new : History) (c : Cutting) (client : Client) (command :
     → GrowsAlone client.session.client old new
     → IsLegalReply new client command reply (record { start = length old; stop = length new; faulted = faulted }) → is_served command ≡ true
     → is_cut reply.outcome ≡ false → LaysOut c client.session command reply old new → IsStep c client.session command reply old new
+
+-- so is each legal reclaim that is refused, or whose place is where the window begins: what it drops was dead there
+abbrev pub LegalReclaimsAlone : Type 0
+LegalReclaimsAlone = (old new : History) (c : Cutting) (client : Client) (symbol : Name) (reply : Reply) (faulted : Bool) → IsLawful new
+    → GrowsAlone client.session.client old new
+    → IsLegalReply new client (commands.Reclaim symbol) reply (record { start = length old; stop = length new; faulted = faulted })
+    → is_cut reply.outcome ≡ false → (is_refused reply.outcome ≡ false → reply.place ≡ length old) → IsStep c client.session (commands.Reclaim symbol) reply old new
 
 -- ---- runs
 

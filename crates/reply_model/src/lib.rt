@@ -10,8 +10,8 @@ use key_kind::SnapName;
 pub use outcome::{HeldAt, Outcome, SymbolRow, VersionRow};
 pub use reply::Reply;
 pub use theorem::{
-    commands_are_isolated, legal_replies_alone_are_sole, legal_replies_stay_legal,
-    refused_commands_change_nothing, runs_alone_are_sole,
+    commands_are_isolated, legal_reclaims_alone_are_sole, legal_replies_alone_are_sole,
+    legal_replies_stay_legal, refused_commands_change_nothing, runs_alone_are_sole,
 };
 
 /// The symbols that a snapshot holds, in ascending order, seen as a list.

@@ -1,6 +1,6 @@
 ghost use Rattle.reply_model.specs.Legal.{LegalStays};
 ghost use Rattle.reply_model.specs.Runs.{LegalIsIsolated, RefusedHarmsNothing, RefusedReleases};
-ghost use Rattle.reply_model.specs.Standing.{LegalAloneSteps, RunsAreSole, BlocksAreSole, RunsGrow};
+ghost use Rattle.reply_model.specs.Standing.{LegalAloneSteps, LegalReclaimsAlone, RunsAreSole, BlocksAreSole, RunsGrow};
 
 /// Replies that are legal in a history are legal in each longer one.
 pub fn legal_replies_stay_legal()
@@ -24,6 +24,12 @@ pub fn commands_are_isolated()
 /// is where the fold then stands: for the commands that are served, want of memory, failures and a full store aside.
 pub fn legal_replies_alone_are_sole()
     ensures { LegalAloneSteps }
+{}
+
+/// So is a legal reclaim that is refused, or whose place is where the window begins: it counts the keys that the fold's blocks, indexes and pieces have
+/// which no live or held version has, and these keys are then not stored.
+pub fn legal_reclaims_alone_are_sole()
+    ensures { LegalReclaimsAlone }
 {}
 
 /// Such steps make runs, one command after another; and a run from the empty history is that of one client alone, also where a second

@@ -2,7 +2,7 @@ use Rattle.version_chain.proofs.SteadyLemmas.{on_err}
 use Rattle.version_chain.proofs.TraceLemmas.{went_looks}
 use Rattle.prune_rule.specs.Reclaims.{IsLegalReclaim}
 use Rattle.prune_rule.proofs.LegalBurials.{went_goes_on}
-use Rattle.prune_rule.proofs.ReclaimLemmas.{found_droppable, done_steady, stop_steady, find_legal, stop_legal, done_legal, whole_went, drops_these}
+use Rattle.prune_rule.proofs.ReclaimLemmas.{found_droppable, done_steady, stop_steady, find_legal, stop_legal, done_legal, whole_went, drops_these, found_alone}
 use Rattle.prune_rule.proofs.reclaiming.reclaim.Goals as goal
 
 pub returns-in_err-dead-clause-grown : goal.returns-in_err-dead-clause-grown
@@ -48,3 +48,9 @@ returns-clause-legal g c =
     done_legal _ _ (g.B.Bucket.sole c.args.bucket.now) _ _ _ _ _ _ _ c.in_ok-dead.dead c.find_dead.ensures.looks c.in_ok-dead.ensures.found c.drop_all.ensures.rising (g.met.B.Bucket.lawful c.drop_all.new.bucket) c.in_ok-keys.keys
     (done_steady g.B.Bucket.number g.B.Bucket.limit g.B.Bucket.faults g.B.Bucket.sole c.args.bucket.now c.find_dead.new.bucket c.find_dead.ensures.steady
     (g.B.Bucket.seen c.find_dead.new.bucket) (g.B.Bucket.seen c.drop_all.new.bucket) c.in_ok-dead.dead.keys.keys c.in_ok-keys.keys c.in_ok-keys.ensures.did)
+
+pub returns-clause-looked : goal.returns-clause-looked
+returns-clause-looked g c grows =
+    let d = done_steady g.B.Bucket.number g.B.Bucket.limit g.B.Bucket.faults g.B.Bucket.sole c.args.bucket.now c.find_dead.new.bucket c.find_dead.ensures.steady
+    (g.B.Bucket.seen c.find_dead.new.bucket) (g.B.Bucket.seen c.drop_all.new.bucket) c.in_ok-dead.dead.keys.keys c.in_ok-keys.keys c.in_ok-keys.ensures.did in
+    found_alone _ _ _ _ _ _ _ _ c.find_dead.ensures.looks c.in_ok-dead.ensures.found d.went grows
