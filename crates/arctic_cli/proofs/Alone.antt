@@ -1,4 +1,4 @@
--- Where nothing hinders a run of one client alone, it is that of the fold.
+-- A run of one client alone at a time is that of the fold.
 use Rattle.std.proofs.Common.{◌≡◌, ℕ, ℤ, ◌<◌, ◌≤◌, ◌⊎◌, suc, Bool, true, false, cond, List, [], ◌∷◌, ◌++◌, length, Option, Some, Result, Ok, Err, refl, sym, ap, ◌∙◌, subst, inl, inr, arith}
 use Rattle.std.specs.Prelude.{◌||◌, option_map}
 use Rattle.std.specs.List.{AllByRecursion, concat, list_any}
@@ -19,13 +19,14 @@ use Rattle.reply_model.specs.Standing.{RunsAlone, RunsGrow, BlocksAreSole}
 use Rattle.store_model.specs.Law.{IsLawful}
 use Rattle.program_edge.specs.Clocks.{IsReading}
 use Rattle.arctic_cli.specs.declared.stop.Stop.{Stop}
+use Rattle.arctic_cli.specs.declared.stop.Stop.TheVariants as stops
 use Rattle.client_sessions.specs.declared.parts.PartReplies.{PartReplies}
 use Rattle.client_sessions.specs.Sessions.{AreUncut, AreServed}
 use Rattle.client_sessions.specs.Blocks.{AreTalksOf}
 use Rattle.arctic_cli.specs.Program.{Shelf, Job, Run, run_of, wants_memory, some_outcome, some_reply, replies_status, one_block, replies_alone, run_from, run_alone, prepared}
 use Rattle.arctic_cli.specs.Causes.{Prepares}
-use Rattle.arctic_cli.specs.Endings.{Start, client_of, Performs, IsDue, Due, AllWritten, RunEnds, Ends, HasServed, IsUnhindered, IsRun}
-use Rattle.arctic_cli.proofs.Told.{prepares-told}
+use Rattle.arctic_cli.specs.Endings.{Start, client_of, Performs, IsDue, Due, AllWritten, RunEnds, Ends, HasServed, IsOfOne, IsRun, IsRunOrFails}
+use Rattle.arctic_cli.proofs.Told.{FailsFetch, prepares-told}
 use Rattle.script_lang.specs.Fronts.{◌>>=◌}
 
 -- ---- replies that are not cut
@@ -213,17 +214,31 @@ plan-exact grow are_sole start (Err s) run moment told after status new reading 
     some : Text → Option Text
     some t = Some t
 
-due-exact : (grow : RunsGrow) (are_sole : BlocksAreSole) (start : Start) (f0 f1 g0 g1 : ℕ) (held : Shelf) (told : Text) (moment : ℤ) (w0 w1 : Option Text) (status : ℕ) (new : History) → IsUnhindered start f0 f1 g0 g1 held told moment w0 new → (due : Due start f0 f1 new) →
-    RunEnds due.run g0 g1 w0 w1 status → (status ≡ 6) ⊎ IsRun (run_alone moment held start.words) told w1 status
-due-exact grow are_sole start f0 f1 g0 g1 held told moment w0 w1 status new u due (inr (inl p)) = absurd (u.output_works p.1)
-due-exact grow are_sole start f0 f1 g0 g1 held told moment w0 w1 status new u due (inr (inr p)) = inl p.0
-due-exact grow are_sole start f0 f1 g0 g1 held told moment w0 w1 status new u due (inl w) =
-    let made : prepared held start.words ≡ due.plan = prepares-told held f0 f1 start.words due.plan u.shelf_works (subst (λ h. Prepares h f0 f1 start.words due.plan) u.tells due.prepares) in
-    subst (λ (x : Result Job Stop). (status ≡ 6) ⊎ IsRun (run_from moment x) told w1 status) (sym made)
-    (plan-exact grow are_sole start due.plan due.run moment told w1 status new u.reading u.empty u.first u.room (subst HasServed made u.served) due.is_due (subst (λ (o : Option Text). AllWritten due.run o w1 status) u.written w))
+-- the run of a stop by a fetch that failed has status 4
+fetch-stopped : (start : Start) (f0 f1 : ℕ) (plan : Result Job Stop) (run : Run) (new : History) → FailsFetch f0 f1 plan → IsDue start plan run new → run.status ≡ 4
+fetch-stopped start f0 f1 plan run new failed due = ap (λ (r : Run). r.status) stop.0
+  where
+    stop : IsDue start (Err (stops.Unreadable failed.name)) run new
+    stop = subst (λ (x : Result Job Stop). IsDue start x run new) failed.plan_is due
 
--- where nothing hinders it, the run is that of one client alone, or memory was wanted
-pub exact : (grow : RunsGrow) (are_sole : BlocksAreSole) (start : Start) (f0 f1 g0 g1 : ℕ) (held : Shelf) (told : Text) (moment : ℤ) (w0 w1 : Option Text) (status : ℕ) (new : History) → IsUnhindered start f0 f1 g0 g1 held told moment w0 new →
-    Ends start f0 f1 g0 g1 w0 w1 status new → (status ≡ 6) ⊎ IsRun (run_alone moment held start.words) told w1 status
+due-exact : (grow : RunsGrow) (are_sole : BlocksAreSole) (start : Start) (f0 f1 g0 g1 : ℕ) (held : Shelf) (told : Text) (moment : ℤ) (w0 w1 : Option Text) (status : ℕ) (new : History) → IsOfOne start held told moment w0 new → (due : Due start f0 f1 new) →
+    RunEnds due.run g0 g1 w0 w1 status → IsRunOrFails (run_alone moment held start.words) f0 f1 g0 g1 told w1 status
+due-exact grow are_sole start f0 f1 g0 g1 held told moment w0 w1 status new u due (inr (inl p)) = inr (inr (inl (p.0, p.1)))
+due-exact grow are_sole start f0 f1 g0 g1 held told moment w0 w1 status new u due (inr (inr p)) = inr (inl p.0)
+due-exact grow are_sole start f0 f1 g0 g1 held told moment w0 w1 status new u due (inl w) =
+    of (prepares-told held f0 f1 start.words due.plan (subst (λ h. Prepares h f0 f1 start.words due.plan) u.tells due.prepares))
+  where
+    exactly : (status ≡ 6) ⊎ IsRun (run_alone moment held start.words) told w1 status → IsRunOrFails (run_alone moment held start.words) f0 f1 g0 g1 told w1 status
+    exactly (inl six) = inr (inl six)
+    exactly (inr ended) = inl ended
+
+    of : (prepared held start.words ≡ due.plan) ⊎ FailsFetch f0 f1 due.plan → IsRunOrFails (run_alone moment held start.words) f0 f1 g0 g1 told w1 status
+    of (inl made) = exactly (subst (λ (x : Result Job Stop). (status ≡ 6) ⊎ IsRun (run_from moment x) told w1 status) (sym made)
+        (plan-exact grow are_sole start due.plan due.run moment told w1 status new u.reading u.empty u.first u.room (subst HasServed made u.served) due.is_due (subst (λ (o : Option Text). AllWritten due.run o w1 status) u.written w)))
+    of (inr failed) = inr (inr (inr (w.status_is ∙ fetch-stopped start f0 f1 due.plan due.run new failed due.is_due, failed.rose)))
+
+-- the run is that of one client alone, unless memory was wanted, or the output or the shelf failed
+pub exact : (grow : RunsGrow) (are_sole : BlocksAreSole) (start : Start) (f0 f1 g0 g1 : ℕ) (held : Shelf) (told : Text) (moment : ℤ) (w0 w1 : Option Text) (status : ℕ) (new : History) → IsOfOne start held told moment w0 new →
+    Ends start f0 f1 g0 g1 w0 w1 status new → IsRunOrFails (run_alone moment held start.words) f0 f1 g0 g1 told w1 status
 exact grow are_sole start f0 f1 g0 g1 held told moment w0 w1 status new u (inl e) = due-exact grow are_sole start f0 f1 g0 g1 held told moment w0 w1 status new u e.0 e.1
-exact grow are_sole start f0 f1 g0 g1 held told moment w0 w1 status new u (inr e) = inl e.0
+exact grow are_sole start f0 f1 g0 g1 held told moment w0 w1 status new u (inr e) = inr (inl e.0)

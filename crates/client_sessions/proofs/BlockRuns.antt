@@ -23,9 +23,9 @@ use Rattle.reply_model.specs.Blocks.{Cutting}
 use Rattle.reply_model.specs.Runs.{Talk, IsLegalTalk, Covers, AreApart}
 use Rattle.reply_model.specs.Standing.{RunsAlone}
 use Rattle.client_sessions.specs.Sessions.{talk_of, AreServed, AreUncut}
-use Rattle.client_sessions.specs.Blocks.{IsSessionOf, AreRun, Knows}
+use Rattle.client_sessions.specs.Blocks.{IsSessionOf, AreRun, Knows, OneTalkEach}
 use Rattle.client_sessions.proofs.Events.{event_within, event_at_more, others_above, others_at, any_here, any_there}
-use Rattle.client_sessions.proofs.Windows.{stops_within}
+use Rattle.client_sessions.proofs.Windows.{stops_within, calm_windows}
 use Rattle.client_sessions.proofs.OneBlock.{OneSession, head_is, tail_is, sole_kept, session_alone, more_own, ends_there}
 use Rattle.client_sessions.proofs.Passes.{had_at, ended_at, within_at}
 use Rattle.client_sessions.proofs.Talks.{calm, all_map, talk_later, talks_later, apart_before}
@@ -56,6 +56,7 @@ run_none cutting client p = record {
   apart = tt;
   no_fault = tt;
   above = tt;
+  one_each = tt;
   own = λ n e lt at own. absurd (let le : n ≤ length (seen_of p) = event_within (seen_of p) n e at in omega (arith, le, lt));
   joined = λ m l a. inl a;
 }
@@ -82,6 +83,11 @@ module _ (cutting : Cutting) (client : ℕ → Client) (named : (n : ℕ) → (c
               absurd (others_above (number_of p0) looks.others (seen_of p0) n e looks.by_others lt (ap (λ (h : History). event_at h n) (sym looks.is) ∙ at0) own)
         ]
   ]
+
+  -- the block is of the pass's own client
+  each_here : (talks : List Talk) → AllByRecursion (λ (t : Talk). t.client.session.client ≡ here.client.session.client → here.client.session.client ≡ number_of p0) talks
+  each_here [] = tt
+  each_here (t ∷ talks) = (λ same. named (number_of p) ∙ ap (λ (b : Badge). b.number) badge, each_here talks)
 
   -- one block alone: no others made events before it, and none is behind it
   alone_here : (b : List Command) (met : List Reply) → block ∷ blocks ≡ b ∷ [] → replies ∷ told ≡ met ∷ [] → sole_of p0 ≡ true → IsLawful (seen_of p0) → AreServed b → AreUncut met
@@ -119,11 +125,12 @@ module _ (cutting : Cutting) (client : ℕ → Client) (named : (n : ℕ) → (c
           talks_later (seen_of p2) [] (seen_of p2) (length (seen_of p0)) (length (seen_of p1)) r.talks refl (omega (arith, first_le, next_le)) r.legal,
         );
         apart = (apart_before (seen_of p2) (length (seen_of p1)) here r.talks (stops_within (seen_of p1) here.client (length (seen_of p)) block replies s.session.windows s.session.legal) r.legal, r.apart);
-        no_fault = (s.session.no_fault calm, r.no_fault);
+        no_fault = (calm_windows 0 0 s.session.windows calm s.session.faults, r.no_fault);
         above = (
           inl (named (number_of p) ∙ ap (λ (b : Badge). b.number) badge),
           subst (λ (b : Badge). AllByRecursion (λ (t : Talk). (t.client.session.client ≡ b.number) ⊎ ((m : ℕ) → Knows b m → m < t.client.session.client)) r.talks) badge_here r.above,
         );
+        one_each = (each_here r.talks, subst (λ (n : ℕ). OneTalkEach n r.talks) (ap (λ (b : Badge). b.number) badge_here) r.one_each);
         own = own_here;
         joined = λ m l a. ⊎_elim (λ (x : Among (joined_at m l) (badge_of p1).joined). inl (subst (λ (b : Badge). Among (joined_at m l) b.joined) badge_here x))
             (λ (x : (l ≤ length (seen_of p2)) × ((n : ℕ) (e : Event) → n ≤ l → event_at (seen_of p2) n ≡ Some e → author e ≡ m → Any (Covers n e) r.talks)). inr (x.0, λ n e le at own. any_there here r.talks (x.1 n e le at own)))
@@ -189,15 +196,20 @@ module _ (cutting : Cutting) (client : ℕ → Client) (named : (n : ℕ) → (c
   joined_beside m l (inr (inr a)) = absurd (subst (λ (b : Badge). Among (joined_at m l) b.joined) badge_other a)
 
   -- the others' talks are of other clients
+  gave : Among (number_of o) (badge_of p1).gave
+  gave = subst (λ (b : Badge). Among (number_of o) b.gave) (sym split.gave) (inl refl)
+
+  not_same : (t : Talk) → (t.client.session.client ≡ number_of p1) ⊎ ((m : ℕ) → Knows (badge_of p1) m → m < t.client.session.client) → number_of o ≡ t.client.session.client → ⊥
+  not_same t (inl is) same = let less : number_of p0 < number_of o = split.above (number_of p0) (inl refl) in omega (arith, less, same, is, number)
+  not_same t (inr less) same = let more : number_of o < t.client.session.client = less (number_of o) (inr gave) in omega (arith, more, same)
+
   apart_numbers : (talks : List Talk) → AllByRecursion (λ (t : Talk). (t.client.session.client ≡ number_of p1) ⊎ ((m : ℕ) → Knows (badge_of p1) m → m < t.client.session.client)) talks → AllByRecursion (AreApart beside) talks
   apart_numbers talks all = all_map (λ (t : Talk). (t.client.session.client ≡ number_of p1) ⊎ ((m : ℕ) → Knows (badge_of p1) m → m < t.client.session.client)) (AreApart beside) talks (λ t x. λ same. absurd (not_same t x (sym (named (number_of o)) ∙ same))) all
-    where
-      gave : Among (number_of o) (badge_of p1).gave
-      gave = subst (λ (b : Badge). Among (number_of o) b.gave) (sym split.gave) (inl refl)
 
-      not_same : (t : Talk) → (t.client.session.client ≡ number_of p1) ⊎ ((m : ℕ) → Knows (badge_of p1) m → m < t.client.session.client) → number_of o ≡ t.client.session.client → ⊥
-      not_same t (inl is) same = let less : number_of p0 < number_of o = split.above (number_of p0) (inl refl) in omega (arith, less, same, is, number)
-      not_same t (inr less) same = let more : number_of o < t.client.session.client = less (number_of o) (inr gave) in omega (arith, more, same)
+  each_beside : (talks : List Talk) → AllByRecursion (λ (t : Talk). (t.client.session.client ≡ number_of p1) ⊎ ((m : ℕ) → Knows (badge_of p1) m → m < t.client.session.client)) talks
+      → AllByRecursion (λ (t : Talk). t.client.session.client ≡ beside.client.session.client → beside.client.session.client ≡ number_of p0) talks
+  each_beside talks all = all_map (λ (t : Talk). (t.client.session.client ≡ number_of p1) ⊎ ((m : ℕ) → Knows (badge_of p1) m → m < t.client.session.client))
+      (λ (t : Talk). t.client.session.client ≡ beside.client.session.client → beside.client.session.client ≡ number_of p0) talks (λ t x. λ same. absurd (not_same t x (sym (named (number_of o)) ∙ sym same))) all
 
   -- what the pass knew it knows after the split
   knows : (m : ℕ) → Knows (badge_of p0) m → Knows (badge_of p1) m
@@ -282,12 +294,13 @@ module _ (cutting : Cutting) (client : ℕ → Client) (named : (n : ℕ) → (c
           talks_later (seen_of p2) looks3.others (seen_of p3) (length (seen_of p0)) (length (seen_of p1)) r.talks looks3.is first_le r.legal,
         );
         apart = (apart_numbers r.talks r.above, r.apart);
-        no_fault = (s.session.no_fault calm, r.no_fault);
+        no_fault = (calm_windows 0 0 s.session.windows calm s.session.faults, r.no_fault);
         above = (
           inr (λ m k. subst (λ (z : ℕ). m < z) (sym (named (number_of o))) (split.above m k)),
           all_map (λ (t : Talk). (t.client.session.client ≡ number_of p1) ⊎ ((m : ℕ) → Knows (badge_of p1) m → m < t.client.session.client)) (λ (t : Talk). (t.client.session.client ≡ number_of p0) ⊎ ((m : ℕ) → Knows (badge_of p0) m → m < t.client.session.client)) r.talks
               (λ t x. ⊎_elim (λ (e : t.client.session.client ≡ number_of p1). inl (e ∙ number)) (λ (f : (m : ℕ) → Knows (badge_of p1) m → m < t.client.session.client). inr (λ m k. f m (knows m k))) x) r.above,
         );
+        one_each = (each_beside r.talks r.above, subst (λ (n : ℕ). OneTalkEach n r.talks) number r.one_each);
         own = own_beside;
         joined = λ m l a. joined_beside m l (among_either (joined_at m l) (badge_of p2).joined (joined_at (number_of o2) (length (seen_of o2)) ∷ (badge_of o2).joined) (subst (λ (b : Badge). Among (joined_at m l) b.joined) badge3 a));
       }
