@@ -161,6 +161,9 @@ module _ (cutting : Cutting) (client : ℕ → Client) (named : (n : ℕ) → (c
     first_goes_on = record { more = a.session.more; is = a.session.goes_on };
     blocks_go_on = record { more = r.more; is = r.goes_on };
     last_goes_on = record { more = end.more; is = end.goes_on };
+    first_within = a.session.legal;
+    clients_within = r.legal;
+    last_within = end.legal;
     without_blocks = r.without_blocks;
     first_alone = λ l served uncut. a.session.alone (record { more = a.session.more; is = a.session.goes_on; own = a.session.own sole }) l served uncut;
     block_alone = λ block met one_block one_reply l served uncut n. r.one_alone block met one_block one_reply (ap is_sole a.badge ∙ sole) (a.session.lawful l) served uncut n;

@@ -3,12 +3,13 @@
 --     IsBehind                a history goes on from another one
 --     IsRun                   the replies of all parts are legal in the one history
 use Rattle.std.specs.Prelude.{◌≡◌, ℕ, List, [], ◌∷◌, ◌++◌, length}
+use Rattle.std.specs.List.{AllByRecursion}
 use Rattle.bucket_core.specs.History.{History}
 use Rattle.store_model.specs.Law.{IsLawful}
 use Rattle.expr_clause.specs.declared.command.Command.{Command}
 use Rattle.reply_model.specs.declared.reply.Reply.{Reply}
 use Rattle.reply_model.specs.Windows.{Window, Client}
-use Rattle.reply_model.specs.Runs.{Talk, IsLegalRun}
+use Rattle.reply_model.specs.Runs.{Talk, IsLegalTalk, IsLegalRun}
 use Rattle.reply_model.specs.Blocks.{Cutting}
 use Rattle.reply_model.specs.Standing.{RunsAlone}
 use Rattle.client_sessions.specs.declared.parts.PartReplies.{PartReplies}
@@ -46,6 +47,10 @@ pub record IsRun (cutting : Cutting) (client : ℕ → Client) (own : ℕ) (part
   pub first_goes_on : IsBehind old behind_first
   pub blocks_go_on : IsBehind behind_first before_last
   pub last_goes_on : IsBehind before_last new
+  -- each part's windows lie in its own stretch of the history
+  pub first_within : IsLegalTalk behind_first (length old) (talk_of (client own) parts.first replies.first first)
+  pub clients_within : AllByRecursion (IsLegalTalk before_last (length behind_first)) clients
+  pub last_within : IsLegalTalk new (length before_last) (talk_of (client own) parts.last replies.last last)
   pub without_blocks : parts.blocks ≡ [] → before_last ≡ behind_first
   pub first_alone : IsLawful old → AreServed parts.first → AreUncut replies.first → RunsAlone cutting (client own).session parts.first replies.first old behind_first
   -- whatever the number of the block's client is
