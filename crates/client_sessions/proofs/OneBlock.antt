@@ -1,9 +1,8 @@
 -- One block alone: the other client's events are all that was added, and its replies are those of one client alone.
-use Rattle.std.proofs.Common.{◌≡◌, ◌≢◌, ℕ, suc, ◌<◌, ◌≤◌, true, false, List, [], ◌∷◌, ◌++◌, length, Option, Some, None, refl, sym, ap, ◌∙◌, subst, inl, inr, ⊎_elim, append_assoc, length-append, arith}
+use Rattle.std.proofs.Common.{◌≡◌, ℕ, suc, ◌<◌, true, false, List, [], ◌∷◌, ◌++◌, length, Option, Some, None, refl, sym, ap, ◌∙◌, subst, append_assoc, length-append, arith}
 use Rattle.std.specs.Prelude.{option_map, option_and_then}
 use Rattle.std.specs.List.{AllByRecursion}
 use Rattle.std.proofs.lemmas.Bool.{true≢false}
-use Rattle.turn_cell.specs.declared.badge.Badge.{Badge}
 use Rattle.turn_cell.specs.Badges.{Has, IsSole, Awaits}
 use Rattle.turn_cell.proofs.Sole.{awaits_none, sole_again}
 use Rattle.bucket_core.specs.declared.event.Event.{Event}
@@ -24,7 +23,7 @@ use Rattle.reply_model.specs.Sole.{Alone, step_alone, alone}
 use Rattle.reply_model.specs.Standing.{RunsTo, RunsAlone}
 use Rattle.reply_model.proofs.Covering.{event_at_later, event_at_end}
 use Rattle.library_api.specs.Steps.{is_told_alone}
-use Rattle.client_sessions.specs.Sessions.{IsSession, AreServed, AreUncut}
+use Rattle.client_sessions.specs.Sessions.{AreServed, AreUncut}
 use Rattle.client_sessions.specs.Blocks.{IsSessionOf}
 use Rattle.client_sessions.proofs.Events.{event_within}
 
