@@ -1,5 +1,5 @@
 -- The keys that the parts of a version keep.
-use Rattle.std.proofs.Common.{◌≡◌, ℕ, ℤ, List, [], ◌∷◌, ◌++◌, length, map, take, drop, refl, sym, ap, ◌∙◌, Option, Some, None}
+use Rattle.std.proofs.Common.{◌≡◌, ℕ, ℤ, List, [], ◌∷◌, ◌++◌, length, map, take, drop, refl, sym, ap, ◌∙◌, Some, None}
 use Rattle.std.proofs.Math.Seq.{take-append_seam, drop-append_seam}
 use Rattle.std.proofs.lemmas.List.{append-nil, map-append, take-map, drop-map}
 use Rattle.frame_core.specs.Ranges.{Range}
@@ -17,7 +17,7 @@ use Rattle.reply_model.specs.Standing.{base_rows, base_keys, rows_of_version}
 use Rattle.frame_write.specs.declared.pieces.Piece.TheVariants as pieces
 use Rattle.append_update.specs.Replacing.{appended}
 use Rattle.append_update.specs.RowBlocks.{kept_keys, KeepKeys}
-use Rattle.append_update.proofs.PieceBlocks.{kept_of, none_of}
+use Rattle.append_update.proofs.PieceBlocks.{none_of}
 
 -- ---- blocks told apart
 
