@@ -1,10 +1,11 @@
 -- The reply of an arm is the reply of the step.
 use Rattle.std.proofs.Common.{◌≡◌, ℕ, ℤ, Bool, true, ◌⊎◌, inl, inr, Result, Ok, List, length, refl, ap, sym, ◌∙◌, subst, Option, Some, map}
-use Rattle.std.specs.Prelude.{slice_get, unwrap_or, option_map}
+use Rattle.std.specs.Prelude.{slice_get, unwrap_or, option_map, is_some}
 use Rattle.std.proofs.lemmas.Bool.{true≢false}
 use Rattle.std.proofs.lemmas.Option.{slice_get-map}
 use Rattle.frame_core.specs.declared.raw.RawFrame.{RawFrame}
 use Rattle.frame_core.specs.declared.refusal.Refusal.{Refusal}
+use Rattle.frame_core.specs.Texts.{Text}
 use Rattle.frame_core.specs.Ranges.{Range}
 use Rattle.frame_core.specs.Frames.{Frame}
 use Rattle.frame_core.specs.RawFrames.{table_of, frame_of_table}
@@ -16,6 +17,7 @@ use Rattle.bucket_core.specs.History.{History}
 use Rattle.store_model.specs.Library.{State, first_of}
 use Rattle.store_model.specs.Snapshots.{Library}
 use Rattle.store_model.specs.Links.{links}
+use Rattle.expr_clause.specs.declared.command.AsOf.{AsOf}
 use Rattle.expr_clause.specs.declared.command.Command.{Command}
 use Rattle.expr_clause.specs.declared.command.Command.TheVariants as commands
 use Rattle.reply_model.specs.declared.reply.Reply.{Reply}
@@ -33,7 +35,7 @@ use Rattle.frame_write.specs.declared.options.Options.{Options}
 use Rattle.append_update.specs.Asking.{clear_answer}
 use Rattle.append_update.specs.RowBlocks.{run_cutting}
 use Rattle.library_api.specs.declared.settings.Settings.{Settings}
-use Rattle.library_api.specs.Steps.{is_carried_out, client_of, IsLegalIn, IsLegalForAll, IsLegalWithTries, IsIsolatedIn, LooksFirst, IsStepAlone}
+use Rattle.library_api.specs.Steps.{is_carried_out, frame_named, client_of, IsLegalIn, IsLegalForAll, IsLegalWithTries, IsIsolatedIn, LooksFirst, IsStepAlone}
 use Rattle.library_api.specs.Frames.{IsLegalForTable, IsLegalWithStamp, IsWrittenAlone, StandsBehindPuts, LaysDone, LaysForTable}
 use Rattle.library_api.proofs.LayLemmas.{IsDone, frame_lays, clear_lays}
 
@@ -91,9 +93,32 @@ served_or_reclaim (commands.Versions symbol) out = inl refl
 served_or_reclaim (commands.Keys symbol) out = inl refl
 served_or_reclaim (commands.Snapshot snap picks) out = absurd (true≢false (sym out))
 served_or_reclaim (commands.DeleteSnapshot snap) out = absurd (true≢false (sym out))
-served_or_reclaim commands.Symbols out = inl refl
-served_or_reclaim commands.Snapshots out = inl refl
+served_or_reclaim commands.Symbols out = absurd (true≢false (sym out))
+served_or_reclaim commands.Snapshots out = absurd (true≢false (sym out))
 served_or_reclaim (commands.Read symbol as_of range columns) out = inl refl
+
+-- a command that is carried out and is none of those without a frame brings one
+pub frame_brought : (command : Command) → is_carried_out command ≡ true → ((symbol : Name) (range : Range) (at : Option ℤ) (prune : Bool) → command ≡ commands.DeleteRange symbol range at prune → ⊥)
+    → ((symbol : Name) (as_of : AsOf) (range : Range) (columns : Option (List Text)) → command ≡ commands.Read symbol as_of range columns → ⊥) → ((symbol : Name) → command ≡ commands.Keys symbol → ⊥)
+    → ((symbol : Name) → command ≡ commands.Versions symbol → ⊥) → ((symbol : Name) (versions : Option (List ℕ)) → command ≡ commands.Delete symbol versions → ⊥) → ((symbol : Name) → command ≡ commands.Prune symbol → ⊥)
+    → ((symbol : Name) → command ≡ commands.Reclaim symbol → ⊥) → is_some (frame_named command) ≡ true
+frame_brought (commands.Write symbol frame at prune) out range read keys versions delete prunes reclaim = refl
+frame_brought (commands.Append symbol frame at prune) out range read keys versions delete prunes reclaim = refl
+frame_brought (commands.Update symbol frame within upsert at prune) out range read keys versions delete prunes reclaim = refl
+frame_brought (commands.DeleteRange symbol within at prune) out range read keys versions delete prunes reclaim = absurd (range symbol within at prune refl)
+frame_brought (commands.Stage symbol frame) out range read keys versions delete prunes reclaim = refl
+frame_brought (commands.Finalize symbol append sorted at prune) out range read keys versions delete prunes reclaim = absurd (true≢false (sym out))
+frame_brought (commands.Discard symbol) out range read keys versions delete prunes reclaim = absurd (true≢false (sym out))
+frame_brought (commands.Delete symbol numbers) out range read keys versions delete prunes reclaim = absurd (delete symbol numbers refl)
+frame_brought (commands.Prune symbol) out range read keys versions delete prunes reclaim = absurd (prunes symbol refl)
+frame_brought (commands.Reclaim symbol) out range read keys versions delete prunes reclaim = absurd (reclaim symbol refl)
+frame_brought (commands.Versions symbol) out range read keys versions delete prunes reclaim = absurd (versions symbol refl)
+frame_brought (commands.Keys symbol) out range read keys versions delete prunes reclaim = absurd (keys symbol refl)
+frame_brought (commands.Snapshot snap picks) out range read keys versions delete prunes reclaim = absurd (true≢false (sym out))
+frame_brought (commands.DeleteSnapshot snap) out range read keys versions delete prunes reclaim = absurd (true≢false (sym out))
+frame_brought commands.Symbols out range read keys versions delete prunes reclaim = absurd (true≢false (sym out))
+frame_brought commands.Snapshots out range read keys versions delete prunes reclaim = absurd (true≢false (sym out))
+frame_brought (commands.Read symbol as_of within columns) out range read keys versions delete prunes reclaim = absurd (read symbol as_of within columns refl)
 
 -- a command that is served is no reclaim
 pub no_reclaim : {P : Type 0} (command c : Command) (symbol : Name) → command ≡ c → is_served c ≡ true → command ≡ commands.Reclaim symbol → P

@@ -1,7 +1,7 @@
 use Rattle.std.proofs.Common.{option_copied, refl, sym, ap, ◌∙◌}
 use Rattle.expr_clause.specs.declared.command.Command.TheVariants as commands
 use Rattle.library_api.specs.Steps.{client_of}
-use Rattle.library_api.proofs.StepLemmas.{any_command, tried_command, stamped_command, none_lays, range_lays, no_reclaim}
+use Rattle.library_api.proofs.StepLemmas.{any_command, tried_command, stamped_command, none_lays, range_lays, no_reclaim, frame_brought}
 use Rattle.library_api.proofs.step.perform.Goals as goal
 
 pub returns-in-DeleteRange-clause-legal : goal.returns-in-DeleteRange-clause-legal
@@ -98,3 +98,11 @@ pub returns-in-Reclaim-clause-lays : goal.returns-in-Reclaim-clause-lays
 returns-in-Reclaim-clause-lays g c grows =
     none_lays c.args.settings (client_of c.args.frames.now c.args.settings (g.B.Bucket.number c.args.bucket.now) (g.B.Bucket.limit c.args.bucket.now)).session (g.B.Bucket.seen c.args.bucket.now) (g.B.Bucket.seen c.reclaim.new.bucket) c.args.command.now
     (commands.Reclaim c.in-Reclaim.symbol) c.reclaim.result c.in-Reclaim.is refl
+
+-- what is left brings a frame
+pub bring_frame-requires-clause-framed : goal.bring_frame-requires-clause-framed
+bring_frame-requires-clause-framed g c =
+    frame_brought c.args.command.now c.requires.served c.in_default.not-DeleteRange c.in_default.not-Read c.in_default.not-Keys c.in_default.not-Versions c.in_default.not-Delete c.in_default.not-Prune c.in_default.not-Reclaim
+
+pub returns-in_default-clause-looked : goal.returns-in_default-clause-looked
+returns-in_default-clause-looked g c = λ symbol reclaim. absurd (c.in_default.not-Reclaim symbol reclaim)
