@@ -26,7 +26,7 @@ use Rattle.frame_write.specs.Links.{FitsPlan}
 use Rattle.frame_write.specs.Tries.{Made}
 use Rattle.append_update.specs.declared.wish.Wish.{Wish}
 use Rattle.append_update.specs.declared.wish.Wish.TheVariants as wishes
-use Rattle.append_update.specs.RowBlocks.{run_cutting, AreParts, AreSmall, IsBuiltOn}
+use Rattle.append_update.specs.RowBlocks.{run_cutting, AreParts, KeepKeys, AreSmall, IsBuiltOn}
 
 -- the answer to a delete of a range: that to an update by no rows of the base's columns
 abbrev pub clear_answer : Range → Bool → ℤ → State → Result Answer Refusal
@@ -59,11 +59,13 @@ Declines symbol wish options h why = answer_to wish options.prune options.at (st
 abbrev pub Wants : Name → Wish → Options → History → Type 0
 Wants symbol wish options h = (c : Change) × (answer_to wish options.prune options.at (state_of h symbol) ≡ Ok (committed (state_of h symbol) options.prune c))
 
--- the plan may be tried in this history, in which the library answers its change; its pieces have the row blocks of the change
+-- the plan may be tried in this history, in which the library answers its change; its pieces have the row blocks of the change, with the keys
+-- that those keep
 pub record IsPlanOf (h : History) (symbol : Name) (options : Options) (answer : State → Result Answer Refusal) (plan : LinkPlan) : Type 0 where
   pub fits : FitsPlan h symbol options.at plan
   pub answered : answer (state_of h symbol) ≡ Ok (committed (state_of h symbol) options.prune plan.change)
   pub blocks : IsCutting options.cutting → AreSmall (run_cutting options.cutting) h symbol → AreParts (run_cutting options.cutting) plan.pieces (parts_laid (run_cutting options.cutting) h symbol plan.change)
+  pub keys : IsCutting options.cutting → AreSmall (run_cutting options.cutting) h symbol → KeepKeys (run_cutting options.cutting) h symbol plan.change plan.pieces
 
 -- the plan where there is no live version; none where the command wants one
 abbrev pub IsAlone : Wish → ℤ → Option LinkPlan → Type 0
