@@ -31,6 +31,7 @@ use Rattle.reply_model.specs.Keyed.{block_keys, IsKeyedPart}
 use Rattle.reply_model.specs.Standing.{GrowsAlone, row_sizes, IsCutBy, rows_of_version, base_rows, keys_of_version, base_keys, bare_block, part_rows, fresh_in, slices, parts_laid, IsLaid}
 use Rattle.reply_model.proofs.AloneWindows.{own_is_all, none_met, none_added}
 use Rattle.reply_model.proofs.LaidWrites.{link_with}
+use Rattle.reply_model.proofs.PartRows.{base_within}
 use Rattle.reply_model.proofs.Places.{none_of_reversed}
 use Rattle.frame_write.specs.declared.options.Options.{Options}
 use Rattle.frame_write.specs.declared.options.Committed.{Committed}
@@ -40,7 +41,8 @@ use Rattle.frame_write.proofs.MeetLemmas.{puts_refer_not}
 use Rattle.frame_write.proofs.NewestLinks.{commit_newest}
 use Rattle.append_update.specs.declared.wish.Wish.{Wish}
 use Rattle.append_update.specs.Asking.{answer_to, IsAnswered, Declines, Wants}
-use Rattle.append_update.specs.RowBlocks.{run_cutting, AreSmall, HavePartKeys, IsPutAs, IsBuiltOn, LaysAs}
+use Rattle.append_update.specs.RowBlocks.{AreSmall, HavePartKeys, IsPutAs, IsBuiltOn, LaysAs}
+use Rattle.reply_model.specs.Blocks.{run_cutting}
 use Rattle.append_update.proofs.AskedLemmas.{answer_staged}
 use Rattle.append_update.proofs.SameLinks.{links_unmoved}
 
@@ -72,21 +74,8 @@ none_tried client sole symbol old mid count r own =
 -- ---- the row blocks of the base
 
 -- they are small where those of all links are
-links_small : (most : ℕ) (ls : List Linked) (base : Option Version) → AllByRecursion (λ (l : Linked). AllByRecursion (λ n. n ≤ most) (row_sizes l.index.slots)) ls → AllByRecursion (λ n. n ≤ most) (rows_of_version ls base)
-links_small most ls None all = tt
-links_small most ls (Some v) all = found ls all
-  where
-    found : (xs : List Linked) → AllByRecursion (λ (l : Linked). AllByRecursion (λ n. n ≤ most) (row_sizes l.index.slots)) xs
-        → AllByRecursion (λ n. n ≤ most) (option_map_or (λ (l : Linked). row_sizes l.index.slots) (find (λ (l : Linked). nat_eq v.number l.row.version) xs) [])
-    found [] a = tt
-    found (x ∷ xs) a =
-        elim (nat_eq v.number x.row.version) as (λ t. AllByRecursion (λ n. n ≤ most) (option_map_or (λ (l : Linked). row_sizes l.index.slots) (cond t (Some x) (find (λ (l : Linked). nat_eq v.number l.row.version) xs)) [])) [
-          | true ↦ a.0
-          | false ↦ found xs a.1
-        ]
-
 pub base_small : (c : Cutting) (h : History) (symbol : Name) → IsCutBy c h → AreSmall c h symbol
-base_small c h symbol cut = links_small c.rows (links h symbol) (base_of (state_of h symbol)) (cut symbol)
+base_small c h symbol cut = base_within c.rows (links h symbol) (base_of (state_of h symbol)) (cut symbol)
 
 -- staged pieces make no tiles
 slices_staged : (c : Cutting) (st : State) (more : List Piece) (change : Change) → slices c (record st { staged = more }) change ≡ slices c st change

@@ -1,8 +1,7 @@
 -- The keys of the slots that are laid out of pieces: those that the pieces keep, and one for each part of a new row block.
 use Rattle.std.proofs.Common.{◌≡◌, ℕ, zero, suc, ◌+◌, ◌≤◌, true, List, [], ◌∷◌, ◌++◌, length, map, refl, sym, ap, ◌∙◌, subst, arith, Option, Some, None}
-use Rattle.std.specs.Prelude.{◌*◌, ◌/◌, ◌%◌, min, max}
+use Rattle.std.specs.Prelude.{◌*◌}
 use Rattle.std.specs.List.{flat_map, range_with_len, AllByRecursion, AllZip}
-use Rattle.std.specs.Int.{div_ceil}
 use Rattle.std.proofs.Math.Nat.{mul-le-mul}
 use Rattle.std.proofs.lemmas.Bool.{eq-eqb}
 use Rattle.std.proofs.lemmas.List.Concat.{flat_map-cons}
@@ -15,12 +14,13 @@ use Rattle.segment_cut.specs.Grids.{Grid, row_blocks, col_blocks, part_at, block
 use Rattle.index_tree.specs.declared.index.Slot.{Slot}
 use Rattle.key_kind.specs.declared.key.Key.{Key}
 use Rattle.key_kind.specs.Names.{Name}
-use Rattle.reply_model.specs.Blocks.{Cutting, Block, Part, shared, fresh, some_rows, block_sizes, tiles_across}
+use Rattle.reply_model.specs.Blocks.{Cutting, run_cutting, Block, Part, shared, fresh, block_sizes, tiles_across}
 use Rattle.reply_model.specs.Keyed.{begins_block, block_keys, IsKeyedPart}
+use Rattle.reply_model.proofs.GridCounts.{across_counted}
 use Rattle.frame_write.specs.declared.pieces.Piece.{Piece}
 use Rattle.frame_write.specs.declared.pieces.Piece.TheVariants as pieces
 use Rattle.frame_write.specs.Pieces.{begin_of, size_of, IsPiece, moved, fresh_slot, fresh_slots, laid}
-use Rattle.append_update.specs.RowBlocks.{run_cutting, keys_in, kept_keys}
+use Rattle.append_update.specs.RowBlocks.{keys_in, kept_keys}
 use Rattle.append_update.proofs.KeyedSlots.{begins-append, begins-moved, run_begins_block, block_keys-append, moved_keys, one_block, keys_for_rows}
 use Rattle.append_update.proofs.RowSizes.{new_rows}
 
@@ -110,14 +110,6 @@ both_kept slices [] ys [] more a b = b
 both_kept slices [] ys (keys ∷ blocks) more a b = absurd a
 both_kept slices (x ∷ xs) ys [] more a b = absurd a
 both_kept slices (x ∷ xs) ys (keys ∷ blocks) more a b = (a.0, both_kept slices xs ys blocks more a.1 b)
-
--- as many slices as a grid of so many columns has
-across_counted : (c : Cutting) (columns : ℕ) → tiles_across c columns ≡ max 1 (div_ceil columns c.columns)
-across_counted c columns = ap (λ k. max 1 (columns / c.columns + k)) (rest_counted (columns % c.columns))
-  where
-    rest_counted : (m : ℕ) → length (some_rows m) ≡ min 1 m
-    rest_counted zero = refl
-    rest_counted (suc n) = omega arith
 
 module _ (cutting : Sizes) (cut : IsCutting cutting) (client : ℕ) (symbol : Name) (version : ℕ) (schema : Schema) (slots : List Slot) where
   abbrev c : Cutting

@@ -31,7 +31,7 @@ use Rattle.append_update.specs.declared.wish.Wish.TheVariants as wishes
 use Rattle.append_update.specs.Asking.{answer_to, IsWish, IsPlanOf, IsAlone, why_missing}
 use Rattle.append_update.specs.Newest.{IsNewest, IsBaseAt}
 use Rattle.append_update.specs.Replacing.{appended}
-use Rattle.append_update.specs.RowBlocks.{run_cutting}
+use Rattle.reply_model.specs.Blocks.{run_cutting}
 use Rattle.append_update.specs.Sizes.{FitsBehind, text_total}
 use Rattle.append_update.proofs.FrameLemmas.{longest, longest-append, within_from, within_to, frame_within, text_total-append}
 use Rattle.append_update.proofs.AppendLemmas.{MayAppend, append_plan_fits, append_answers, append_alone}

@@ -30,7 +30,8 @@ use Rattle.append_update.specs.declared.pieces.Edges.{Edges}
 use Rattle.append_update.specs.Bases.{IsIndexOf, rows_of_slots, Divides}
 use Rattle.append_update.specs.Newest.{IsNewest}
 use Rattle.append_update.specs.Replacing.{fresh, replaced, AreEdges, left_rows}
-use Rattle.append_update.specs.RowBlocks.{run_cutting, new_blocks, AreParts, keys_in, kept_keys, KeepKeys, AreSmall}
+use Rattle.append_update.specs.RowBlocks.{new_blocks, AreParts, keys_in, kept_keys, KeepKeys, AreSmall}
+use Rattle.reply_model.specs.Blocks.{run_cutting}
 use Rattle.append_update.proofs.BlockParts.{rows_of, before_are, behind_are}
 use Rattle.append_update.proofs.CountLemmas.{cover_ends, slice_count, left_count}
 use Rattle.append_update.proofs.ListLemmas.{passing-le, take_all_of, drop_all_of}

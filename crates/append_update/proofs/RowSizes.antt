@@ -22,7 +22,8 @@ use Rattle.frame_write.specs.declared.pieces.Piece.{Piece}
 use Rattle.frame_write.specs.declared.pieces.Piece.TheVariants as pieces
 use Rattle.frame_write.specs.Pieces.{begin_of, size_of, IsPiece, moved, fresh_slot, fresh_slots, laid, new_tiles}
 use Rattle.append_update.specs.Replacing.{appended}
-use Rattle.append_update.specs.RowBlocks.{run_cutting, sizes_in, new_blocks, AreParts}
+use Rattle.append_update.specs.RowBlocks.{sizes_in, new_blocks, AreParts}
+use Rattle.reply_model.specs.Blocks.{run_cutting}
 use Rattle.append_update.proofs.SlotSizes.{begins, row_sizes-append, row_sizes-cons}
 
 -- ---- the rows of slots

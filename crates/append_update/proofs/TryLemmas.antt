@@ -38,7 +38,8 @@ use Rattle.append_update.specs.Asking.{answer_to, IsAnswered, Declines, Wants, I
 use Rattle.append_update.specs.Attempts.{DidAttempt}
 use Rattle.append_update.specs.Looking.{RefusesPlan}
 use Rattle.append_update.proofs.BaseLemmas.{walked_here, walk_wider}
-use Rattle.append_update.specs.RowBlocks.{run_cutting, kept_keys, AreSmall, HavePartKeys}
+use Rattle.append_update.specs.RowBlocks.{kept_keys, AreSmall, HavePartKeys}
+use Rattle.reply_model.specs.Blocks.{run_cutting}
 use Rattle.append_update.proofs.AskedLemmas.{answer_unmoved}
 use Rattle.append_update.proofs.MadeLemmas.{makes_version, try_on}
 use Rattle.append_update.proofs.LaidKeys.{HasKept, laid_keys, parts_keyed}

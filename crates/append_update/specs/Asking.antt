@@ -1,5 +1,5 @@
 -- What a command asks of the newest live version of its symbol.
---     clear_answer, answer_to      what the one-thread library answers
+--     answer_to           what the one-thread library answers
 --     IsWish              when a command may ask so
 --     IsAnswered, Declines, Wants      a commit that makes what is asked; a refusal; a history in which there is a version to make
 --     IsPlanOf            a plan of what is asked
@@ -16,8 +16,8 @@ use Rattle.bucket_core.specs.declared.event.Change.{Change}
 use Rattle.bucket_core.specs.declared.event.Change.TheVariants as changes
 use Rattle.bucket_core.specs.History.{History}
 use Rattle.store_model.specs.Library.{State, state_of}
-use Rattle.reply_model.specs.Answering.{Answer, ◌then◌, committed, pruned, base_or}
-use Rattle.reply_model.specs.CommitAnswers.{append_answer, update_answer, outside}
+use Rattle.reply_model.specs.Answering.{Answer, committed, pruned}
+use Rattle.reply_model.specs.CommitAnswers.{append_answer, update_answer, clear_answer, outside}
 use Rattle.reply_model.specs.Standing.{parts_laid}
 use Rattle.frame_write.specs.declared.options.Options.{Options}
 use Rattle.frame_write.specs.declared.pieces.LinkPlan.{LinkPlan}
@@ -26,11 +26,8 @@ use Rattle.frame_write.specs.Links.{FitsPlan}
 use Rattle.frame_write.specs.Tries.{Made}
 use Rattle.append_update.specs.declared.wish.Wish.{Wish}
 use Rattle.append_update.specs.declared.wish.Wish.TheVariants as wishes
-use Rattle.append_update.specs.RowBlocks.{run_cutting, AreParts, KeepKeys, AreSmall, IsBuiltOn}
-
--- the answer to a delete of a range: that to an update by no rows of the base's columns
-abbrev pub clear_answer : Range → Bool → ℤ → State → Result Answer Refusal
-clear_answer range prune at st = base_or st then λ v. update_answer st false prune at (Some range) (record v.frame { rows = [] })
+use Rattle.append_update.specs.RowBlocks.{AreParts, KeepKeys, AreSmall, IsBuiltOn}
+use Rattle.reply_model.specs.Blocks.{run_cutting}
 
 -- the answer in a state of the symbol
 abbrev pub answer_to : Wish → Bool → ℤ → State → Result Answer Refusal

@@ -1,5 +1,4 @@
 -- The row blocks of the version that a commit makes.
---     run_cutting         a cutting, as a run of one client alone has it
 --     sizes_in, new_blocks      the rows of the row blocks of pieces; how many of them are new
 --     AreParts            pieces that have the row blocks of these parts
 --     keys_in, kept_keys, KeepKeys      the keys that the row blocks of pieces keep: those that the parts of the version keep
@@ -20,17 +19,13 @@ use Rattle.store_model.specs.Commits.{is_version}
 use Rattle.store_model.specs.Library.{State, state_of, base_of}
 use Rattle.reply_model.specs.declared.outcome.Outcome.{Outcome}
 use Rattle.reply_model.specs.Answering.{Answer}
-use Rattle.reply_model.specs.Blocks.{Cutting, Block, Part, shared, fresh, block_sizes, parts_of}
+use Rattle.reply_model.specs.Blocks.{Cutting, run_cutting, Block, Part, shared, fresh, block_sizes, parts_of}
 use Rattle.reply_model.specs.Keyed.{block_keys, IsKeyedPart}
 use Rattle.reply_model.specs.Standing.{row_sizes, base_rows, base_keys, part_rows, fresh_in, slices, parts_laid, IsLaid}
 use Rattle.frame_write.specs.declared.pieces.Piece.{Piece}
 use Rattle.frame_write.specs.declared.pieces.Piece.TheVariants as pieces
 use Rattle.frame_write.specs.Plans.{IsUnmoved}
 use Rattle.frame_write.specs.Tries.{Made}
-
--- the cutting, as a run of one client alone has it
-abbrev pub run_cutting : Sizes → Cutting
-run_cutting c = record { rows = c.rows; columns = c.cols }
 
 -- the rows of the row blocks of pieces
 abbrev pub sizes_in : Cutting → List Piece → List ℕ

@@ -1,7 +1,7 @@
 ghost use Rattle.std.specs.Prelude.{◌≡◌, true, length, reverse, IfOk, OnErr};
 ghost use Rattle.std.specs.List.{AllByRecursion};
 ghost use Rattle.library_api.specs.Libraries.{AreSettings};
-ghost use Rattle.library_api.specs.Steps.{run_cutting};
+ghost use Rattle.reply_model.specs.Blocks.{run_cutting};
 ghost use Rattle.client_sessions.specs.Blocks.{clients_of};
 ghost use Rattle.client_sessions.specs.Sessions.{AreNamed};
 ghost use Rattle.client_sessions.specs.Parts.{IsRun};

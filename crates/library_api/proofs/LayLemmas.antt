@@ -26,8 +26,9 @@ use Rattle.reply_model.specs.Standing.{IsLaid, LaysOut}
 use Rattle.reply_model.proofs.Isolated.{some_answer}
 use Rattle.frame_write.specs.declared.options.Committed.{Committed}
 use Rattle.frame_write.specs.Writes.{reply_to}
-use Rattle.append_update.specs.Asking.{clear_answer}
-use Rattle.append_update.specs.RowBlocks.{run_cutting, LaysAs}
+use Rattle.reply_model.specs.CommitAnswers.{clear_answer}
+use Rattle.append_update.specs.RowBlocks.{LaysAs}
+use Rattle.reply_model.specs.Blocks.{run_cutting}
 use Rattle.append_update.proofs.AloneLemmas.{base_small}
 use Rattle.library_api.specs.Steps.{refusal_reply}
 use Rattle.library_api.specs.Frames.{LaysDone, LaysForTable}

@@ -32,8 +32,8 @@ use Rattle.reply_model.proofs.GridCounts.{write_is_laid}
 use Rattle.reply_model.proofs.LaidWrites.{link_with, write_lays_out, makes_none, none_lays_out}
 use Rattle.version_chain.specs.Traces.{GoesOn}
 use Rattle.frame_write.specs.declared.options.Options.{Options}
-use Rattle.append_update.specs.Asking.{clear_answer}
-use Rattle.append_update.specs.RowBlocks.{run_cutting}
+use Rattle.reply_model.specs.CommitAnswers.{clear_answer}
+use Rattle.reply_model.specs.Blocks.{run_cutting}
 use Rattle.library_api.specs.declared.settings.Settings.{Settings}
 use Rattle.library_api.specs.Steps.{is_carried_out, frame_named, client_of, IsLegalIn, IsLegalForAll, IsLegalWithTries, IsIsolatedIn, LooksFirst, IsStepAlone}
 use Rattle.library_api.specs.Frames.{IsLegalForTable, IsLegalWithStamp, IsWrittenAlone, StandsBehindPuts, LaysDone, LaysForTable}

@@ -25,7 +25,7 @@ use Rattle.reply_model.specs.Windows.{Client, is_cut, is_refused}
 use Rattle.reply_model.specs.Runs.{IsIsolated}
 use Rattle.reply_model.specs.Standing.{GrowsAlone, IsStep}
 use Rattle.reply_model.specs.Legal.{IsLegalReply}
-pub use Rattle.append_update.specs.RowBlocks.{run_cutting}
+use Rattle.reply_model.specs.Blocks.{run_cutting}
 use Rattle.library_api.specs.declared.settings.Settings.{Settings}
 
 -- ---- commands

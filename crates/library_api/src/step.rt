@@ -5,7 +5,7 @@ ghost use Rattle.key_kind.specs.Names.{Name as NameBytes};
 ghost use Rattle.bucket_core.specs.Calls.{IsSteady};
 ghost use Rattle.version_chain.specs.Traces.{GoesOn};
 ghost use Rattle.reply_model.specs.Standing.{GrowsAlone, LaysOut};
-ghost use Rattle.append_update.specs.RowBlocks.{run_cutting};
+ghost use Rattle.reply_model.specs.Blocks.{run_cutting};
 ghost use Rattle.library_api.specs.Libraries.{AreSettings};
 ghost use Rattle.library_api.specs.Steps.{is_carried_out, frame_named, IsNamed, client_of, IsLegalIn, LooksFirst};
 
