@@ -2,12 +2,13 @@
 use Rattle.std.proofs.Common.{◌≡◌, ℕ, suc, ◌+◌, ◌≤◌, Bool, true, false, List, [], ◌∷◌, ◌++◌, length, map, refl, sym, ap, ◌∙◌, subst, arith, cond, Option, Some, None, Result, Ok, Err, length-append}
 use Rattle.std.specs.Prelude.{◌*◌, reverse, find, nat_eq, IfOk}
 use Rattle.std.specs.Option.{option_map_or}
-use Rattle.std.specs.List.{list_any, flat_map, AllByRecursion}
+use Rattle.std.specs.List.{list_any, flat_map, AllByRecursion, AllZip}
 use Rattle.std.proofs.lemmas.List.{length-map, length-reverse}
 use mathlib.Core.Logic.{∥∥₁_map}
 use Rattle.frame_core.specs.declared.refusal.Refusal.{Refusal}
 use Rattle.frame_core.specs.declared.refusal.Refused.{Refused}
 use Rattle.segment_cut.specs.Cuttings.{IsCutting}
+use Rattle.index_tree.specs.declared.index.Slot.{Slot}
 use Rattle.index_tree.specs.declared.index.Index.{Index}
 use Rattle.key_kind.specs.Names.{Name}
 use Rattle.bucket_core.specs.declared.event.Change.{Change}
@@ -26,9 +27,11 @@ use Rattle.reply_model.specs.declared.outcome.Outcome.{Outcome}
 use Rattle.reply_model.specs.Tries.{put_of}
 use Rattle.reply_model.specs.Answering.{Answer, pruned}
 use Rattle.reply_model.specs.Blocks.{Cutting, parts_of}
-use Rattle.reply_model.specs.Standing.{GrowsAlone, row_sizes, IsCutBy, rows_of_version, base_rows, bare_block, part_rows, fresh_in, slices, parts_laid, IsLaid}
+use Rattle.reply_model.specs.Keyed.{block_keys, IsKeyedPart}
+use Rattle.reply_model.specs.Standing.{GrowsAlone, row_sizes, IsCutBy, rows_of_version, base_rows, keys_of_version, base_keys, bare_block, part_rows, fresh_in, slices, parts_laid, IsLaid}
 use Rattle.reply_model.proofs.AloneWindows.{own_is_all, none_met, none_added}
 use Rattle.reply_model.proofs.LaidWrites.{link_with}
+use Rattle.reply_model.proofs.PartRows.{base_within}
 use Rattle.reply_model.proofs.Places.{none_of_reversed}
 use Rattle.frame_write.specs.declared.options.Options.{Options}
 use Rattle.frame_write.specs.declared.options.Committed.{Committed}
@@ -38,7 +41,8 @@ use Rattle.frame_write.proofs.MeetLemmas.{puts_refer_not}
 use Rattle.frame_write.proofs.NewestLinks.{commit_newest}
 use Rattle.append_update.specs.declared.wish.Wish.{Wish}
 use Rattle.append_update.specs.Asking.{answer_to, IsAnswered, Declines, Wants}
-use Rattle.append_update.specs.RowBlocks.{run_cutting, AreSmall, IsPutAs, IsBuiltOn, LaysAs}
+use Rattle.append_update.specs.RowBlocks.{AreSmall, HavePartKeys, IsPutAs, IsBuiltOn, LaysAs}
+use Rattle.reply_model.specs.Blocks.{run_cutting}
 use Rattle.append_update.proofs.AskedLemmas.{answer_staged}
 use Rattle.append_update.proofs.SameLinks.{links_unmoved}
 
@@ -69,19 +73,9 @@ none_tried client sole symbol old mid count r own =
 
 -- ---- the row blocks of the base
 
--- they are small where all are
-base_small : (most : ℕ) (ls : List Linked) (base : Option Version) → AllByRecursion (λ (l : Linked). AllByRecursion (λ n. n ≤ most) (row_sizes l.index.slots)) ls → AllByRecursion (λ n. n ≤ most) (rows_of_version ls base)
-base_small most ls None all = tt
-base_small most ls (Some v) all = found ls all
-  where
-    found : (xs : List Linked) → AllByRecursion (λ (l : Linked). AllByRecursion (λ n. n ≤ most) (row_sizes l.index.slots)) xs
-        → AllByRecursion (λ n. n ≤ most) (option_map_or (λ (l : Linked). row_sizes l.index.slots) (find (λ (l : Linked). nat_eq v.number l.row.version) xs) [])
-    found [] a = tt
-    found (x ∷ xs) a =
-        elim (nat_eq v.number x.row.version) as (λ t. AllByRecursion (λ n. n ≤ most) (option_map_or (λ (l : Linked). row_sizes l.index.slots) (cond t (Some x) (find (λ (l : Linked). nat_eq v.number l.row.version) xs)) [])) [
-          | true ↦ a.0
-          | false ↦ found xs a.1
-        ]
+-- they are small where those of all links are
+pub base_small : (c : Cutting) (h : History) (symbol : Name) → IsCutBy c h → AreSmall c h symbol
+base_small c h symbol cut = base_within c.rows (links h symbol) (base_of (state_of h symbol)) (cut symbol)
 
 -- staged pieces make no tiles
 slices_staged : (c : Cutting) (st : State) (more : List Piece) (change : Change) → slices c (record st { staged = more }) change ≡ slices c st change
@@ -149,6 +143,9 @@ module _ (client : ℕ) (sole : Bool) (symbol : Name) (wish : Wish) (options : O
   rows_same : base_rows old symbol ≡ base_rows built.walked symbol
   rows_same = ap (λ ls. rows_of_version ls (base_of (state_of old symbol))) links_same ∙ ap (rows_of_version (links built.walked symbol)) base_same
 
+  keys_same : base_keys old symbol ≡ base_keys built.walked symbol
+  keys_same = ap (λ ls. keys_of_version ls (base_of (state_of old symbol))) links_same ∙ ap (keys_of_version (links built.walked symbol)) base_same
+
   parts_same : (change : Change) → parts_laid c built.walked symbol change ≡ parts_laid c old symbol change
   parts_same change =
       ap (λ v. parts_of c v (map bare_block (base_rows built.walked symbol)) change) (sym base_same) ∙ ap (λ ns. parts_of c (base_of (state_of old symbol)) (map bare_block ns) change) (sym rows_same)
@@ -158,13 +155,16 @@ module _ (client : ℕ) (sole : Bool) (symbol : Name) (wish : Wish) (options : O
       sym (slices_staged c (state_of built.walked symbol) (built.unmoved.more ++ (state_of built.walked symbol).staged) change)
       ∙ (ap (λ st. slices c st change) (sym built.unmoved.is ∙ same.state_is) ∙ slices_staged c (state_of old symbol) (same.more ++ (state_of old symbol).staged) change)
 
-  small : IsCutBy c old → AreSmall c built.walked symbol
-  small all = subst (AllByRecursion (λ n. n ≤ c.rows)) rows_same (base_small c.rows (links old symbol) (base_of (state_of old symbol)) (all symbol))
+  -- so are the keys of the parts
+  part_keys_same : (change : Change) (slots : List Slot) → HavePartKeys c built.walked symbol change slots → HavePartKeys c old symbol change slots
+  part_keys_same change slots have blocks names rows_is names_is =
+      subst (λ n. AllZip (IsKeyedPart names n) (parts_of c (base_of (state_of old symbol)) blocks change) (block_keys slots)) (slices_same change)
+      (subst (λ v. AllZip (IsKeyedPart names (slices c (state_of built.walked symbol) change)) (parts_of c v blocks change) (block_keys slots)) (sym base_same) (have blocks names (rows_is ∙ rows_same) (names_is ∙ keys_same)))
 
-  laid : IsCutBy c old → IsLaid c symbol d.last.asked.change done.place old new
-  laid all =
+  laid : AreSmall c old symbol → IsLaid c symbol d.last.asked.change done.place old new
+  laid small =
       let change = d.last.asked.change in
-      let put : IsPutAs c built.walked symbol change d.last.made = built.put cut (small all) in
+      let put : IsPutAs c built.walked symbol change d.last.made = built.put cut (subst (AllByRecursion (λ n. n ≤ c.rows)) rows_same small) in
       let newest = commit_newest client sole symbol (IsAnswered symbol wish options) d.mid new done d.last change (pruned (state_of d.last.made.before symbol) options.prune) d.last.asked.list built.version lawful in
       let link = link_with (first_of (links new symbol)) d.last.made.index newest in
       let tiles : fresh_in (parts_laid c built.walked symbol change) * slices c (state_of built.walked symbol) change ≡ fresh_in (parts_laid c old symbol change) * slices c (state_of old symbol) change =
@@ -177,6 +177,7 @@ module _ (client : ℕ) (sole : Bool) (symbol : Name) (wish : Wish) (options : O
         link = link.0;
         newest = link.1;
         rows = ap (λ (i : Index). row_sizes i.slots) link.2 ∙ (put.rows ∙ ap (map part_rows) (parts_same change));
+        keys = part_keys_same change link.0.index.slots (subst (λ (i : Index). HavePartKeys c built.walked symbol change i.slots) (sym link.2) put.keys);
       }
 
   -- the change is the one that the library answers
@@ -187,8 +188,8 @@ module _ (client : ℕ) (sole : Bool) (symbol : Name) (wish : Wish) (options : O
       first_same (ap (λ (a : Answer). a.marks) (ok_same (sym d.last.asked.answered ∙ (here ∙ e))))
 
   pub commit_lays : (answer : State → Result Answer Refusal) → ((st : State) → answer st ≡ answer_to wish options.prune options.at st) → LaysAs c symbol answer done.place old new
-  commit_lays answer same_as all change rest outcome e =
-      subst (λ x. IsLaid c symbol x done.place old new) (change_is change rest outcome (sym (same_as (state_of old symbol)) ∙ e)) (laid all)
+  commit_lays answer same_as small change rest outcome e =
+      subst (λ x. IsLaid c symbol x done.place old new) (change_is change rest outcome (sym (same_as (state_of old symbol)) ∙ e)) (laid small)
 
 -- a commit of all tries
 pub tries_lay : (client : ℕ) (sole : Bool) (symbol : Name) (wish : Wish) (options : Options) (limit before now : ℕ) (old new : History) (r : Result Committed Refused) → IsCutting options.cutting → ∥ IsLawful new ∥₁ → GrowsAlone client old new

@@ -1,8 +1,8 @@
 -- What a range leaves of row blocks: whole blocks, and a new one of the rows that are left of the block that it cuts.
-use Rattle.std.proofs.Common.{◌≡◌, ℕ, zero, suc, ◌+◌, ◌-◌, ◌≤◌, Bool, true, false, List, [], ◌∷◌, ◌++◌, map, refl, sym, ap, ◌∙◌, subst, arith, cond}
+use Rattle.std.proofs.Common.{◌≡◌, ℕ, suc, ◌+◌, ◌-◌, ◌≤◌, Bool, true, false, List, [], ◌∷◌, ◌++◌, map, refl, sym, ap, ◌∙◌, arith, cond}
 use Rattle.std.specs.Prelude.{nat_le}
 use Rattle.reply_model.specs.Blocks.{Block, Part, shared, fresh, some_rows, parts_before, parts_behind}
-use Rattle.append_update.proofs.PartLists.{total, HaveRows, IsCut, Begin}
+use Rattle.append_update.proofs.BlockSizes.{total, HaveRows, IsCut, Begin}
 
 -- the rows of blocks
 abbrev pub rows_of : List Block → List ℕ

@@ -1,12 +1,36 @@
 -- The keys of the row blocks of slots, one behind the other.
-use Rattle.std.proofs.Common.{◌≡◌, ℕ, suc, ◌+◌, ◌≤◌, Bool, true, false, List, [], ◌∷◌, ◌++◌, map, length, refl, sym, ap, ◌∙◌, subst, arith, cond}
+use Rattle.std.proofs.Common.{◌≡◌, ℕ, zero, suc, ◌≤◌, true, false, List, [], ◌∷◌, ◌++◌, map, length, take, refl, sym, ap, ◌∙◌, arith, cond}
 use Rattle.std.specs.Prelude.{nat_eq}
 use Rattle.std.specs.List.{AllByRecursion}
 use Rattle.std.proofs.lemmas.Bool.{eq-eqb, ne_eqb}
 use Rattle.index_tree.specs.declared.index.Slot.{Slot}
 use Rattle.key_kind.specs.declared.key.Key.{Key}
 use Rattle.reply_model.specs.Keyed.{with_key, begins_block, block_keys}
-use Rattle.frame_write.specs.Pieces.{moved}
+use Rattle.reply_model.specs.Standing.{row_sizes}
+use Rattle.frame_write.specs.Pieces.{IsRun, moved}
+use Rattle.append_update.proofs.SlotSizes.{begins, row_sizes-cons}
+
+-- ---- where row blocks begin
+
+pub begins-append : (xs ys : List Slot) → begins_block xs ≡ true → begins_block ys ≡ true → begins_block (xs ++ ys) ≡ true
+begins-append [] ys first later = later
+begins-append (x ∷ xs) ys first later = first
+
+pub begins-take : (n : ℕ) (slots : List Slot) → begins_block slots ≡ true → begins_block (take n slots) ≡ true
+begins-take zero slots first = refl
+begins-take (suc n) [] first = refl
+begins-take (suc n) (s ∷ slots) first = first
+
+pub begins-moved : (from to : ℕ) (run : List Slot) → begins_block run ≡ true → begins_block (map (moved from to) run) ≡ true
+begins-moved from to [] first = refl
+begins-moved from to (s ∷ run) first = first
+
+-- a run begins with one
+pub run_begins_block : (columns : ℕ) (run : List Slot) → IsRun columns run → begins_block run ≡ true
+run_begins_block columns [] run = refl
+run_begins_block columns (s ∷ more) run = eq-eqb s.part.first_col 0 run.0
+
+-- ---- keys
 
 -- a slot has a row block
 some_keys : (s : Slot) (slots : List Slot) → (keys : List Key) × (more : List (List Key)) × (block_keys (s ∷ slots) ≡ keys ∷ more)
@@ -46,3 +70,23 @@ one_block x [] ys behind begins = ap (λ b. cond b ((x.key ∷ []) ∷ block_key
 one_block x (z ∷ xs) ys behind begins =
     ap (λ b. cond b ((x.key ∷ []) ∷ block_keys (z ∷ (xs ++ ys))) (with_key x.key (block_keys (z ∷ (xs ++ ys))))) (ne_eqb z.part.first_col 0 (λ e. omega (arith, behind.0, e)))
     ∙ ap (with_key x.key) (one_block z xs ys behind.1 begins)
+
+-- ---- as many row blocks have keys as have rows
+
+same_many : (key : Key) (blocks : List (List Key)) (keys : List Key) (more : List (List Key)) → blocks ≡ keys ∷ more → length (with_key key blocks) ≡ length blocks
+same_many key blocks keys more is = ap (λ l. length (with_key key l)) is ∙ sym (ap length is)
+
+blocks_from : (s : Slot) (slots : List Slot) → length (block_keys (s ∷ slots)) ≡ suc (length (row_sizes slots))
+blocks_from s [] = refl
+blocks_from s (z ∷ slots) =
+    let some = some_keys z slots in
+    let rest = blocks_from z slots in
+    elim (begins z) as (λ b. length (cond b ((s.key ∷ []) ∷ block_keys (z ∷ slots)) (with_key s.key (block_keys (z ∷ slots)))) ≡ suc (length (cond b (z.part.rows ∷ row_sizes slots) (row_sizes slots)))) [
+      | true ↦ ap suc rest
+      | false ↦ same_many s.key (block_keys (z ∷ slots)) some.0 some.1 some.2 ∙ rest
+    ] ∙ ap (λ ns. suc (length ns)) (sym (row_sizes-cons z slots))
+
+pub keys_for_rows : (slots : List Slot) → begins_block slots ≡ true → length (block_keys slots) ≡ length (row_sizes slots)
+keys_for_rows [] first = refl
+keys_for_rows (s ∷ slots) first =
+    blocks_from s slots ∙ (ap (λ b. length (cond b (s.part.rows ∷ row_sizes slots) (row_sizes slots))) (sym first) ∙ ap length (sym (row_sizes-cons s slots)))

@@ -6,10 +6,15 @@ pub mod FrameLemmas
 pub mod ReplaceLemmas
 pub mod ToldLemmas
 pub mod SameLinks
-pub mod PartLists
+pub mod BlockSizes
+pub mod BlockParts
 pub mod SlotSizes
+pub mod KeyedSlots
 pub mod RangeCounts
 pub mod RowSizes
+pub mod LaidKeys
+pub mod PieceBlocks
+pub mod PartKeys
 pub mod ReplacedParts
 pub mod MadeLemmas
 pub mod AloneLemmas

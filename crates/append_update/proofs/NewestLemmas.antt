@@ -28,7 +28,8 @@ use Rattle.store_model.proofs.Referring.{at_symbol}
 use Rattle.store_model.proofs.Lists.{contains_first, contains_later}
 use Rattle.version_chain.specs.declared.state.SymbolState.{SymbolState}
 use Rattle.version_chain.specs.States.{is_tomb, newest_link, IsStateOf}
-use Rattle.reply_model.specs.Standing.{row_sizes, rows_of_version, base_rows}
+use Rattle.reply_model.specs.Keyed.{block_keys}
+use Rattle.reply_model.specs.Standing.{row_sizes, rows_of_version, base_rows, keys_of_version, base_keys}
 use Rattle.frame_read.proofs.StampLemmas.{IsStamped, lawful_is_stamped}
 use Rattle.append_update.specs.Newest.{IsNewest}
 use Rattle.append_update.proofs.ToldLemmas.{Told, told_prop, told_all, storable_told, stamps_told}
@@ -173,13 +174,21 @@ newest_found h symbol state is o e =
 pub no_newest : (h : History) (symbol : Name) (state : SymbolState) → ∥ IsLawful h ∥₁ → IsStateOf h symbol state → newest_link state ≡ None → base_of (state_of h symbol) ≡ None
 no_newest h symbol state lawful is e = none_live (state_of h symbol).buried (links h symbol) (state_of h symbol).versions (lawful_is_paired h symbol lawful) (newest_found h symbol state is None e)
 
--- the base's rows are those of the index of its link
-base_has : (h : History) (symbol : Name) (v : Version) (link : Linked) (index : Index) → base_of (state_of h symbol) ≡ Some v → link.row.version ≡ v.number
-    → find (λ (l : Linked). nat_eq link.row.version l.row.version) (links h symbol) ≡ Some link → link.index ≡ index → base_rows h symbol ≡ row_sizes index.slots
-base_has h symbol v link index is number found index_is =
-    ap (rows_of_version (links h symbol)) is
-    ∙ (ap (λ n. option_map_or (λ (l : Linked). row_sizes l.index.slots) (find (λ (l : Linked). nat_eq n l.row.version) (links h symbol)) []) (sym number)
-    ∙ (ap (λ o. option_map_or (λ (l : Linked). row_sizes l.index.slots) o []) found ∙ ap (λ (i : Index). row_sizes i.slots) index_is))
+-- what the index of the base's link tells
+module _ (h : History) (symbol : Name) (v : Version) (link : Linked) (index : Index) (is : base_of (state_of h symbol) ≡ Some v) (number : link.row.version ≡ v.number)
+    (found : find (λ (l : Linked). nat_eq link.row.version l.row.version) (links h symbol) ≡ Some link) (index_is : link.index ≡ index) where
+  told_of_base : {X : Type 0} (f : Index → List X) → option_map_or (λ (l : Linked). f l.index) (find (λ (l : Linked). nat_eq v.number l.row.version) (links h symbol)) [] ≡ f index
+  told_of_base f =
+      ap (λ n. option_map_or (λ (l : Linked). f l.index) (find (λ (l : Linked). nat_eq n l.row.version) (links h symbol)) []) (sym number)
+      ∙ (ap (λ o. option_map_or (λ (l : Linked). f l.index) o []) found ∙ ap f index_is)
+
+  -- the rows of the base's row blocks
+  base_has : base_rows h symbol ≡ row_sizes index.slots
+  base_has = ap (rows_of_version (links h symbol)) is ∙ told_of_base (λ i. row_sizes i.slots)
+
+  -- and their keys
+  base_keeps : base_keys h symbol ≡ block_keys index.slots
+  base_keeps = ap (keys_of_version (links h symbol)) is ∙ told_of_base (λ i. block_keys i.slots)
 
 -- and with one, whose index was put under its key
 pub newest_is : (h : History) (symbol : Name) (state : SymbolState) (row : LinkRow) (index : Index) → ∥ IsLawful h ∥₁ → IsStateOf h symbol state → newest_link state ≡ Some row
@@ -187,7 +196,10 @@ pub newest_is : (h : History) (symbol : Name) (state : SymbolState) (row : LinkR
 newest_is h symbol state row index lawful is e rules same =
     let found = first_live (state_of h symbol).buried (links h symbol) (state_of h symbol).versions (lawful_is_paired h symbol lawful) row (newest_found h symbol state is (Some row) e) in
     let index_is : found.link.index ≡ index = same found.link found.link_is found.row_is in
-    let v = found.version in (
+    let v = found.version in
+    let number : found.link.row.version ≡ v.number = nat_told found.link.row.version v.number (∥∥₁_map found.pair (λ p. p.link.number)) in
+    let link_is : find (λ (l : Linked). nat_eq found.link.row.version l.row.version) (links h symbol) ≡ Some found.link =
+    subst (λ n. find (λ (l : Linked). nat_eq n l.row.version) (links h symbol) ≡ Some found.link) (ap (λ (r : LinkRow). r.version) (sym found.row_is)) found.found in (
       v,
       record {
         is = found.first;
@@ -200,9 +212,10 @@ newest_is h symbol state row index lawful is e rules same =
         };
         link = found.link;
         link_is = found.link_is;
-        number = nat_told found.link.row.version v.number (∥∥₁_map found.pair (λ p. p.link.number));
+        number = number;
         index_is = index_is;
-        rows_are = base_has h symbol v found.link index found.first (nat_told found.link.row.version v.number (∥∥₁_map found.pair (λ p. p.link.number))) (subst (λ n. find (λ (l : Linked). nat_eq n l.row.version) (links h symbol) ≡ Some found.link) (ap (λ (r : LinkRow). r.version) (sym found.row_is)) found.found) index_is;
+        rows_are = base_has h symbol v found.link index found.first number link_is index_is;
+        keys_are = base_keeps h symbol v found.link index found.first number link_is index_is;
         tiled = ∥∥₁_map found.pair (λ p. p.link.assembled);
       },
     )

@@ -31,13 +31,14 @@ use Rattle.append_update.specs.declared.wish.Wish.TheVariants as wishes
 use Rattle.append_update.specs.Asking.{answer_to, IsWish, IsPlanOf, IsAlone, why_missing}
 use Rattle.append_update.specs.Newest.{IsNewest, IsBaseAt}
 use Rattle.append_update.specs.Replacing.{appended}
-use Rattle.append_update.specs.RowBlocks.{run_cutting}
+use Rattle.reply_model.specs.Blocks.{run_cutting}
 use Rattle.append_update.specs.Sizes.{FitsBehind, text_total}
 use Rattle.append_update.proofs.FrameLemmas.{longest, longest-append, within_from, within_to, frame_within, text_total-append}
 use Rattle.append_update.proofs.AppendLemmas.{MayAppend, append_plan_fits, append_answers, append_alone}
 use Rattle.append_update.proofs.UpdateAnswers.{upsert_alone, update_unreferred, update_unlinked}
 use Rattle.append_update.proofs.BaseLemmas.{walked_here}
 use Rattle.append_update.proofs.RowSizes.{appended_parts, appended_alone, updated_alone}
+use Rattle.append_update.proofs.PartKeys.{appended_keep, appended_alone_keep, updated_alone_keep}
 
 -- ---- how large
 
@@ -119,6 +120,7 @@ append_alone_is h symbol options frame f none = record {
   fits = alone_fits h symbol options.at frame (changes.Appended frame options.at) (ap (λ (o : Option Version). Some (version_of (state_of h symbol) options.at (on_base (λ old new. old ++ new) o frame))) none) tt f;
   answered = append_alone (state_of h symbol) options.prune options.at frame none;
   blocks = λ cut small. appended_alone (run_cutting options.cutting) h symbol none frame options.at;
+  keys = λ cut small. appended_alone_keep (run_cutting options.cutting) h symbol none frame options.at;
 }
 
 -- ---- over the base
@@ -131,6 +133,7 @@ append_over_is h symbol options v base frame plan n f may is =
       fits = append_plan_fits h symbol options.at v base.index frame n f may;
       answered = append_answers (state_of h symbol) options.prune options.at frame v n.is may;
       blocks = λ cut small. appended_parts (run_cutting options.cutting) h symbol base.index.slots frame options.at n.rows_are;
+      keys = λ cut small. appended_keep (run_cutting options.cutting) h symbol base.index.slots frame options.at n.keys_are;
     })
 
 -- ---- the base of a walked state
@@ -176,6 +179,7 @@ module _ (h : History) (symbol : Name) (state : SymbolState) (walked : IsStateOf
       fits = alone_fits h symbol options.at frame (changes.Updated frame range options.at) (ap (λ (o : Option Version). Some (version_of (state_of h symbol) options.at (on_base (λ old new. replace_range range new old) o frame))) none) order f;
       answered = upsert_alone (state_of h symbol) true options.prune options.at (Some range) frame range (inside_range range frame inside) refl none;
       blocks = λ cut small. updated_alone (run_cutting options.cutting) h symbol none frame range options.at;
+      keys = λ cut small. updated_alone_keep (run_cutting options.cutting) h symbol none frame range options.at;
     })
 
     missing_alone : update_answer (state_of h symbol) false options.prune options.at (Some range) frame ≡ Err (why_missing (is_some state.was))

@@ -27,7 +27,7 @@ use Rattle.append_update.specs.Newest.{IsNewest}
 use Rattle.append_update.specs.Replacing.{replaced, AreEdges}
 use Rattle.append_update.proofs.PlanLemmas.{inside_range}
 use Rattle.append_update.proofs.UpdateAnswers.{MayReplace, update_plan_fits, update_answers}
-use Rattle.append_update.proofs.ReplacedParts.{replaced_parts}
+use Rattle.append_update.proofs.ReplacedParts.{replaced_parts, replaced_keep}
 
 -- the plan of the pieces makes the version
 pub replace_over_is : (h : History) (symbol : Name) (options : Options) (v : Version) (base : Base) (range : Range) (cuts : Cuts) (edges : Edges) (frame : Frame) (plan : LinkPlan) → IsNewest h symbol v base.index → Divides range base.index.slots cuts
@@ -39,6 +39,7 @@ replace_over_is h symbol options v base range cuts edges frame plan n divides ar
       fits = update_plan_fits h symbol options.at v base.index range cuts edges frame n divides are f may;
       answered = update_answers (state_of h symbol) upsert options.prune options.at (Some range) frame range (inside_range range frame inside) v n.is may;
       blocks = λ cut small. replaced_parts options.cutting cut h symbol v base.index range cuts edges frame options.at n may.order divides are small;
+      keys = λ cut small. replaced_keep options.cutting cut h symbol v base.index range cuts edges frame options.at n may.order divides are small;
     })
 
 -- ---- a version is made behind a reference
@@ -74,7 +75,7 @@ module _ (h : History) (symbol : Name) (options : Options) (v : Version) (is : b
   -- so are its plans
   pub clear_plans : (r : Result LinkPlan Refused) → IfOk r (IsPlanOf h symbol options (λ st. update_answer st false options.prune options.at (Some range) (record v.frame { rows = [] })))
       → IfOk r (IsPlanOf h symbol options (answer_to (wishes.Clear range) options.prune options.at))
-  clear_plans (Ok plan) p = record { fits = p.fits; answered = clear_answer ∙ p.answered; blocks = p.blocks }
+  clear_plans (Ok plan) p = record { fits = p.fits; answered = clear_answer ∙ p.answered; blocks = p.blocks; keys = p.keys }
   clear_plans (Err refused) p = tt
 
   -- and its refusals

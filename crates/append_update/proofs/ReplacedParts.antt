@@ -1,11 +1,10 @@
 -- The pieces of an update have the row blocks of the parts that its change makes of the base's.
 use Rattle.std.proofs.Common.{◌≡◌, ℕ, zero, suc, ◌+◌, ◌-◌, ◌≤◌, ℤ, Bool, true, false, not, List, [], ◌∷◌, ◌++◌, length, map, take, drop, refl, sym, ap, ◌∙◌, subst, arith, cond, Option, Some, None, length-append}
-use Rattle.std.specs.Prelude.{◌%◌, replicate, slice_range}
+use Rattle.std.specs.Prelude.{slice_range}
 use Rattle.std.specs.List.{AllByRecursion}
-use Rattle.std.proofs.Math.Nat.{div-eq_of_lt, mod-eq_of_lt}
 use Rattle.std.proofs.lemmas.Bool.{true≢false}
 use Rattle.std.proofs.lemmas.Int.{ints}
-use Rattle.std.proofs.lemmas.List.{take-append-drop, append-nil, append_assoc, map-append}
+use Rattle.std.proofs.lemmas.List.{take-append-drop}
 use Rattle.std.proofs.lemmas.List.Sums.{length-filter, count_by-le-length}
 use Rattle.frame_core.specs.Ranges.{Range, IsRange, InOrder, is_below, is_above}
 use Rattle.frame_core.specs.Frames.{Row, Frame, NeverFall, stamps_of, first_stamp, last_stamp, rows_below, rows_above, rows_between}
@@ -13,13 +12,15 @@ use Rattle.segment_cut.specs.Cuttings.{Cutting as Sizes, IsCutting}
 use Rattle.index_tree.specs.declared.index.Slot.{Slot}
 use Rattle.index_tree.specs.declared.index.Index.{Index}
 use Rattle.index_tree.specs.IndexRules.{IsSlot, Cover}
+use Rattle.key_kind.specs.declared.key.Key.{Key}
 use Rattle.key_kind.specs.Names.{Name}
 use Rattle.bucket_core.specs.declared.event.Change.TheVariants as changes
 use Rattle.bucket_core.specs.History.{History}
 use Rattle.store_model.specs.Commits.{HasSlotStamps}
 use Rattle.store_model.specs.Library.{Version}
-use Rattle.reply_model.specs.Blocks.{Cutting, Part, shared, some_rows, block_sizes, cut_rows, parts_before, parts_behind, parts_replaced, parts_of}
+use Rattle.reply_model.specs.Blocks.{Cutting, Block, Part, shared, some_rows, block_sizes, cut_rows, parts_before, parts_behind, parts_replaced, parts_of}
 use Rattle.reply_model.specs.Blocks as blocks
+use Rattle.reply_model.specs.Keyed.{begins_block, block_keys}
 use Rattle.reply_model.specs.Standing.{row_sizes, base_rows, bare_block, part_rows, fresh_in, parts_laid}
 use Rattle.frame_write.specs.declared.pieces.Piece.{Piece}
 use Rattle.frame_write.specs.declared.pieces.Piece.TheVariants as pieces
@@ -29,22 +30,22 @@ use Rattle.append_update.specs.declared.pieces.Edges.{Edges}
 use Rattle.append_update.specs.Bases.{IsIndexOf, rows_of_slots, Divides}
 use Rattle.append_update.specs.Newest.{IsNewest}
 use Rattle.append_update.specs.Replacing.{fresh, replaced, AreEdges, left_rows}
-use Rattle.append_update.specs.RowBlocks.{run_cutting, sizes_in, new_blocks, AreParts, AreSmall}
+use Rattle.append_update.specs.RowBlocks.{new_blocks, AreParts, keys_in, kept_keys, KeepKeys, AreSmall}
+use Rattle.reply_model.specs.Blocks.{run_cutting}
+use Rattle.append_update.proofs.BlockParts.{rows_of, before_are, behind_are}
 use Rattle.append_update.proofs.CountLemmas.{cover_ends, slice_count, left_count}
 use Rattle.append_update.proofs.ListLemmas.{passing-le, take_all_of, drop_all_of}
-use Rattle.append_update.proofs.PartLists.{total, total-append, HaveRows, Has, IsCut, Begin, before_parts, behind_parts, cut_few, behind_few}
+use Rattle.append_update.proofs.BlockSizes.{total, total-append, HaveRows, IsCut, Begin, cut_few, behind_few}
+use Rattle.append_update.proofs.KeyedSlots.{begins-take, run_begins_block, block_keys-append, keys_for_rows}
+use Rattle.append_update.proofs.PartKeys.{front_has, back_has, kept_shared, kept_fresh}
+use Rattle.append_update.proofs.PieceBlocks.{five, five_mapped, five_same, small_block, replaced_told, sizes_told, kept_of, none_of, keys_told}
 use Rattle.append_update.proofs.RangeCounts.{both_counted, few_below, few_above}
-use Rattle.append_update.proofs.ReplaceLemmas.{cover, below_rows, above_rows, run_behind, behind_fail, reached_pass, run_reached}
+use Rattle.append_update.proofs.ReplaceLemmas.{cover, below_rows, above_rows, last_run, run_behind, behind_fail, reached_pass, run_reached}
 use Rattle.append_update.proofs.RowSizes.{fresh_all, rows_fresh}
+use Rattle.append_update.proofs.SlotLemmas.{cover_is_run}
 use Rattle.append_update.proofs.SlotSizes.{begins, row_sizes-append, row_sizes-cons, at_begin, sizes_all, cover_total, cover_at, run_begins}
 
 -- ---- lists
-
-sizes_in-append : (c : Cutting) (xs ys : List Piece) → sizes_in c (xs ++ ys) ≡ sizes_in c xs ++ sizes_in c ys
-sizes_in-append c [] ys = refl
-sizes_in-append c (pieces.Shared run ∷ xs) ys = ap (λ ns. row_sizes run ++ ns) (sizes_in-append c xs ys) ∙ sym (append_assoc (row_sizes run) (sizes_in c xs) (sizes_in c ys))
-sizes_in-append c (pieces.Fresh frame ∷ xs) ys =
-    ap (λ ns. block_sizes c (length frame.rows) ++ ns) (sizes_in-append c xs ys) ∙ sym (append_assoc (block_sizes c (length frame.rows)) (sizes_in c xs) (sizes_in c ys))
 
 new_blocks-append : (c : Cutting) (xs ys : List Piece) → new_blocks c (xs ++ ys) ≡ new_blocks c xs + new_blocks c ys
 new_blocks-append c [] ys = omega arith
@@ -56,20 +57,23 @@ fresh_in-append [] ys = omega arith
 fresh_in-append (blocks.shared x ∷ xs) ys = fresh_in-append xs ys
 fresh_in-append (blocks.fresh n ∷ xs) ys = omega (arith, fresh_in-append xs ys)
 
+fresh_none : (xs : List Block) → fresh_in (map shared xs) ≡ 0
+fresh_none [] = refl
+fresh_none (x ∷ xs) = fresh_none xs
+
+shared_rows : (xs : List Block) → map part_rows (map shared xs) ≡ rows_of xs
+shared_rows [] = refl
+shared_rows (x ∷ xs) = ap (λ ns. x.rows ∷ ns) (shared_rows xs)
+
+bare_rows : (rows : List ℕ) → rows_of (map bare_block rows) ≡ rows
+bare_rows [] = refl
+bare_rows (n ∷ rows) = ap (λ ns. n ∷ ns) (bare_rows rows)
+
 parts_of_all : (P : ℕ → Type 0) (xs ys : List ℕ) → AllByRecursion P (xs ++ ys) → AllByRecursion P xs × AllByRecursion P ys
 parts_of_all P [] ys all = (tt, all)
 parts_of_all P (x ∷ xs) ys all = let parts = parts_of_all P xs ys all.1 in ((all.0, parts.0), parts.1)
 
 -- ---- a block of which rows are left
-
--- rows that make no full block make one
-small_block : (c : Cutting) (rows : ℕ) → suc rows ≤ c.rows → block_sizes c rows ≡ some_rows rows
-small_block c rows less =
-    ap (λ q. replicate q c.rows ++ some_rows (rows % c.rows)) (div-eq_of_lt less) ∙ ap some_rows (mod-eq_of_lt less)
-
-edge_sizes : (c : Cutting) (o : Option Frame) → suc (left_rows o) ≤ c.rows → sizes_in c (fresh o) ≡ some_rows (left_rows o)
-edge_sizes c None less = refl
-edge_sizes c (Some f) less = append-nil (block_sizes c (length f.rows)) ∙ small_block c (length f.rows) less
 
 edge_blocks : (c : Cutting) (o : Option Frame) → suc (left_rows o) ≤ c.rows → new_blocks c (fresh o) ≡ length (some_rows (left_rows o))
 edge_blocks c None less = refl
@@ -121,6 +125,13 @@ module _ (base : Frame) (index : Index) (of : IsIndexOf base index) (range : Ran
   in_two : (k : ℕ) → row_sizes slots ≡ row_sizes (take k slots) ++ row_sizes (drop k slots)
   in_two k = ap row_sizes (sym (take-append-drop k slots)) ∙ row_sizes-append (take k slots) (drop k slots)
 
+  keys_in_two : (k : ℕ) → begins_block (drop k slots) ≡ true → block_keys slots ≡ block_keys (take k slots) ++ block_keys (drop k slots)
+  keys_in_two k begins = ap block_keys (sym (take-append-drop k slots)) ∙ block_keys-append (take k slots) (drop k slots) begins
+
+  -- the first slots have as many row blocks with keys as with rows
+  first_many : (k : ℕ) → length (block_keys (take k slots)) ≡ length (row_sizes (take k slots))
+  first_many k = keys_for_rows (take k slots) (begins-take k slots (run_begins_block columns slots (cover_is_run (length base.rows) columns slots covers)))
+
   all_rows : (k : ℕ) → total (row_sizes (take k slots)) + total (row_sizes (drop k slots)) ≡ length base.rows
   all_rows k =
       sym (total-append (row_sizes (take k slots)) (row_sizes (drop k slots))) ∙ (ap total (sym (in_two k)) ∙ cover_total columns (length base.rows) slots of.rules.each covers)
@@ -156,7 +167,7 @@ module _ (base : Frame) (index : Index) (of : IsIndexOf base index) (range : Ran
       each [] = tt
       each (r ∷ rows) = (below_by range order r.stamp, each rows)
 
-  module _ (cuts : Cuts) (divides : Divides range slots cuts) (edges : Edges) (are : AreEdges base range slots cuts edges) where
+  module _ (cuts : Cuts) (divides : Divides range slots cuts) (edges : Edges) (are_edges : AreEdges base range slots cuts edges) where
     abbrev whole_below : List ℕ
     whole_below = row_sizes (take cuts.below slots)
 
@@ -174,16 +185,16 @@ module _ (base : Frame) (index : Index) (of : IsIndexOf base index) (range : Ran
     below_is =
         let first : List Row = rows_of_slots base (take cuts.below slots) in
         let cut : List Row = rows_below range (rows_of_slots base (slice_range slots cuts.below cuts.begun)) in
-        let whole : length (rows_below range base.rows) ≡ length (first ++ cut) = ap length (below_rows base index of range cuts divides edges are base) in
-        omega (arith, length-filter (λ (r : Row). is_below range r.stamp) base.rows, whole, length-append first cut, counted (take cuts.below slots) (take_all_of Ends cuts.below slots ends), left_count base cut edges.below are.below)
+        let whole : length (rows_below range base.rows) ≡ length (first ++ cut) = ap length (below_rows base index of range cuts divides edges are_edges base) in
+        omega (arith, length-filter (λ (r : Row). is_below range r.stamp) base.rows, whole, length-append first cut, counted (take cuts.below slots) (take_all_of Ends cuts.below slots ends), left_count base cut edges.below are_edges.below)
 
     -- those up to the range's end are those of the blocks that begin in it or below, but for the edge
     above_is : total up_to_reached ≡ up_to + left_rows edges.above
     above_is =
         let last : List Row = rows_of_slots base (drop cuts.reached slots) in
         let cut : List Row = rows_above range (rows_of_slots base (slice_range slots cuts.ended cuts.reached)) in
-        let whole : length (rows_above range base.rows) ≡ length (cut ++ last) = ap length (above_rows base index of range cuts divides edges are base) in
-        omega (arith, both_counted (λ (r : Row). is_above range r.stamp) base.rows, whole, length-append cut last, counted (drop cuts.reached slots) (drop_all_of Ends cuts.reached slots ends), left_count base cut edges.above are.above, all_rows cuts.reached)
+        let whole : length (rows_above range base.rows) ≡ length (cut ++ last) = ap length (above_rows base index of range cuts divides edges are_edges base) in
+        omega (arith, both_counted (λ (r : Row). is_above range r.stamp) base.rows, whole, length-append cut last, counted (drop cuts.reached slots) (drop_all_of Ends cuts.reached slots ends), left_count base cut edges.above are_edges.above, all_rows cuts.reached)
 
     -- the edge has not all rows of the block behind the whole ones
     cut_is : IsCut (left_rows edges.below) behind_below
@@ -230,20 +241,19 @@ module _ (base : Frame) (index : Index) (of : IsIndexOf base index) (range : Ran
         by (suc n) (s ∷ xs) each covered run all =
             run_begins columns (end_of (s ∷ take n xs)) up_to s (take n xs) (each.0, take_all_of (IsSlot columns) n xs each.1) covered.0 run.0 run.1 all
 
-    -- the pieces have the row blocks
+    -- the row blocks that a range leaves
     module _ (cutting : Sizes) (cut : IsCutting cutting) (order : IsRange range) (small : AllByRecursion (λ n. n ≤ cutting.rows) (row_sizes slots)) (frame : Frame) where
       abbrev c : Cutting
       c = run_cutting cutting
 
-      before : Has (parts_before low up_to 0 (map bare_block (row_sizes slots))) (whole_below ++ some_rows (left_rows edges.below)) (length (some_rows (left_rows edges.below)))
-      before =
-          subst (λ ns. Has (parts_before low up_to 0 (map bare_block ns)) (whole_below ++ some_rows (left_rows edges.below)) (length (some_rows (left_rows edges.below)))) (sym (in_two cuts.below))
-          (before_parts low up_to (left_rows edges.below) 0 whole_below behind_below (have_rows (drop cuts.below slots) (drop_all_of (IsSlot columns) cuts.below slots of.rules.each)) (omega (arith, below_is)) (few order) cut_is)
+      abbrev left_below : List ℕ
+      left_below = some_rows (left_rows edges.below)
 
-      behind : Has (parts_behind low up_to 0 (map bare_block (row_sizes slots))) (some_rows (left_rows edges.above) ++ whole_above) (length (some_rows (left_rows edges.above)))
-      behind =
-          subst (λ ns. Has (parts_behind low up_to 0 (map bare_block ns)) (some_rows (left_rows edges.above) ++ whole_above) (length (some_rows (left_rows edges.above)))) (sym (in_two cuts.reached))
-          (behind_parts low up_to (left_rows edges.above) up_to_reached whole_above (have_rows (drop cuts.reached slots) (drop_all_of (IsSlot columns) cuts.reached slots of.rules.each)) above_is (few order) begin_is)
+      abbrev left_above : List ℕ
+      left_above = some_rows (left_rows edges.above)
+
+      abbrev new_sizes : List ℕ
+      new_sizes = block_sizes c (length frame.rows)
 
       few_below_left : suc (left_rows edges.below) ≤ c.rows
       few_below_left = cut_few (left_rows edges.below) c.rows behind_below cut_is (parts_of_all (λ n. n ≤ c.rows) whole_below behind_below (subst (AllByRecursion (λ n. n ≤ c.rows)) (in_two cuts.below) small)).1 cut.some_rows
@@ -252,55 +262,109 @@ module _ (base : Frame) (index : Index) (of : IsIndexOf base index) (range : Ran
       few_above_left =
           behind_few up_to (left_rows edges.above) c.rows up_to_reached above_is begin_is (parts_of_all (λ n. n ≤ c.rows) up_to_reached whole_above (subst (AllByRecursion (λ n. n ≤ c.rows)) (in_two cuts.reached) small)).0 cut.some_rows
 
-      abbrev new_sizes : List ℕ
-      new_sizes = block_sizes c (length frame.rows)
+      -- of the base's, however they are told apart: whole ones below, what is left of one, new ones, what is left of another, and whole ones above
+      module _ (list : List Block) (rows_are : rows_of list ≡ row_sizes slots) where
+        abbrev front : List Block
+        front = take (length whole_below) list
 
-      abbrev tail : List Piece
-      tail = fresh edges.above ++ (pieces.Shared (drop cuts.reached slots) ∷ [])
+        abbrev back : List Block
+        back = drop (length up_to_reached) list
 
-      tail_sizes : sizes_in c tail ≡ some_rows (left_rows edges.above) ++ whole_above
-      tail_sizes =
-          sizes_in-append c (fresh edges.above) (pieces.Shared (drop cuts.reached slots) ∷ [])
-          ∙ (ap (λ ns. ns ++ (whole_above ++ [])) (edge_sizes c edges.above few_above_left) ∙ ap (λ ns. some_rows (left_rows edges.above) ++ ns) (append-nil whole_above))
+        front_rows : rows_of front ≡ whole_below
+        front_rows = front_has (λ (x : Block). x.rows) (length whole_below) list whole_below behind_below refl (rows_are ∙ in_two cuts.below)
 
-      sizes_are : sizes_in c (replaced slots cuts edges frame) ≡ ((whole_below ++ some_rows (left_rows edges.below)) ++ new_sizes) ++ (some_rows (left_rows edges.above) ++ whole_above)
-      sizes_are =
-          let last : List ℕ = some_rows (left_rows edges.above) ++ whole_above in
-          let cut_rows : List ℕ = some_rows (left_rows edges.below) in
-          ap (λ ns. whole_below ++ ns) (sizes_in-append c (fresh edges.below) (pieces.Fresh frame ∷ tail)
-          ∙ (ap (λ ns. ns ++ (new_sizes ++ sizes_in c tail)) (edge_sizes c edges.below few_below_left) ∙ ap (λ ns. cut_rows ++ (new_sizes ++ ns)) tail_sizes))
-          ∙ (sym (append_assoc whole_below cut_rows (new_sizes ++ last)) ∙ sym (append_assoc (whole_below ++ cut_rows) new_sizes last))
+        behind_rows : rows_of (drop (length whole_below) list) ≡ behind_below
+        behind_rows = back_has (λ (x : Block). x.rows) (length whole_below) list whole_below behind_below refl (rows_are ∙ in_two cuts.below)
 
+        reached_rows : rows_of (take (length up_to_reached) list) ≡ up_to_reached
+        reached_rows = front_has (λ (x : Block). x.rows) (length up_to_reached) list up_to_reached whole_above refl (rows_are ∙ in_two cuts.reached)
+
+        back_rows : rows_of back ≡ whole_above
+        back_rows = back_has (λ (x : Block). x.rows) (length up_to_reached) list up_to_reached whole_above refl (rows_are ∙ in_two cuts.reached)
+
+        before : parts_before low up_to 0 list ≡ map shared front ++ map blocks.fresh left_below
+        before =
+            let none : 0 + total whole_below + left_rows edges.below ≡ low = omega (arith, below_is) in
+            ap (parts_before low up_to 0) (sym (take-append-drop (length whole_below) list))
+            ∙ before_are low up_to (left_rows edges.below) 0 front (drop (length whole_below) list) (subst HaveRows (sym behind_rows) (have_rows (drop cuts.below slots) (drop_all_of (IsSlot columns) cuts.below slots of.rules.each)))
+            (subst (λ ns. 0 + total ns + left_rows edges.below ≡ low) (sym front_rows) none) (few order) (subst (IsCut (left_rows edges.below)) (sym behind_rows) cut_is)
+
+        behind : parts_behind low up_to 0 list ≡ map blocks.fresh left_above ++ map shared back
+        behind =
+            ap (parts_behind low up_to 0) (sym (take-append-drop (length up_to_reached) list))
+            ∙ behind_are low up_to (left_rows edges.above) (take (length up_to_reached) list) back (subst HaveRows (sym back_rows) (have_rows (drop cuts.reached slots) (drop_all_of (IsSlot columns) cuts.reached slots of.rules.each)))
+            (ap total reached_rows ∙ above_is) (few order) (subst (Begin up_to 0) (sym reached_rows) begin_is)
+
+        parts_are : parts_replaced c (rows_between range base) (length frame.rows) list ≡ five (map shared front) (map blocks.fresh left_below) (map blocks.fresh new_sizes) (map blocks.fresh left_above) (map shared back)
+        parts_are =
+            ap (λ ps. (ps ++ cut_rows c (length frame.rows)) ++ parts_behind low up_to 0 list) before
+            ∙ ap (λ ps. ((map shared front ++ map blocks.fresh left_below) ++ map blocks.fresh new_sizes) ++ ps) behind
+
+        told : {X : Type 0} (f : Part → X) → map f (parts_replaced c (rows_between range base) (length frame.rows) list)
+            ≡ five (map f (map shared front)) (map f (map blocks.fresh left_below)) (map f (map blocks.fresh new_sizes)) (map f (map blocks.fresh left_above)) (map f (map shared back))
+        told f = ap (map f) parts_are ∙ five_mapped f (map shared front) (map blocks.fresh left_below) (map blocks.fresh new_sizes) (map blocks.fresh left_above) (map shared back)
+
+      -- the pieces have their rows
       pub pieces_are : AreParts c (replaced slots cuts edges frame) (parts_replaced c (rows_between range base) (length frame.rows) (map bare_block (row_sizes slots)))
       pieces_are =
-          let first : List Part = parts_before low up_to 0 (map bare_block (row_sizes slots)) in
-          let mid : List Part = cut_rows c (length frame.rows) in
-          let last : List Part = parts_behind low up_to 0 (map bare_block (row_sizes slots)) in
+          let list : List Block = map bare_block (row_sizes slots) in
+          let are : rows_of list ≡ row_sizes slots = bare_rows (row_sizes slots) in
+          let first : List Part = map shared (front list are) ++ map blocks.fresh left_below in
+          let last : List Part = map blocks.fresh left_above ++ map shared (back list are) in
           record {
-            rows = sizes_are
-                ∙ sym (map-append part_rows (first ++ mid) last
-                ∙ (ap (λ ns. ns ++ map part_rows last) (map-append part_rows first mid ∙ (ap (λ ns. ns ++ map part_rows mid) before.rows_are ∙ ap (λ ns. (whole_below ++ some_rows (left_rows edges.below)) ++ ns) (rows_fresh new_sizes)))
-                ∙ ap (λ ns. ((whole_below ++ some_rows (left_rows edges.below)) ++ new_sizes) ++ ns) behind.rows_are));
+            rows = sizes_told c (replaced slots cuts edges frame)
+                ∙ (replaced_told row_sizes (λ sizes. sizes) c refl slots cuts edges frame few_below_left few_above_left
+                ∙ sym (told list are part_rows
+                ∙ five_same _ _ _ _ _ whole_below left_below new_sizes left_above whole_above (shared_rows (front list are) ∙ front_rows list are) (rows_fresh left_below) (rows_fresh new_sizes) (rows_fresh left_above) (shared_rows (back list are) ∙ back_rows list are)));
             fresh = omega (
               arith,
-              new_blocks-append c (fresh edges.below) (pieces.Fresh frame ∷ tail),
+              new_blocks-append c (fresh edges.below) (pieces.Fresh frame ∷ fresh edges.above ++ (pieces.Shared (drop cuts.reached slots) ∷ [])),
               edge_blocks c edges.below few_below_left,
               new_blocks-append c (fresh edges.above) (pieces.Shared (drop cuts.reached slots) ∷ []),
               edge_blocks c edges.above few_above_left,
-              fresh_in-append (first ++ mid) last,
-              fresh_in-append first mid,
-              before.new_are,
-              behind.new_are,
+              ap fresh_in (parts_are list are),
+              fresh_in-append (first ++ map blocks.fresh new_sizes) last,
+              fresh_in-append first (map blocks.fresh new_sizes),
+              fresh_in-append (map shared (front list are)) (map blocks.fresh left_below),
+              fresh_in-append (map blocks.fresh left_above) (map shared (back list are)),
+              fresh_none (front list are),
+              fresh_none (back list are),
+              fresh_all left_below,
               fresh_all new_sizes,
+              fresh_all left_above,
             );
           }
 
--- the parts of an update of the newest live version
-pub replaced_parts : (cutting : Sizes) → IsCutting cutting → (h : History) (symbol : Name) (v : Version) (index : Index) (range : Range) (cuts : Cuts) (edges : Edges) (frame : Frame) (at : ℤ) → IsNewest h symbol v index → IsRange range
-    → Divides range index.slots cuts → AreEdges v.frame range index.slots cuts edges → AreSmall (run_cutting cutting) h symbol
-    → AreParts (run_cutting cutting) (replaced index.slots cuts edges frame) (parts_laid (run_cutting cutting) h symbol (changes.Updated frame range at))
-replaced_parts cutting cut h symbol v index range cuts edges frame at n order divides are small =
-    let c = run_cutting cutting in
-    subst (AreParts c (replaced index.slots cuts edges frame))
-    (ap (λ ns. parts_of c (Some v) (map bare_block ns) (changes.Updated frame range at)) (sym n.rows_are) ∙ ap (λ o. parts_of c o (map bare_block (base_rows h symbol)) (changes.Updated frame range at)) (sym n.is))
-    (pieces_are v.frame index n.index_of range cuts divides edges are cutting cut order (subst (AllByRecursion (λ n. n ≤ cutting.rows)) n.rows_are small) frame)
+      -- and keep their keys
+      pub pieces_keep : (list : List Block) (names : Block → List Key) → rows_of list ≡ row_sizes slots → map names list ≡ block_keys slots
+          → keys_in c (replaced slots cuts edges frame) ≡ map (kept_keys names) (parts_replaced c (rows_between range base) (length frame.rows) list)
+      pieces_keep list names are keys_are =
+          let first = take cuts.below slots in
+          let last = drop cuts.reached slots in
+          let front_keys : map names (front list are) ≡ block_keys first =
+          front_has names (length whole_below) list (block_keys first) (block_keys (drop cuts.below slots)) (first_many cuts.below) (keys_are ∙ keys_in_two cuts.below (run_begins_block columns (drop cuts.below slots) (subst (λ n. IsRun columns (drop n slots)) (sym divides.below) (run_behind base index of range)))) in
+          let back_keys : map names (back list are) ≡ block_keys last =
+          back_has names (length up_to_reached) list (block_keys (take cuts.reached slots)) (block_keys last) (first_many cuts.reached) (keys_are ∙ keys_in_two cuts.reached (run_begins_block columns last (last_run base index of range cuts divides edges are_edges frame))) in
+          keys_told c (replaced slots cuts edges frame)
+          ∙ (replaced_told kept_of none_of c refl slots cuts edges frame few_below_left few_above_left
+          ∙ sym (told list are (kept_keys names)
+          ∙ five_same _ _ _ _ _ (kept_of first) (none_of left_below) (none_of new_sizes) (none_of left_above) (kept_of last) (kept_shared names (front list are) ∙ ap (map (λ keys. Some keys)) front_keys) (kept_fresh names left_below)
+          (kept_fresh names new_sizes) (kept_fresh names left_above) (kept_shared names (back list are) ∙ ap (map (λ keys. Some keys)) back_keys)))
+
+-- of an update of the newest live version
+module _ (cutting : Sizes) (cut : IsCutting cutting) (h : History) (symbol : Name) (v : Version) (index : Index) (range : Range) (cuts : Cuts) (edges : Edges) (frame : Frame) (at : ℤ) (n : IsNewest h symbol v index) (order : IsRange range)
+    (divides : Divides range index.slots cuts) (are : AreEdges v.frame range index.slots cuts edges) (small : AreSmall (run_cutting cutting) h symbol) where
+  most : AllByRecursion (λ n. n ≤ cutting.rows) (row_sizes index.slots)
+  most = subst (AllByRecursion (λ n. n ≤ cutting.rows)) n.rows_are small
+
+  pub replaced_parts : AreParts (run_cutting cutting) (replaced index.slots cuts edges frame) (parts_laid (run_cutting cutting) h symbol (changes.Updated frame range at))
+  replaced_parts =
+      let c = run_cutting cutting in
+      subst (AreParts c (replaced index.slots cuts edges frame))
+      (ap (λ ns. parts_of c (Some v) (map bare_block ns) (changes.Updated frame range at)) (sym n.rows_are) ∙ ap (λ o. parts_of c o (map bare_block (base_rows h symbol)) (changes.Updated frame range at)) (sym n.is))
+      (pieces_are v.frame index n.index_of range cuts divides edges are cutting cut order most frame)
+
+  pub replaced_keep : KeepKeys (run_cutting cutting) h symbol (changes.Updated frame range at) (replaced index.slots cuts edges frame)
+  replaced_keep list names rows_is names_is =
+      pieces_keep v.frame index n.index_of range cuts divides edges are cutting cut order most frame list names (rows_is ∙ n.rows_are) (names_is ∙ n.keys_are)
+      ∙ ap (λ o. map (kept_keys names) (parts_of (run_cutting cutting) o list (changes.Updated frame range at))) (sym n.is)

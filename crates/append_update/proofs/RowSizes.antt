@@ -22,7 +22,8 @@ use Rattle.frame_write.specs.declared.pieces.Piece.{Piece}
 use Rattle.frame_write.specs.declared.pieces.Piece.TheVariants as pieces
 use Rattle.frame_write.specs.Pieces.{begin_of, size_of, IsPiece, moved, fresh_slot, fresh_slots, laid, new_tiles}
 use Rattle.append_update.specs.Replacing.{appended}
-use Rattle.append_update.specs.RowBlocks.{run_cutting, sizes_in, new_blocks, AreParts}
+use Rattle.append_update.specs.RowBlocks.{sizes_in, new_blocks, AreParts}
+use Rattle.reply_model.specs.Blocks.{run_cutting}
 use Rattle.append_update.proofs.SlotSizes.{begins, row_sizes-append, row_sizes-cons}
 
 -- ---- the rows of slots
@@ -55,7 +56,13 @@ module _ (cutting : Sizes) (cut : IsCutting cutting) (client : ℕ) (symbol : Na
   abbrev c : Cutting
   c = run_cutting cutting
 
-  -- they have the rows of the pieces' row blocks
+  -- new slots have the rows of the frame's blocks
+  pub new_rows : (to serial : ℕ) (frame : Frame) → row_sizes (fresh_slots client symbol version to serial frame (parts (grid_of frame cutting))) ≡ block_sizes c (length frame.rows)
+  new_rows to serial frame =
+      let ps = parts (grid_of frame cutting) in
+      fresh_rows client symbol version frame to serial ps ∙ grid_rows c frame (map (slot_of client symbol version frame) ps) cut.some_rows cut.some_cols (slots_have client symbol version frame ps)
+
+  -- all slots have the rows of the pieces' row blocks
   pub laid_rows : (to serial : ℕ) (list : List Piece) → row_sizes (laid cutting client symbol version to serial list) ≡ sizes_in c list
   laid_rows to serial [] = refl
   laid_rows to serial (pieces.Shared run ∷ list) =
@@ -66,8 +73,7 @@ module _ (cutting : Sizes) (cut : IsCutting cutting) (client : ℕ) (symbol : Na
       let ps = parts (grid_of frame cutting) in
       let rest = laid cutting client symbol version (to + length frame.rows) (serial + length ps) list in
       row_sizes-append (fresh_slots client symbol version to serial frame ps) rest
-      ∙ (ap (λ ns. ns ++ row_sizes rest) (fresh_rows client symbol version frame to serial ps
-      ∙ grid_rows c frame (map (slot_of client symbol version frame) ps) cut.some_rows cut.some_cols (slots_have client symbol version frame ps))
+      ∙ (ap (λ ns. ns ++ row_sizes rest) (new_rows to serial frame)
       ∙ ap (λ ns. block_sizes c (length frame.rows) ++ ns) (laid_rows (to + length frame.rows) (serial + length ps) list))
 
 -- ---- how many tiles are new

@@ -8,7 +8,7 @@ use Rattle.std.proofs.lemmas.List.Elements.{filter-append}
 use Rattle.index_tree.specs.declared.index.Slot.{Slot}
 use Rattle.index_tree.specs.IndexRules.{IsSlot, SameBlock, LeadOn, Cover}
 use Rattle.reply_model.specs.Standing.{row_sizes}
-use Rattle.append_update.proofs.PartLists.{total, Begin}
+use Rattle.append_update.proofs.BlockSizes.{total, Begin}
 
 -- a slot begins a row block
 abbrev pub begins : Slot → Bool

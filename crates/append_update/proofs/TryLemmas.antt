@@ -1,19 +1,24 @@
 -- One try: what a walk, a plan and a commit over it did.
-use Rattle.std.proofs.Common.{◌≡◌, ℕ, ◌≤◌, Bool, [], ◌++◌, length, sym, ap, ◌∙◌, subst, inl, inr, arith, Result, Ok, Err, length-append}
+use Rattle.std.proofs.Common.{◌≡◌, ℕ, ◌≤◌, Bool, List, [], ◌++◌, length, map, sym, ap, ◌∙◌, subst, inl, inr, arith, Option, Result, Ok, Err, length-append}
 use Rattle.std.specs.Prelude.{◌+◌, ◌*◌}
 use Rattle.std.specs.Option.{option_map_or}
+use Rattle.std.specs.List.{AllZip}
 use Rattle.std.proofs.lemmas.List.{append_assoc}
 use Rattle.frame_core.specs.declared.refusal.Refusal.{Refusal}
 use Rattle.frame_core.specs.declared.refusal.Refusal.TheVariants as refusals
 use Rattle.frame_core.specs.declared.refusal.Refused.{Refused}
+use Rattle.segment_cut.specs.Cuttings.{IsCutting}
+use Rattle.index_tree.specs.declared.index.Slot.{Slot}
+use Rattle.key_kind.specs.declared.key.Key.{Key}
 use Rattle.key_kind.specs.Names.{Name}
 use Rattle.bucket_core.specs.History.{History, history_at}
 use Rattle.bucket_core.specs.Laws.{Looks}
-use Rattle.store_model.specs.Library.{State, Version, state_of}
+use Rattle.store_model.specs.Library.{State, Version, state_of, base_of, next_number}
 use Rattle.store_model.specs.Law.{IsClaimed}
 use Rattle.reply_model.specs.Answering.{Answer, committed}
-use Rattle.reply_model.specs.Blocks.{tiles_across}
-use Rattle.reply_model.specs.Standing.{row_sizes, fresh_in, parts_laid}
+use Rattle.reply_model.specs.Blocks.{tiles_across, parts_of}
+use Rattle.reply_model.specs.Keyed.{block_keys, IsKeyedPart}
+use Rattle.reply_model.specs.Standing.{row_sizes, fresh_in, slices, parts_laid}
 use Rattle.version_chain.specs.declared.state.SymbolState.{SymbolState}
 use Rattle.version_chain.specs.States.{IsStateAt, IsLookRefusal, RefusesWalk}
 use Rattle.version_chain.specs.Traces.{Went}
@@ -22,6 +27,7 @@ use Rattle.frame_write.specs.declared.options.Options.{Options}
 use Rattle.frame_write.specs.declared.options.Committed.{Committed}
 use Rattle.frame_write.specs.declared.pieces.LinkPlan.{LinkPlan}
 use Rattle.frame_write.specs.Plans.{IsUnmoved}
+use Rattle.frame_write.specs.Pieces.{laid}
 use Rattle.frame_write.specs.Links.{IsLinkMade}
 use Rattle.frame_write.specs.Tries.{Made, DidTry, DidFail, IsBusy}
 use Rattle.frame_write.proofs.MeetLemmas.{met_sooner}
@@ -32,9 +38,11 @@ use Rattle.append_update.specs.Asking.{answer_to, IsAnswered, Declines, Wants, I
 use Rattle.append_update.specs.Attempts.{DidAttempt}
 use Rattle.append_update.specs.Looking.{RefusesPlan}
 use Rattle.append_update.proofs.BaseLemmas.{walked_here, walk_wider}
-use Rattle.append_update.specs.RowBlocks.{run_cutting}
+use Rattle.append_update.specs.RowBlocks.{kept_keys, AreSmall, HavePartKeys}
+use Rattle.reply_model.specs.Blocks.{run_cutting}
 use Rattle.append_update.proofs.AskedLemmas.{answer_unmoved}
 use Rattle.append_update.proofs.MadeLemmas.{makes_version, try_on}
+use Rattle.append_update.proofs.LaidKeys.{HasKept, laid_keys, parts_keyed}
 use Rattle.append_update.proofs.RowSizes.{laid_rows, tiles_counted}
 
 -- ---- a state that was walked, later
@@ -145,6 +153,25 @@ module _ (client : ℕ) (sole : Bool) (symbol : Name) (wish : Wish) (options : O
   -- a commit was tried
   module _ (mid new : History) (looks : Went client sole old mid []) (state : SymbolState) (at : IsStateAt mid symbol state) (from : length old ≤ state.place)
       (plan : LinkPlan) (of : IsPlanOf at.before symbol options (answer_to wish options.prune options.at) plan) (more : History) (is : new ≡ more ++ mid) where
+    abbrev across : ℕ
+    across = tiles_across (run_cutting options.cutting) (length of.fits.version.frame.schema.columns)
+
+    slices_are : across ≡ slices (run_cutting options.cutting) (state_of at.before symbol) plan.change
+    slices_are = ap (λ o. option_map_or (λ (v : Version). tiles_across (run_cutting options.cutting) (length v.frame.schema.columns)) o 0) (sym of.fits.makes)
+
+    -- the index that was made has the keys of its parts
+    keys_made : (serial : ℕ) (m : Made) → IsCutting options.cutting → AreSmall (run_cutting options.cutting) at.before symbol → IsLinkMade client serial symbol (state_of (history_at mid state.place) symbol) plan options m
+        → HavePartKeys (run_cutting options.cutting) at.before symbol plan.change m.index.slots
+    keys_made serial m cut small i blocks names rows_is names_is =
+        let parts = parts_of (run_cutting options.cutting) (base_of (state_of at.before symbol)) blocks plan.change in
+        let version : ℕ = next_number (state_of (history_at mid state.place) symbol) in
+        let keys : List (List Key) = block_keys (laid options.cutting client symbol version 0 serial plan.pieces) in
+        let kept : AllZip (HasKept across) (map (kept_keys names) parts) keys =
+        subst (λ (l : List (Option (List Key))). AllZip (HasKept across) l keys) (of.keys cut small blocks names rows_is names_is)
+        (laid_keys options.cutting cut client symbol version of.fits.version.frame.schema of.fits.pieces.slots 0 serial plan.pieces of.fits.pieces.each) in
+        subst (λ (slots : List Slot). AllZip (IsKeyedPart names (slices (run_cutting options.cutting) (state_of at.before symbol) plan.change)) parts (block_keys slots)) (sym i.slots)
+        (subst (λ k. AllZip (IsKeyedPart names k) parts keys) slices_are (parts_keyed names across parts keys kept))
+
     made : (serial : ℕ) (m : Made) (added : History) → m.before ≡ added ++ mid → IsLinkMade client serial symbol (state_of (history_at mid state.place) symbol) plan options m → IsAnswered symbol wish options m
     made serial m added before_is i =
         let same : state_of (history_at mid state.place) symbol ≡ state_of at.before symbol = ap (λ h. state_of h symbol) (walked_here mid symbol state at) in
@@ -161,11 +188,11 @@ module _ (client : ℕ) (sole : Bool) (symbol : Name) (wish : Wish) (options : O
             put = λ cut small.
                 let are = of.blocks cut small in
                 let c = run_cutting options.cutting in
-                let across = ap (λ o. option_map_or (λ (v : Version). tiles_across c (length v.frame.schema.columns)) o 0) (sym of.fits.makes) in
                 record {
                   tiles = i.puts ∙ ap (λ n. n + 2) (tiles_counted options.cutting of.fits.version.frame.schema of.fits.pieces.slots plan.pieces of.fits.pieces.each
-                      ∙ (ap (λ n. n * tiles_across c (length of.fits.version.frame.schema.columns)) are.fresh ∙ ap (λ n. fresh_in (parts_laid c at.before symbol plan.change) * n) across));
+                      ∙ (ap (λ n. n * across) are.fresh ∙ ap (λ n. fresh_in (parts_laid c at.before symbol plan.change) * n) slices_are));
                   rows = ap row_sizes i.slots ∙ (laid_rows options.cutting cut client symbol _ 0 serial plan.pieces ∙ are.rows);
+                  keys = keys_made serial m cut small i;
                 };
           };
         }

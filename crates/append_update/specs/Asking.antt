@@ -1,5 +1,5 @@
 -- What a command asks of the newest live version of its symbol.
---     clear_answer, answer_to      what the one-thread library answers
+--     answer_to           what the one-thread library answers
 --     IsWish              when a command may ask so
 --     IsAnswered, Declines, Wants      a commit that makes what is asked; a refusal; a history in which there is a version to make
 --     IsPlanOf            a plan of what is asked
@@ -16,8 +16,8 @@ use Rattle.bucket_core.specs.declared.event.Change.{Change}
 use Rattle.bucket_core.specs.declared.event.Change.TheVariants as changes
 use Rattle.bucket_core.specs.History.{History}
 use Rattle.store_model.specs.Library.{State, state_of}
-use Rattle.reply_model.specs.Answering.{Answer, ◌then◌, committed, pruned, base_or}
-use Rattle.reply_model.specs.CommitAnswers.{append_answer, update_answer, outside}
+use Rattle.reply_model.specs.Answering.{Answer, committed, pruned}
+use Rattle.reply_model.specs.CommitAnswers.{append_answer, update_answer, clear_answer, outside}
 use Rattle.reply_model.specs.Standing.{parts_laid}
 use Rattle.frame_write.specs.declared.options.Options.{Options}
 use Rattle.frame_write.specs.declared.pieces.LinkPlan.{LinkPlan}
@@ -26,11 +26,8 @@ use Rattle.frame_write.specs.Links.{FitsPlan}
 use Rattle.frame_write.specs.Tries.{Made}
 use Rattle.append_update.specs.declared.wish.Wish.{Wish}
 use Rattle.append_update.specs.declared.wish.Wish.TheVariants as wishes
-use Rattle.append_update.specs.RowBlocks.{run_cutting, AreParts, AreSmall, IsBuiltOn}
-
--- the answer to a delete of a range: that to an update by no rows of the base's columns
-abbrev pub clear_answer : Range → Bool → ℤ → State → Result Answer Refusal
-clear_answer range prune at st = base_or st then λ v. update_answer st false prune at (Some range) (record v.frame { rows = [] })
+use Rattle.append_update.specs.RowBlocks.{AreParts, KeepKeys, AreSmall, IsBuiltOn}
+use Rattle.reply_model.specs.Blocks.{run_cutting}
 
 -- the answer in a state of the symbol
 abbrev pub answer_to : Wish → Bool → ℤ → State → Result Answer Refusal
@@ -59,11 +56,13 @@ Declines symbol wish options h why = answer_to wish options.prune options.at (st
 abbrev pub Wants : Name → Wish → Options → History → Type 0
 Wants symbol wish options h = (c : Change) × (answer_to wish options.prune options.at (state_of h symbol) ≡ Ok (committed (state_of h symbol) options.prune c))
 
--- the plan may be tried in this history, in which the library answers its change; its pieces have the row blocks of the change
+-- the plan may be tried in this history, in which the library answers its change; its pieces have the row blocks of the change, with the keys
+-- that those keep
 pub record IsPlanOf (h : History) (symbol : Name) (options : Options) (answer : State → Result Answer Refusal) (plan : LinkPlan) : Type 0 where
   pub fits : FitsPlan h symbol options.at plan
   pub answered : answer (state_of h symbol) ≡ Ok (committed (state_of h symbol) options.prune plan.change)
   pub blocks : IsCutting options.cutting → AreSmall (run_cutting options.cutting) h symbol → AreParts (run_cutting options.cutting) plan.pieces (parts_laid (run_cutting options.cutting) h symbol plan.change)
+  pub keys : IsCutting options.cutting → AreSmall (run_cutting options.cutting) h symbol → KeepKeys (run_cutting options.cutting) h symbol plan.change plan.pieces
 
 -- the plan where there is no live version; none where the command wants one
 abbrev pub IsAlone : Wish → ℤ → Option LinkPlan → Type 0

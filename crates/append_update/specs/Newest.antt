@@ -11,12 +11,13 @@ use Rattle.bucket_core.specs.History.{History}
 use Rattle.store_model.specs.Library.{Version, state_of, base_of, is_buried}
 use Rattle.store_model.specs.Links.{Linked, links}
 use Rattle.version_chain.specs.Marking.{own_refers}
-use Rattle.reply_model.specs.Standing.{row_sizes, base_rows}
+use Rattle.reply_model.specs.Keyed.{block_keys}
+use Rattle.reply_model.specs.Standing.{row_sizes, base_rows, base_keys}
 use Rattle.frame_read.specs.Fetches.{IsTargetIndex}
 use Rattle.append_update.specs.declared.base.Base.{Base}
 use Rattle.append_update.specs.Bases.{IsIndexOf}
 
--- the newest live version, whose frame may be written, and the index of a link of it, which has its row blocks and whose tiles are those of the frame
+-- the newest live version, whose frame may be written, and the index of a link of it, which has its row blocks with their keys and whose tiles are those of the frame
 pub record IsNewest (h : History) (symbol : Name) (version : Version) (index : Index) : Type 0 where
   pub is : base_of (state_of h symbol) ≡ Some version
   pub index_of : IsIndexOf version.frame index
@@ -25,6 +26,7 @@ pub record IsNewest (h : History) (symbol : Name) (version : Version) (index : I
   pub number : link.row.version ≡ version.number
   pub index_is : link.index ≡ index
   pub rows_are : base_rows h symbol ≡ row_sizes index.slots
+  pub keys_are : base_keys h symbol ≡ block_keys index.slots
   pub tiled : ∥ Tiled version.frame link.tiles ∥₁
 
 -- the newest live version, or there is none

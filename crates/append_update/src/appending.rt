@@ -7,7 +7,8 @@ ghost use Rattle.version_chain.specs.Traces.{GoesOn};
 ghost use Rattle.reply_model.specs.CommitAnswers.{append_answer};
 ghost use Rattle.reply_model.specs.Standing.{GrowsAlone};
 ghost use Rattle.append_update.specs.Replies.{IsLegalAppend};
-ghost use Rattle.append_update.specs.RowBlocks.{run_cutting, LaysAs};
+ghost use Rattle.append_update.specs.RowBlocks.{LaysAs};
+ghost use Rattle.reply_model.specs.Blocks.{run_cutting};
 
 use crate::attempt::try_all;
 use crate::wish::Wish;

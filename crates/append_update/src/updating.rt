@@ -7,9 +7,10 @@ ghost use Rattle.bucket_core.specs.Calls.{IsSteady};
 ghost use Rattle.version_chain.specs.Traces.{GoesOn};
 ghost use Rattle.reply_model.specs.CommitAnswers.{update_answer, update_range, outside};
 ghost use Rattle.reply_model.specs.Standing.{GrowsAlone};
-ghost use Rattle.append_update.specs.Asking.{clear_answer};
+ghost use Rattle.reply_model.specs.CommitAnswers.{clear_answer};
 ghost use Rattle.append_update.specs.Replies.{IsLegalUpdate, IsLegalDelete};
-ghost use Rattle.append_update.specs.RowBlocks.{run_cutting, LaysAs};
+ghost use Rattle.append_update.specs.RowBlocks.{LaysAs};
+ghost use Rattle.reply_model.specs.Blocks.{run_cutting};
 
 use crate::attempt::try_all;
 use crate::cuts::{above, below};

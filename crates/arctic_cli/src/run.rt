@@ -7,7 +7,7 @@ ghost use Rattle.program_edge.specs.Shelves.{Held};
 ghost use Rattle.program_edge.specs.Clocks.{IsReading};
 ghost use Rattle.reply_model.specs.Windows.{is_refused};
 ghost use Rattle.library_api.specs.Libraries.{AreSettings};
-ghost use Rattle.library_api.specs.Steps.{run_cutting};
+ghost use Rattle.reply_model.specs.Blocks.{run_cutting};
 ghost use Rattle.client_sessions.specs.Blocks.{clients_of};
 ghost use Rattle.client_sessions.specs.Parts.{IsRun as IsPartsRun};
 ghost use Rattle.arctic_cli.specs.CommandLine.{IsTries};

@@ -6,3 +6,4 @@ pub mod Adding
 pub mod Gone
 pub mod Authors
 pub mod Passes
+pub mod NotesKept

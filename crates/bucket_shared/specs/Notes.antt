@@ -1,15 +1,21 @@
 -- What a pass learns of rows without waiting.
---     notes_of, log_of      the rows that a pass found changed, and the events that it has seen, the oldest first
+--     view_of, notes_of, log_of      what a pass knows; the rows that it found changed; the events that it has seen, the oldest first
 --     HasNoted              a pass found a row changed after a place
 --     AreTrue               each note is of an event that is there
+--     KeepsNotes            what each later call says of the notes
 use Rattle.std.specs.Prelude.{◌≡◌, ◌<◌, ◌∷◌, ℕ, List}
 use Rattle.turn_cell.specs.declared.view.Note.{Note}
+use Rattle.turn_cell.specs.declared.view.View.{View}
 use Rattle.turn_cell.specs.Badges.{Among}
 use Rattle.turn_cell.specs.Entries.{IsRowAt}
 use Rattle.turn_cell.specs.Views.{note_at}
 use Rattle.bucket_core.specs.declared.event.Event.{Event}
 use Rattle.bucket_shared.specs.declared.pass.Pass.{Pass}
 use Rattle.bucket_shared.specs.Stories.{event_row}
+
+-- what the pass knows
+abbrev pub view_of : Pass → View Event
+view_of p = p.seat.me.0
 
 -- the rows that the pass found changed, each with the place of an event, the newest note first
 abbrev pub notes_of : Pass → List Note
@@ -28,3 +34,8 @@ pub record HasNoted (row place : ℕ) (old new : Pass) : Type 0 where
 -- at the place of each note stands an event of the note's row
 abbrev pub AreTrue : List Note → List Event → Type 0
 AreTrue notes log = (row place : ℕ) → Among (note_at row place) notes → IsRowAt event_row log row place
+
+-- these are the notes, and at the place of each an event of its row has been seen
+pub record KeepsNotes (notes : List Note) (now : View Event) : Type 0 where
+  pub same : now.notes ≡ notes
+  pub are_true : AreTrue notes now.seen

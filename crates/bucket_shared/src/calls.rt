@@ -1,13 +1,17 @@
 // A pass as a bucket.
 ghost use Rattle.std.specs.Prelude.{◌≡◌, ◌≤◌, true, false, length, IfOk, IfErr, option_copied};
 ghost use Rattle.std.specs.Arc.{arc_value};
+ghost use Rattle.std.specs.Bool.{OnTrue, OnFalse};
 ghost use Rattle.key_kind.specs.KeyText.{key_text};
+ghost use Rattle.turn_cell.specs.Views.{Confirmed};
 ghost use Rattle.bucket_core.specs.Calls.{MayTryRefer, MayTryDrop, IsSteady, IsFound, IsListed, refers_after};
 ghost use Rattle.bucket_core.specs.Calls.{RefusesLook, RefusesPut, RefusesRefer, RefusesName, DidChange, DidUnname, DidDrop};
 ghost use Rattle.bucket_core.specs.Calls.{put_event, refer_event, name_event, unname_event};
 ghost use Rattle.bucket_core.specs.Laws.{Looks};
 ghost use Rattle.store_model.specs.Law.{IsClaimed};
-ghost use Rattle.bucket_shared.specs.Notes.{AreTrue, notes_of, log_of};
+ghost use Rattle.bucket_shared.specs.Notes.{HasNoted, KeepsNotes, view_of, notes_of};
+ghost use Rattle.bucket_shared.specs.Rows.{row};
+ghost use Rattle.bucket_shared.specs.Stories.{event_row};
 ghost use Rattle.bucket_shared.specs.Passes.{store_of, badge_of, seen_of, number_of, limit_of, sole_of, no_faults};
 
 use crate::dropping::drop_key;
@@ -17,6 +21,7 @@ use crate::pass::Pass;
 use crate::putting::put;
 use crate::ready::make_ready;
 use crate::referring::refer;
+use crate::turn::look;
 use crate::unnaming::unname;
 use base_types::NoMemory;
 use bucket_core::{Body, Bucket, Changes, Dropped, Found, Listed, StoreErr};
@@ -24,6 +29,19 @@ use key_kind::{Key, KeyKind, Name, SnapName, Symbol};
 use std::marker::Brand;
 use std::sync::{Arc, Wait};
 use version_chain::StoreLaw;
+
+impl Pass {
+    /// Sees what others did. A call that has no memory to begin with does no more than this.
+    pub(crate) fn catch_up<R: Wait>(&mut self, rt: &R)
+        ensures looks { Looks IsClaimed (number_of self.old) (sole_of self.old) (seen_of self.old) (seen_of self.new) }
+        ensures steady { IsSteady number_of limit_of no_faults sole_of self.old self.new }
+        ensures noted { KeepsNotes (notes_of self.old) (view_of self.new) }
+        ensures store { store_of self.new ≡ store_of self.old }
+        ensures badge { badge_of self.new ≡ badge_of self.old }
+    {
+        self.count = look(rt, &self.cell, &mut self.seat);
+    }
+}
 
 impl Bucket<StoreLaw> for Pass {
     ghost seen = { seen_of };
@@ -59,8 +77,8 @@ impl Bucket<StoreLaw> for Pass {
         ensures found { IfOk result (IsFound (seen_of self.new) key.now) }
         ensures refused { IfErr result (RefusesLook 0 0) }
 
-        // What was noted of rows is true of what is seen now.
-        ensures noted { AreTrue (notes_of self.old) (log_of self.new) }
+        // What was noted of rows stays noted, and is true of what is seen now.
+        ensures noted { KeepsNotes (notes_of self.old) (view_of self.new) }
         ensures store { store_of self.new ≡ store_of self.old }
         ensures badge { badge_of self.new ≡ badge_of self.old }
     {
@@ -82,6 +100,7 @@ impl Bucket<StoreLaw> for Pass {
         ensures steady { IsSteady number_of limit_of no_faults sole_of self.old self.new }
         ensures listed { IfOk result (IsListed (seen_of self.new) kind (option_copied name.entry)) }
         ensures refused { IfErr result (RefusesLook 0 0) }
+        ensures noted { KeepsNotes (notes_of self.old) (view_of self.new) }
         ensures store { store_of self.new ≡ store_of self.old }
         ensures badge { badge_of self.new ≡ badge_of self.old }
     {
@@ -97,6 +116,7 @@ impl Bucket<StoreLaw> for Pass {
         requires claim { IsClaimed (seen_of self.old) (put_event (number_of self.old) key (arc_value body)) }
         ensures steady { IsSteady number_of limit_of no_faults sole_of self.old self.new }
         ensures did { DidChange IsClaimed (number_of self.old) (sole_of self.old) (limit_of self.old) 0 0 (seen_of self.old) (seen_of self.new) (put_event (number_of self.old) key (arc_value body)) (RefusesPut (limit_of self.old)) result }
+        ensures noted { KeepsNotes (notes_of self.old) (view_of self.new) }
         ensures store { store_of self.new ≡ store_of self.old }
         ensures badge { badge_of self.new ≡ badge_of self.old }
     {
@@ -121,12 +141,16 @@ impl Bucket<StoreLaw> for Pass {
         requires mark { arc_value mark ≡ key_text entry.now }
         ensures steady { IsSteady number_of limit_of no_faults sole_of self.old self.new }
         ensures did { DidChange IsClaimed (number_of self.old) (sole_of self.old) (limit_of self.old) 0 0 (seen_of self.old) (seen_of self.new) (refer_event (number_of self.old) symbol.now (option_copied was.entry) entry.now (arc_value changes)) (RefusesRefer (limit_of self.old) symbol.now (option_copied was.entry)) result }
+        ensures noted { KeepsNotes (notes_of self.old) (view_of self.new) }
         ensures store { store_of self.new ≡ store_of self.old }
         ensures badge { badge_of self.new ≡ badge_of self.old }
     {
         let made = match make_ready(self.alloc, symbol, entry, mark) {
             Ok(made) => made,
-            Err(NoMemory) => return Err(StoreErr::NoMemory),
+            Err(NoMemory) => {
+                self.catch_up(rt);
+                return Err(StoreErr::NoMemory);
+            }
         };
         let (answer, count) = refer::<Brand, R>(
             rt,
@@ -148,12 +172,16 @@ impl Bucket<StoreLaw> for Pass {
         requires claim { IsClaimed (seen_of self.old) (name_event (number_of self.old) snap.now (arc_value body)) }
         ensures steady { IsSteady number_of limit_of no_faults sole_of self.old self.new }
         ensures did { DidChange IsClaimed (number_of self.old) (sole_of self.old) (limit_of self.old) 0 0 (seen_of self.old) (seen_of self.new) (name_event (number_of self.old) snap.now (arc_value body)) (RefusesName (limit_of self.old) snap.now) result }
+        ensures noted { KeepsNotes (notes_of self.old) (view_of self.new) }
         ensures store { store_of self.new ≡ store_of self.old }
         ensures badge { badge_of self.new ≡ badge_of self.old }
     {
         let key = match Key::snapshot(self.alloc, snap) {
             Ok(key) => key,
-            Err(NoMemory) => return Err(StoreErr::NoMemory),
+            Err(NoMemory) => {
+                self.catch_up(rt);
+                return Err(StoreErr::NoMemory);
+            }
         };
         let (answer, count) = name::<Brand, R>(
             rt,
@@ -172,12 +200,16 @@ impl Bucket<StoreLaw> for Pass {
         requires claim { IsClaimed (seen_of self.old) (unname_event (number_of self.old) snap.now) }
         ensures steady { IsSteady number_of limit_of no_faults sole_of self.old self.new }
         ensures did { DidUnname IsClaimed (number_of self.old) (sole_of self.old) (limit_of self.old) 0 0 (seen_of self.old) (seen_of self.new) snap.now since result }
+        ensures noted { KeepsNotes (notes_of self.old) (view_of self.new) }
         ensures store { store_of self.new ≡ store_of self.old }
         ensures badge { badge_of self.new ≡ badge_of self.old }
     {
         let key = match Key::snapshot(self.alloc, snap) {
             Ok(key) => key,
-            Err(NoMemory) => return Err(StoreErr::NoMemory),
+            Err(NoMemory) => {
+                self.catch_up(rt);
+                return Err(StoreErr::NoMemory);
+            }
         };
         let (answer, count) = unname::<Brand, R>(
             rt,
@@ -196,6 +228,7 @@ impl Bucket<StoreLaw> for Pass {
         requires may { MayTryDrop IsClaimed (seen_of self.old) (number_of self.old) key.now }
         ensures steady { IsSteady number_of limit_of no_faults sole_of self.old self.new }
         ensures did { DidDrop IsClaimed (number_of self.old) (sole_of self.old) (limit_of self.old) 0 0 (seen_of self.old) (seen_of self.new) key.now result }
+        ensures noted { KeepsNotes (notes_of self.old) (view_of self.new) }
         ensures store { store_of self.new ≡ store_of self.old }
         ensures badge { badge_of self.new ≡ badge_of self.old }
     {
@@ -211,6 +244,9 @@ impl Bucket<StoreLaw> for Pass {
         ensures steady { IsSteady number_of limit_of no_faults sole_of self.old self.new }
         ensures told { result ≡ true → refers_after (seen_of self.old) symbol.now place ≡ false }
         ensures unchanged { result ≡ true → refers_after (seen_of self.old) symbol.now place ≡ false }
+        ensures same_notes { OnTrue result (notes_of self.new ≡ notes_of self.old) }
+        ensures changed { OnFalse result (HasNoted (row symbol.now) place self.old self.new) }
+        ensures confirmed { Confirmed event_row (view_of self.new) }
         ensures store { store_of self.new ≡ store_of self.old }
         ensures badge { badge_of self.new ≡ badge_of self.old }
     {

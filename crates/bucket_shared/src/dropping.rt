@@ -7,6 +7,7 @@ ghost use Rattle.bucket_core.specs.Calls.{DidDrop, MayTryDrop, drop_event};
 ghost use Rattle.bucket_core.specs.Showing.{Shows};
 ghost use Rattle.store_model.specs.Law.{IsClaimed};
 ghost use Rattle.bucket_shared.specs.Authors.{AreEnded, AreHad};
+ghost use Rattle.bucket_shared.specs.Notes.{KeepsNotes};
 ghost use Rattle.bucket_shared.specs.Sole.{is_sole};
 ghost use Rattle.bucket_shared.specs.Stories.{history};
 
@@ -50,6 +51,7 @@ pub(crate) fn drop_key<K: EventName, R: Wait>(
     ensures had { ∥ AreHad (view seat.new).badge (seen seat.new) ∥₁ }
     ensures did { DidDrop IsClaimed (view seat.old).badge.number (is_sole (view seat.old).badge) limit 0 0 (history seat.old) (history seat.new) key.now result.0 }
     ensures serial { puts_by (view seat.old).badge.number (history seat.new) ≡ puts_by (view seat.old).badge.number (history seat.old) }
+    ensures noted { KeepsNotes (view seat.old).notes (view seat.new) }
 {
     let mut store = take(rt, cell, seat);
     let count = store.contents.len();

@@ -6,7 +6,7 @@ ghost use Rattle.bucket_core.specs.Laws.{IsLawful, Looks};
 ghost use Rattle.bucket_core.specs.Calls.{IsFound, keys_that_match};
 ghost use Rattle.store_model.specs.Law.{IsClaimed};
 ghost use Rattle.bucket_shared.specs.Authors.{AreEnded, AreHad};
-ghost use Rattle.bucket_shared.specs.Notes.{AreTrue};
+ghost use Rattle.bucket_shared.specs.Notes.{KeepsNotes};
 ghost use Rattle.bucket_shared.specs.Sole.{is_sole};
 ghost use Rattle.bucket_shared.specs.Stories.{history};
 
@@ -39,7 +39,7 @@ pub(crate) fn find<R: Wait>(
     ensures looks { Looks IsClaimed (view seat.old).badge.number (is_sole (view seat.old).badge) (history seat.old) (history seat.new) }
     ensures serial { puts_by (view seat.old).badge.number (history seat.new) ≡ puts_by (view seat.old).badge.number (history seat.old) }
     ensures found { IfOk result.0 (IsFound (history seat.new) key.now) }
-    ensures noted { AreTrue (view seat.old).notes (seen seat.new) }
+    ensures noted { KeepsNotes (view seat.old).notes (view seat.new) }
 {
     let store = take(rt, cell, seat);
     let found = store.contents.find(key);
@@ -70,6 +70,7 @@ pub(crate) fn list<R: Wait>(
     ensures looks { Looks IsClaimed (view seat.old).badge.number (is_sole (view seat.old).badge) (history seat.old) (history seat.new) }
     ensures serial { puts_by (view seat.old).badge.number (history seat.new) ≡ puts_by (view seat.old).badge.number (history seat.old) }
     ensures listed { IfOk result.0 (λ keys. keys ≡ keys_that_match (history seat.new) kind (option_copied name.entry)) }
+    ensures noted { KeepsNotes (view seat.old).notes (view seat.new) }
 {
     let store = take(rt, cell, seat);
     let keys = store.contents.list(alloc, kind, name);

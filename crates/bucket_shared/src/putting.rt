@@ -7,6 +7,7 @@ ghost use Rattle.bucket_core.specs.Laws.{IsLawful};
 ghost use Rattle.bucket_core.specs.Calls.{DidChange, RefusesPut, put_event};
 ghost use Rattle.store_model.specs.Law.{IsClaimed};
 ghost use Rattle.bucket_shared.specs.Authors.{AreEnded, AreHad};
+ghost use Rattle.bucket_shared.specs.Notes.{KeepsNotes};
 ghost use Rattle.bucket_shared.specs.Sole.{is_sole};
 ghost use Rattle.bucket_shared.specs.Stories.{history};
 
@@ -44,6 +45,7 @@ pub(crate) fn put<K: EventName, R: Wait>(
     ensures added { OnOk result.0 (puts_by (view seat.old).badge.number (history seat.new) ≡ suc (puts_by (view seat.old).badge.number (history seat.old))) }
     ensures room { OnOk result.0 (puts_by (view seat.old).badge.number (history seat.old) < 2 ^ 62) }
     ensures kept { OnErr result.0 (puts_by (view seat.old).badge.number (history seat.new) ≡ puts_by (view seat.old).badge.number (history seat.old)) }
+    ensures noted { KeepsNotes (view seat.old).notes (view seat.new) }
 {
     let mut store = take(rt, cell, seat);
     let count = store.contents.len();

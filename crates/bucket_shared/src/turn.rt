@@ -9,7 +9,7 @@ ghost use Rattle.bucket_core.specs.Laws.{IsLawful, Looks};
 ghost use Rattle.bucket_core.specs.Showing.{Shows, events_of};
 ghost use Rattle.store_model.specs.Law.{IsClaimed};
 ghost use Rattle.bucket_shared.specs.Authors.{AreEnded, AreHad};
-ghost use Rattle.bucket_shared.specs.Notes.{AreTrue};
+ghost use Rattle.bucket_shared.specs.Notes.{KeepsNotes};
 ghost use Rattle.bucket_shared.specs.Sole.{is_sole};
 ghost use Rattle.bucket_shared.specs.Stories.{StandsFor, event_row, history, IsNewSeat};
 
@@ -41,7 +41,7 @@ pub(crate) fn take<R: Wait>(rt: &R, cell: &TurnCell<Store>, seat: &mut Seat<Stor
     ensures serial { puts_by (view seat.old).badge.number (history seat.new) ≡ puts_by (view seat.old).badge.number (history seat.old) }
     ensures joined { (n : ℕ) → Has (view seat.old).badge n → entries_by client_of n (seen seat.new) ≡ entries_by client_of n (seen seat.old) }
     ensures later { IsPrefix (seen seat.old) (seen seat.new) }
-    ensures noted { AreTrue (view seat.old).notes (seen seat.new) }
+    ensures noted { KeepsNotes (view seat.old).notes (view seat.new) }
 {
     cell.take(rt, seat)
 }
@@ -63,6 +63,7 @@ pub(crate) fn look<R: Wait>(rt: &R, cell: &TurnCell<Store>, seat: &mut Seat<Stor
     ensures serial { puts_by (view seat.old).badge.number (history seat.new) ≡ puts_by (view seat.old).badge.number (history seat.old) }
     ensures joined { (n : ℕ) → Has (view seat.old).badge n → entries_by client_of n (seen seat.new) ≡ entries_by client_of n (seen seat.old) }
     ensures later { IsPrefix (seen seat.old) (seen seat.new) }
+    ensures noted { KeepsNotes (view seat.old).notes (view seat.new) }
 {
     let store = take(rt, cell, seat);
     let count = store.contents.len();
@@ -89,6 +90,7 @@ pub(crate) fn add<K: EventName>(cell: &TurnCell<Store>, seat: &mut Seat<Store>, 
     ensures history { history seat.new ≡ K.event ∷ history seat.old }
     ensures ended { ∥ AreEnded (view seat.new).badge (seen seat.new) ∥₁ }
     ensures had { ∥ AreHad (view seat.new).badge (seen seat.new) ∥₁ }
+    ensures notes { (view seat.new).notes ≡ (view seat.old).notes }
 {
     cell.step::<Named<K>>(seat);
     cell.give(seat, store);
@@ -120,6 +122,7 @@ pub(crate) fn share<R: Wait>(
     ensures other_had { IfSome result.0 (λ p. ∥ AreHad (view p.0).badge (seen p.0) ∥₁) }
     ensures none { IfNone result.0 ((view seat.new).badge ≡ (view seat.old).badge) }
     ensures last { IfNone result.0 ((view seat.new).top ≡ 2 ^ 32 - 1) }
+    ensures noted { KeepsNotes (view seat.old).notes (view seat.new) }
 {
     let mut store = take(rt, cell, seat);
     let count = store.contents.len();
@@ -159,6 +162,7 @@ pub(crate) fn merge<R: Wait>(
     ensures other_looks { Looks IsClaimed (view other).badge.number false (history other) (history seat.new) }
     ensures serial { puts_by (view seat.old).badge.number (history seat.new) ≡ puts_by (view seat.old).badge.number (history seat.old) }
     ensures awaits { (ns : List ℕ) → Awaits (view seat.old).badge ((view other).badge.number ∷ ns) → Awaits (view other).badge [] → Awaits (view seat.new).badge ns }
+    ensures noted { KeepsNotes ((view seat.old).notes ++ (view other).notes) (view seat.new) }
 {
     cell.join(seat, other);
     look(rt, cell, seat)

@@ -9,6 +9,7 @@ ghost use Rattle.bucket_core.specs.Calls.{DidUnname, unname_event};
 ghost use Rattle.bucket_core.specs.Showing.{Shows};
 ghost use Rattle.store_model.specs.Law.{IsClaimed};
 ghost use Rattle.bucket_shared.specs.Authors.{AreEnded, AreHad};
+ghost use Rattle.bucket_shared.specs.Notes.{KeepsNotes};
 ghost use Rattle.bucket_shared.specs.Sole.{is_sole};
 ghost use Rattle.bucket_shared.specs.Stories.{history};
 
@@ -62,6 +63,7 @@ pub(crate) fn unname<K: EventName, R: Wait>(
     ensures had { ∥ AreHad (view seat.new).badge (seen seat.new) ∥₁ }
     ensures did { DidUnname IsClaimed (view seat.old).badge.number (is_sole (view seat.old).badge) limit 0 0 (history seat.old) (history seat.new) snap.now since result.0 }
     ensures serial { puts_by (view seat.old).badge.number (history seat.new) ≡ puts_by (view seat.old).badge.number (history seat.old) }
+    ensures noted { KeepsNotes (view seat.old).notes (view seat.new) }
 {
     let mut store = take(rt, cell, seat);
     let count = store.contents.len();

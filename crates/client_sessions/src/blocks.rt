@@ -5,7 +5,7 @@ ghost use Rattle.std.specs.Thread.{IsSync};
 ghost use Rattle.std.specs.Vec.{vec_len, vec_capacity};
 ghost use Rattle.bucket_shared.specs.Passes.{store_of, badge_of, limit_of};
 ghost use Rattle.library_api.specs.Libraries.{AreSettings};
-ghost use Rattle.library_api.specs.Steps.{run_cutting};
+ghost use Rattle.reply_model.specs.Blocks.{run_cutting};
 ghost use Rattle.client_sessions.specs.Rooms.{counts};
 ghost use Rattle.client_sessions.specs.Sessions.{AreNamed};
 ghost use Rattle.client_sessions.specs.Blocks.{clients_of, IsSessionOf, AreRun};

@@ -1,7 +1,8 @@
 ghost use Rattle.std.specs.Prelude.{◌≡◌, ◌≤◌, [], length};
 ghost use Rattle.std.specs.Vec.{vec_capacity};
 ghost use Rattle.bucket_core.specs.Calls.{IsSteady};
-ghost use Rattle.library_api.specs.Steps.{client_of, run_cutting};
+ghost use Rattle.library_api.specs.Steps.{client_of};
+ghost use Rattle.reply_model.specs.Blocks.{run_cutting};
 ghost use Rattle.client_sessions.specs.Sessions.{AreNamed, IsSession};
 
 use base_types::Items;

@@ -26,8 +26,10 @@ use Rattle.reply_model.specs.Standing.{IsLaid, LaysOut}
 use Rattle.reply_model.proofs.Isolated.{some_answer}
 use Rattle.frame_write.specs.declared.options.Committed.{Committed}
 use Rattle.frame_write.specs.Writes.{reply_to}
-use Rattle.append_update.specs.Asking.{clear_answer}
-use Rattle.append_update.specs.RowBlocks.{run_cutting, LaysAs}
+use Rattle.reply_model.specs.CommitAnswers.{clear_answer}
+use Rattle.append_update.specs.RowBlocks.{LaysAs}
+use Rattle.reply_model.specs.Blocks.{run_cutting}
+use Rattle.append_update.proofs.AloneLemmas.{base_small}
 use Rattle.library_api.specs.Steps.{refusal_reply}
 use Rattle.library_api.specs.Frames.{LaysDone, LaysForTable}
 
@@ -106,7 +108,7 @@ module _ (c : Cutting) (s : Session) (command : Command) (symbol : Name) (reply 
       by (Some (Err why)) is e = absurd (none_first change rest (ap (λ (a : Answer). a.marks) (some_answer _ (record { outcome = reply.outcome; marks = change ∷ rest }) e)))
       by (Some (Ok whole)) is e =
           let laid = laid_as (next whole) (done whole (state_of old symbol)) (lays whole is) change rest (some_answer (answered (next whole (state_of old symbol))) (record { outcome = reply.outcome; marks = change ∷ rest }) e) in
-          laid.0 cut change rest reply.outcome laid.1
+          laid.0 (base_small c old symbol cut) change rest reply.outcome laid.1
 
   -- and of one without a frame
   pub done_lays : (next : State → Result Answer Refusal) → ((l : Library) (q : ℕ) → answer s l l q command ≡ Some (answered (next (l.state symbol)))) → ((st : State) → IsDone (next st))
@@ -114,7 +116,7 @@ module _ (c : Cutting) (s : Session) (command : Command) (symbol : Name) (reply 
   done_lays next answers done lays cut other change rest other_named answered_is version =
       let laid = laid_as next (done (state_of old symbol)) lays change rest
       (some_answer (answered (next (state_of old symbol))) (record { outcome = reply.outcome; marks = change ∷ rest }) (sym (answers (library_of old) (length old)) ∙ answered_is)) in
-      subst (λ x. IsLaid c x change reply.place old new) (same_name symbol other (sym named ∙ other_named)) (laid.0 cut change rest reply.outcome laid.1)
+      subst (λ x. IsLaid c x change reply.place old new) (same_name symbol other (sym named ∙ other_named)) (laid.0 (base_small c old symbol cut) change rest reply.outcome laid.1)
 
 -- a delete of a range
 pub clear_lays : (c : Cutting) (s : Session) (symbol : Name) (range : Range) (at : Option ℤ) (prune : Bool) (reply : Reply) (old new : History)

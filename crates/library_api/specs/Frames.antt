@@ -22,7 +22,8 @@ use Rattle.reply_model.specs.Answering.{Session, Answer, stamp_of}
 use Rattle.reply_model.specs.Windows.{is_refused}
 use Rattle.frame_write.specs.Writes.{IsGridLinked}
 use Rattle.append_update.specs.Replies.{Runs}
-use Rattle.append_update.specs.RowBlocks.{run_cutting, LaysAs}
+use Rattle.append_update.specs.RowBlocks.{LaysAs}
+use Rattle.reply_model.specs.Blocks.{run_cutting}
 use Rattle.library_api.specs.Steps.{IsLegalIn}
 
 -- a session of this client, with so many tries, whose frame n is this table; a command of it that asks for this stamp has that one

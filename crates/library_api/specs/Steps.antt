@@ -6,14 +6,13 @@
 --     IsLegalIn           a reply is legal for the window that a step added
 --     IsLegalForAll       it is legal whatever else the client's session brings
 --     IsLegalWithTries    it is legal whatever the session brings beside its tries
---     run_cutting         the cutting of the settings
---     is_told_alone, IsStepAlone      where nobody else makes events a step is that of one client alone, for the commands of which that is told
+--     IsIsolatedIn        alone on its symbol, a step answers what the one-thread library answers where its window begins
+--     LooksFirst, IsStepAlone      where nobody else makes events, a reclaim looked where it began, and a step is that of one client alone
 use Rattle.std.specs.Prelude.{◌≡◌, ℕ, ◌<◌, Bool, true, false, List, [], map, length, Option, Some, None, IfSome}
 use Rattle.base_types.specs.Faults.{Rose}
 use Rattle.frame_core.specs.declared.raw.RawFrame.{RawFrame}
 use Rattle.frame_core.specs.declared.refusal.Refused.{Refused}
 use Rattle.frame_core.specs.RawFrames.{table_of}
-use Rattle.segment_cut.specs.Cuttings.{Cutting as Sizes}
 use Rattle.bucket_core.specs.History.{History}
 use Rattle.store_model.specs.Law.{IsLawful}
 use Rattle.expr_clause.specs.declared.command.Command.{Command}
@@ -22,11 +21,11 @@ use Rattle.reply_model.specs.declared.outcome.Outcome.{Outcome}
 use Rattle.reply_model.specs.declared.outcome.Outcome.TheVariants as outcomes
 use Rattle.reply_model.specs.declared.reply.Reply.{Reply}
 use Rattle.reply_model.specs.Answering.{Session}
-use Rattle.reply_model.specs.Windows.{Client, is_cut}
-use Rattle.reply_model.specs.Blocks.{Cutting}
-use Rattle.reply_model.specs.Standing.{GrowsAlone, is_served, IsStep}
+use Rattle.reply_model.specs.Windows.{Client, is_cut, is_refused}
+use Rattle.reply_model.specs.Runs.{IsIsolated}
+use Rattle.reply_model.specs.Standing.{GrowsAlone, IsStep}
 use Rattle.reply_model.specs.Legal.{IsLegalReply}
-use Rattle.append_update.specs.RowBlocks as row_blocks
+use Rattle.reply_model.specs.Blocks.{run_cutting}
 use Rattle.library_api.specs.declared.settings.Settings.{Settings}
 
 -- ---- commands
@@ -91,18 +90,19 @@ abbrev pub IsLegalWithTries : ℕ → ℕ → ℕ → ℕ → ℕ → History �
 IsLegalWithTries limit number tries before now old new command reply =
     (s : Session) → s.client ≡ number → s.tries ≡ tries → IsLegalIn (record { session = s; limit = limit }) before now old new command reply
 
--- ---- one client alone
+-- ---- alone
 
--- the cutting of the settings, as a run alone has it
-abbrev pub run_cutting : Sizes → Cutting
-run_cutting c = row_blocks.run_cutting c
+-- alone on its symbol, the command answers what the one-thread library answers where the window that the step added begins
+abbrev pub IsIsolatedIn : Client → ℕ → ℕ → History → History → Command → Reply → Type 0
+IsIsolatedIn client before now old new command reply =
+    (faulted : Bool) → (Rose before now → faulted ≡ true) → IsIsolated new client command reply (record { start = length old; stop = length new; faulted = faulted })
 
--- the commands of which a step tells what one client alone gets: those whose legal replies are shown to be those of a run alone
-abbrev pub is_told_alone : Command → Bool
-is_told_alone command = is_served command
+-- where nobody else makes events, a reclaim that is not refused looked at the reference where it began
+abbrev pub LooksFirst : ℕ → History → History → Reply → Type 0
+LooksFirst client old new reply = GrowsAlone client old new → is_refused reply.outcome ≡ false → reply.place ≡ length old
 
 -- behind a lawful history, and where nobody else makes events, the reply is the one that a run of this client alone gives, and the run then
--- stands as the new history: for the commands of which this is told, want of memory, failures and a full store aside
+-- stands as the new history: want of memory, failures and a full store aside
 abbrev pub IsStepAlone : Settings → Client → History → History → Command → Reply → Type 0
 IsStepAlone settings client old new command reply =
-    IsLawful old → GrowsAlone client.session.client old new → is_told_alone command ≡ true → is_cut reply.outcome ≡ false → IsStep (run_cutting settings.cutting) client.session command reply old new
+    IsLawful old → GrowsAlone client.session.client old new → is_cut reply.outcome ≡ false → IsStep (run_cutting settings.cutting) client.session command reply old new

@@ -2,14 +2,16 @@ ghost use Rattle.std.specs.Prelude.{◌≡◌, true, length};
 ghost use Rattle.bucket_core.specs.Calls.{IsSteady};
 ghost use Rattle.version_chain.specs.Traces.{GoesOn};
 ghost use Rattle.library_api.specs.Libraries.{AreSettings};
-ghost use Rattle.library_api.specs.Steps.{is_carried_out, IsNamed, client_of, IsLegalIn, IsStepAlone};
+ghost use Rattle.library_api.specs.Steps.{is_carried_out, IsNamed, client_of, IsLegalIn, IsIsolatedIn, IsStepAlone};
 
 use crate::settings::Settings;
 use crate::step::perform;
 use bucket_core::Bucket;
 use expr_clause::Command;
 use frame_core::RawFrame;
-use reply_model::{Reply, legal_replies_alone_are_sole};
+use reply_model::{
+    Reply, commands_are_isolated, legal_reclaims_alone_are_sole, legal_replies_alone_are_sole,
+};
 use std::alloc::Global;
 use std::marker::Model;
 use std::sync::Wait;
@@ -69,11 +71,15 @@ impl<B> Library<B> {
         ensures steady { IsSteady B.number B.limit B.faults B.sole self.old.bucket self.new.bucket }
         ensures grown { GoesOn (B.number self.old.bucket) (B.sole self.old.bucket) (B.seen self.old.bucket) (B.seen self.new.bucket) }
         ensures legal { IsLegalIn (client_of frames.now self.old.settings (B.number self.old.bucket) (B.limit self.old.bucket)) (B.faults self.old.bucket) (B.faults self.new.bucket) (B.seen self.old.bucket) (B.seen self.new.bucket) command.now result }
+        // Alone on its symbol a command answers what the library answers where it began.
+        ensures isolated { IsIsolatedIn (client_of frames.now self.old.settings (B.number self.old.bucket) (B.limit self.old.bucket)) (B.faults self.old.bucket) (B.faults self.new.bucket) (B.seen self.old.bucket) (B.seen self.new.bucket) command.now result }
         // Where nobody else makes events a step is that of one client alone.
         ensures alone { IsStepAlone self.old.settings (client_of frames.now self.old.settings (B.number self.old.bucket) (B.limit self.old.bucket)) (B.seen self.old.bucket) (B.seen self.new.bucket) command.now result }
     {
         let reply = perform(rt, alloc, &mut self.bucket, self.settings, command, frames);
+        commands_are_isolated();
         legal_replies_alone_are_sole();
+        legal_reclaims_alone_are_sole();
         reply
     }
 }

@@ -4,7 +4,7 @@ ghost use Rattle.std.specs.Prelude.{◌≡◌, ◌≤◌};
 ghost use Rattle.bucket_core.specs.Calls.{IsSteady};
 ghost use Rattle.version_chain.specs.Traces.{GoesOn};
 ghost use Rattle.prune_rule.specs.Reclaims.{keys_of_kind};
-ghost use Rattle.library_api.specs.Steps.{IsLegalWithTries};
+ghost use Rattle.library_api.specs.Steps.{IsLegalWithTries, LooksFirst};
 
 use crate::keys::of_kind;
 use crate::reply::{plain, refusal};
@@ -29,6 +29,7 @@ pub(crate) fn reclaim<R: Wait, B: Bucket<StoreLaw>>(
     ensures steady { IsSteady B.number B.limit B.faults B.sole bucket.old bucket.new }
     ensures grown { GoesOn (B.number bucket.old) (B.sole bucket.old) (B.seen bucket.old) (B.seen bucket.new) }
     ensures legal { IsLegalWithTries (B.limit bucket.old) (B.number bucket.old) tries (B.faults bucket.old) (B.faults bucket.new) (B.seen bucket.old) (B.seen bucket.new) (Command.Reclaim symbol.now) result }
+    ensures looked { LooksFirst (B.number bucket.old) (B.seen bucket.old) (B.seen bucket.new) result }
 {
     match prune_rule::reclaim(rt, alloc, bucket, symbol, tries) {
         Ok(freed) => plain(alloc, freed.place, freed_of(freed.keys.items())),

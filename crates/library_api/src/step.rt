@@ -1,11 +1,13 @@
 //! One command, by its kind.
 
-ghost use Rattle.std.specs.Prelude.{◌≡◌, ◌<◌, true, Some, length, slice_get, option_copied};
+ghost use Rattle.std.specs.Prelude.{◌≡◌, ◌<◌, true, Some, length, slice_get, is_some, option_copied};
+ghost use Rattle.key_kind.specs.Names.{Name as NameBytes};
 ghost use Rattle.bucket_core.specs.Calls.{IsSteady};
 ghost use Rattle.version_chain.specs.Traces.{GoesOn};
 ghost use Rattle.reply_model.specs.Standing.{GrowsAlone, LaysOut};
+ghost use Rattle.reply_model.specs.Blocks.{run_cutting};
 ghost use Rattle.library_api.specs.Libraries.{AreSettings};
-ghost use Rattle.library_api.specs.Steps.{is_carried_out, is_told_alone, IsNamed, client_of, IsLegalIn, run_cutting};
+ghost use Rattle.library_api.specs.Steps.{is_carried_out, frame_named, IsNamed, client_of, IsLegalIn, LooksFirst};
 
 use crate::appending::append;
 use crate::burying::{delete, prune};
@@ -40,8 +42,55 @@ pub(crate) fn perform<R: Wait, B: Bucket<StoreLaw>>(
     ensures steady { IsSteady B.number B.limit B.faults B.sole bucket.old bucket.new }
     ensures grown { GoesOn (B.number bucket.old) (B.sole bucket.old) (B.seen bucket.old) (B.seen bucket.new) }
     ensures legal { IsLegalIn (client_of frames.now settings (B.number bucket.old) (B.limit bucket.old)) (B.faults bucket.old) (B.faults bucket.new) (B.seen bucket.old) (B.seen bucket.new) command.now result }
+    // Where nobody else makes events, it is known how a new version is laid out, and where a reclaim looked.
+    ensures lays { GrowsAlone (B.number bucket.old) (B.seen bucket.old) (B.seen bucket.new) → LaysOut (run_cutting settings.cutting) (client_of frames.now settings (B.number bucket.old) (B.limit bucket.old)).session command.now result (B.seen bucket.old) (B.seen bucket.new) }
+    ensures looked { (named : NameBytes) → command.now ≡ Command.Reclaim named → LooksFirst (B.number bucket.old) (B.seen bucket.old) (B.seen bucket.new) result }
+{
+    match command {
+        Command::DeleteRange {
+            symbol,
+            range,
+            at,
+            prune,
+        } => {
+            let options = settings.options(*at, *prune);
+            delete_range(rt, alloc, bucket, symbol, *range, &options)
+        }
+        Command::Read {
+            symbol,
+            as_of,
+            range,
+            columns,
+        } => read(rt, alloc, bucket, symbol, as_of, *range, lent(columns)),
+        Command::Keys { symbol } => keys(rt, alloc, bucket, symbol),
+        Command::Versions { symbol } => versions(rt, alloc, bucket, symbol),
+        Command::Delete { symbol, versions } => {
+            delete(rt, alloc, bucket, symbol, lent(versions), settings.tries)
+        }
+        Command::Prune { symbol } => prune(rt, alloc, bucket, symbol, settings.tries),
+        Command::Reclaim { symbol } => reclaim(rt, alloc, bucket, symbol, settings.tries),
+        _ => bring_frame(rt, alloc, bucket, settings, command, frames),
+    }
+}
+
+/// Carries out a command that brings a frame. It may wait for the store.
+fn bring_frame<R: Wait, B: Bucket<StoreLaw>>(
+    rt: &R,
+    alloc: Global,
+    bucket: &mut B,
+    settings: Settings,
+    command: &Command,
+    frames: &[RawFrame],
+) -> Reply
+    requires settings { AreSettings settings }
+    requires served { is_carried_out command.now ≡ true }
+    requires framed { is_some (frame_named command.now) ≡ true }
+    requires named { IsNamed (length frames.now) command.now }
+    ensures steady { IsSteady B.number B.limit B.faults B.sole bucket.old bucket.new }
+    ensures grown { GoesOn (B.number bucket.old) (B.sole bucket.old) (B.seen bucket.old) (B.seen bucket.new) }
+    ensures legal { IsLegalIn (client_of frames.now settings (B.number bucket.old) (B.limit bucket.old)) (B.faults bucket.old) (B.faults bucket.new) (B.seen bucket.old) (B.seen bucket.new) command.now result }
     // Where nobody else makes events, it is known how a new version is laid out.
-    ensures lays { is_told_alone command.now ≡ true → GrowsAlone (B.number bucket.old) (B.seen bucket.old) (B.seen bucket.new) → LaysOut (run_cutting settings.cutting) (client_of frames.now settings (B.number bucket.old) (B.limit bucket.old)).session command.now result (B.seen bucket.old) (B.seen bucket.new) }
+    ensures lays { GrowsAlone (B.number bucket.old) (B.seen bucket.old) (B.seen bucket.new) → LaysOut (run_cutting settings.cutting) (client_of frames.now settings (B.number bucket.old) (B.limit bucket.old)).session command.now result (B.seen bucket.old) (B.seen bucket.new) }
 {
     match command {
         Command::Write {
@@ -76,28 +125,6 @@ pub(crate) fn perform<R: Wait, B: Bucket<StoreLaw>>(
             let raw = frame_at(frames, *frame);
             update(rt, alloc, bucket, symbol, raw, *range, *upsert, &options)
         }
-        Command::DeleteRange {
-            symbol,
-            range,
-            at,
-            prune,
-        } => {
-            let options = settings.options(*at, *prune);
-            delete_range(rt, alloc, bucket, symbol, *range, &options)
-        }
-        Command::Read {
-            symbol,
-            as_of,
-            range,
-            columns,
-        } => read(rt, alloc, bucket, symbol, as_of, *range, lent(columns)),
-        Command::Keys { symbol } => keys(rt, alloc, bucket, symbol),
-        Command::Versions { symbol } => versions(rt, alloc, bucket, symbol),
-        Command::Delete { symbol, versions } => {
-            delete(rt, alloc, bucket, symbol, lent(versions), settings.tries)
-        }
-        Command::Prune { symbol } => prune(rt, alloc, bucket, symbol, settings.tries),
-        Command::Reclaim { symbol } => reclaim(rt, alloc, bucket, symbol, settings.tries),
         _ => unreachable!(),
     }
 }

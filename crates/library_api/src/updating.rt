@@ -6,7 +6,7 @@ ghost use Rattle.bucket_core.specs.Calls.{IsSteady};
 ghost use Rattle.version_chain.specs.Traces.{GoesOn};
 ghost use Rattle.reply_model.specs.CommitAnswers.{update_answer};
 ghost use Rattle.reply_model.specs.Standing.{GrowsAlone};
-ghost use Rattle.append_update.specs.Asking.{clear_answer};
+ghost use Rattle.reply_model.specs.CommitAnswers.{clear_answer};
 ghost use Rattle.library_api.specs.Frames.{IsLegalForTable, IsLegalWithStamp, LaysForTable, LaysDone};
 
 use crate::commit_place::CommitPlace;

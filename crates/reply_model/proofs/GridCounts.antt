@@ -42,7 +42,7 @@ sizes_counted c rows = length-append (replicate (rows / c.rows) c.rows) (some_ro
     ∙ (ap (λ k. k + length (some_rows (rows % c.rows))) (length-replicate (rows / c.rows) c.rows) ∙ ap (λ k. rows / c.rows + k) (rest_counted (rows % c.rows)))
 
 -- and the slices of columns too
-across_counted : (c : Cutting) (columns : ℕ) → tiles_across c columns ≡ max 1 (div_ceil columns c.columns)
+pub across_counted : (c : Cutting) (columns : ℕ) → tiles_across c columns ≡ max 1 (div_ceil columns c.columns)
 across_counted c columns = ap (λ k. max 1 (columns / c.columns + k)) (rest_counted (columns % c.columns))
 
 -- new blocks of one version, of so many tiles each

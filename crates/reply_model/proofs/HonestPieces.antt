@@ -15,7 +15,7 @@ use Rattle.frame_core.specs.declared.refusal.Refusal.TheVariants as refusals
 use Rattle.bucket_core.specs.declared.event.Event.{Event}
 use Rattle.bucket_core.specs.declared.event.Event.TheVariants as events
 use Rattle.bucket_core.specs.declared.event.Change.TheVariants as changes
-use Rattle.bucket_core.specs.History.{History, stored}
+use Rattle.bucket_core.specs.History.{History, stored, history_at}
 use Rattle.key_kind.specs.declared.key.Key.{Key}
 use Rattle.key_kind.specs.declared.key.KeyKind.{KeyKind}
 use Rattle.key_kind.specs.declared.key.KeyKind.TheVariants as kinds
@@ -34,7 +34,7 @@ use Rattle.reply_model.specs.declared.outcome.Outcome.TheVariants as outcomes
 use Rattle.reply_model.specs.declared.reply.Reply.{Reply}
 use Rattle.reply_model.specs.Windows.{Client}
 use Rattle.reply_model.specs.Tries.{IsTry, of_mark}
-use Rattle.reply_model.specs.Drops.{IsDeadPiece}
+use Rattle.reply_model.specs.Drops.{IsDeadPiece, reclaim_outcome}
 use Rattle.reply_model.specs.OwnEvents.{IsStaging}
 use Rattle.reply_model.specs.Legal.{IsLegalSeen, Legal}
 use Rattle.reply_model.proofs.HonestWrites.{client, window, reply, is_try, puts}
@@ -189,6 +189,11 @@ piece_reclaim_is_legal = record {
     no_piece = piece_gone;
   };
 }
+
+-- it frees what is dead where its window begins
+pub piece_reclaim_counts_the_dead : reclaim_outcome (history_at dropped 3) S ≡ outcomes.Freed 0 0 1
+unfolding entry_of segment_text sheet_text cells_text segment_of sheet_spelled sheet_at rows_at count_at stamps_at stamp_at columns_at series_at head_at type_at length_at name_at text_at cells_at is_utf8 chars encode signed_text key_at key_text
+piece_reclaim_counts_the_dead = refl
 
 -- the whole session
 pub piece_session : Legal dropped one 0 (commands.Stage S 0 ∷ commands.Discard S ∷ commands.Discard S ∷ commands.Reclaim S ∷ [])

@@ -11,7 +11,7 @@ use Rattle.std.specs.Str.{is_utf8, chars}
 use lib.Utf8.{encode}
 use Rattle.frame_core.specs.declared.refusal.Refusal.TheVariants as refusals
 use Rattle.bucket_core.specs.declared.event.Change.TheVariants as changes
-use Rattle.bucket_core.specs.History.{Bytes, stored}
+use Rattle.bucket_core.specs.History.{Bytes, stored, history_at}
 use Rattle.key_kind.specs.declared.key.Key.{Key}
 use Rattle.key_kind.specs.declared.key.KeyKind.TheVariants as kinds
 use Rattle.key_kind.specs.Keys.{same_key}
@@ -28,7 +28,7 @@ use Rattle.store_model.proofs.WitnessPruned as pruned
 use Rattle.expr_clause.specs.declared.command.Command.TheVariants as commands
 use Rattle.reply_model.specs.declared.outcome.Outcome.TheVariants as outcomes
 use Rattle.reply_model.specs.Tries.{IsTry, of_version}
-use Rattle.reply_model.specs.Drops.{IsDeadIndex, IsDeadTile}
+use Rattle.reply_model.specs.Drops.{IsDeadIndex, IsDeadTile, reclaim_outcome}
 use Rattle.reply_model.specs.Legal.{IsLegalSeen}
 use Rattle.reply_model.proofs.HonestWrites.{client, window, reply, reads}
 use Rattle.reply_model.proofs.HonestSnapshots.{none_consumed}
@@ -192,3 +192,8 @@ pruned_reclaim_is_legal = record {
     no_piece = λ key d. absurd (none_consumed pruned.pruned key refl d.0 d.1);
   };
 }
+
+-- it frees what is dead where its window begins
+pub pruned_reclaim_counts_the_dead : reclaim_outcome (history_at pruned.dropped 8) S ≡ outcomes.Freed 1 1 0
+unfolding index_of entry_of segment_text sheet_text cells_text segment_of sheet_spelled sheet_at rows_at count_at stamps_at stamp_at columns_at series_at head_at type_at length_at name_at text_at cells_at is_utf8 chars encode signed_text key_at key_text
+pruned_reclaim_counts_the_dead = refl

@@ -2,7 +2,6 @@
 use Rattle.std.proofs.Common.{◌≡◌, ℕ, zero, suc, ◌-◌, ◌≤◌, ◌<◌, Bool, true, false, List, [], ◌∷◌, length, Option, Some, None, Result, Ok, refl, sym, ◌∙◌, ap, subst, inl, inr, arith, cond}
 use Rattle.std.specs.Prelude.{◌⊎◌, ◌≢◌, not, find, Contains, MatchBool, nat_eq, slice_get, unwrap_or, int_le, option_map}
 use Rattle.std.specs.List.{list_any}
-use Rattle.std.proofs.lemmas.List.{length-drop}
 use Rattle.std.proofs.lemmas.Bool.{true≢false, not-true, eqb-true, eq-eqb}
 use Rattle.frame_core.specs.Ranges.{Range}
 use Rattle.frame_core.specs.Frames.{Frame}
@@ -37,7 +36,7 @@ use Rattle.reply_model.specs.OwnEvents.{IsStaging, IsOwn, is_done, IsBeginning, 
 use Rattle.reply_model.specs.Causes.{MeetsOn, IsMoved, IsVersionGone}
 use Rattle.reply_model.specs.Rows.{IsAnswer}
 use Rattle.reply_model.specs.Legal.{IsLegalRefusal, IsLegalOk, IsLegalOutcome, IsLegalSeen, IsListedWithin}
-use Rattle.reply_model.specs.Runs.{names_symbol, reads_snapshot, IsAlone, IsIsolated, LegalIsIsolated}
+use Rattle.reply_model.specs.Runs.{names_symbol, reads_snapshot, IsAlone}
 use Rattle.reply_model.proofs.Places.{history_at_end, is_refer_of, refer_listed, listed_after, none_own_at}
 use Rattle.reply_model.proofs.Quiet.{is_plain, Quiet, others_unnamed, state_kept, staged_kept, own_stages_nothing}
 
@@ -47,7 +46,7 @@ use Rattle.reply_model.proofs.Quiet.{is_plain, Quiet, others_unnamed, state_kept
 abbrev pub whole : Version → Range → Option (List Text) → Result Answer Refusal
 whole v range columns = ask v.frame range columns then λ f. Ok (record { outcome = outcomes.Whole v.number f; marks = [] })
 
-some_name : (a b : Name) → Some a ≡ Some b → a ≡ b
+pub some_name : (a b : Name) → Some a ≡ Some b → a ≡ b
 some_name a b e = cc
 
 -- a value of the named state
@@ -279,14 +278,14 @@ meets_own : (h : History) (c : Command) (reply : Reply) (symbol : Name) → is_p
 meets_own h (commands.Snapshot snap picks) reply symbol plain m = absurd (true≢false (sym plain))
 meets_own h c reply symbol plain m = m.1
 
-refers_names : (symbol : Name) (e : Event) → refers symbol e ≡ true → names_symbol symbol e ≡ true
+pub refers_names : (symbol : Name) (e : Event) → refers symbol e ≡ true → names_symbol symbol e ≡ true
 refers_names symbol (events.Refer c s was entry list) r = r
 refers_names symbol (events.Put c key body) r = absurd (true≢false (sym r))
 refers_names symbol (events.Name c snap body) r = absurd (true≢false (sym r))
 refers_names symbol (events.Unname c snap) r = absurd (true≢false (sym r))
 refers_names symbol (events.Drop c key) r = absurd (true≢false (sym r))
 
-not_same : (a b : ℕ) → a ≢ b → nat_eq a b ≡ false
+pub not_same : (a b : ℕ) → a ≢ b → nat_eq a b ≡ false
 not_same a b other = elim (nat_eq a b) as (λ t. nat_eq a b ≡ t → t ≡ false) [ true ↦ λ e. absurd (other (eqb-true a b e)) | false ↦ λ e. refl ] refl
 
 not_met : (h : History) (client : Client) (c : Command) (reply : Reply) (w : Window) (symbol : Name) → Alone h client c reply w symbol → Met h client c reply w → ⊥
@@ -359,20 +358,16 @@ no_answer b e = cc
 no_symbol : (symbol : Name) → None ≡ Some symbol → ⊥
 no_symbol symbol e = cc
 
-isolated : (h : History) (client : Client) (c : Command) (reply : Reply) (w : Window) → w.stop ≡ length h → IsLegalSeen h client c reply w → IsIsolated h client c reply w
-isolated h client (commands.Stage a frame) reply w ends legal symbol b named snap cut alone answered = stage_is h client a frame reply w b reply.outcome refl cut legal.outcome answered
-isolated h client (commands.Reclaim a) reply w ends legal symbol b named snap cut alone answered = absurd (no_answer b answered)
-isolated h client (commands.Keys a) reply w ends legal symbol b named snap cut alone answered = absurd (no_answer b answered)
-isolated h client (commands.Snapshot name picks) reply w ends legal symbol b named snap cut alone answered = absurd (no_symbol symbol named)
-isolated h client (commands.DeleteSnapshot name) reply w ends legal symbol b named snap cut alone answered = absurd (no_symbol symbol named)
-isolated h client commands.Symbols reply w ends legal symbol b named snap cut alone answered = absurd (no_symbol symbol named)
-isolated h client commands.Snapshots reply w ends legal symbol b named snap cut alone answered = absurd (no_symbol symbol named)
-isolated h client c reply w ends legal symbol b named snap cut alone answered =
+-- what the one-thread library answers where the window begins is the outcome
+pub answer_is_told : (h : History) (client : Client) (c : Command) (reply : Reply) (w : Window) (symbol : Name) (b : Answer) → w.stop ≡ length h → IsLegalSeen h client c reply w
+    → symbol_of c ≡ Some symbol → reads_snapshot c ≡ false → is_cut reply.outcome ≡ false → IsAlone h client.session.client symbol w
+    → answer client.session (library_at h w.start) (library_at h w.start) w.start c ≡ Some b → reply.outcome ≡ b.outcome
+answer_is_told h client (commands.Stage a frame) reply w symbol b ends legal named snap cut alone answered = stage_is h client a frame reply w b reply.outcome refl cut legal.outcome answered
+answer_is_told h client (commands.Reclaim a) reply w symbol b ends legal named snap cut alone answered = absurd (no_answer b answered)
+answer_is_told h client (commands.Keys a) reply w symbol b ends legal named snap cut alone answered = absurd (no_answer b answered)
+answer_is_told h client (commands.Snapshot name picks) reply w symbol b ends legal named snap cut alone answered = absurd (no_symbol symbol named)
+answer_is_told h client (commands.DeleteSnapshot name) reply w symbol b ends legal named snap cut alone answered = absurd (no_symbol symbol named)
+answer_is_told h client commands.Symbols reply w symbol b ends legal named snap cut alone answered = absurd (no_symbol symbol named)
+answer_is_told h client commands.Snapshots reply w symbol b ends legal named snap cut alone answered = absurd (no_symbol symbol named)
+answer_is_told h client c reply w symbol b ends legal named snap cut alone answered =
     plain_is h client c reply w symbol b (record { plain = refl; named = named; snap = snap; cut = cut; ends = ends; legal = legal; alone = alone }) answered
-
--- so each legal reply is isolated
-pub legal_is_isolated : LegalIsIsolated
-legal_is_isolated h client c reply w legal = isolated (history_at h w.stop) client c reply w (sym (length_at h w.stop legal.0)) legal.1
-  where
-    length_at : (h : History) (n : ℕ) → n ≤ length h → length (history_at h n) ≡ n
-    length_at h n le = let rest : length h - (length h - n) ≡ n = omega (arith, le) in length-drop (length h - n) h ∙ rest

@@ -97,7 +97,7 @@ rows_within : (most : ℕ) (ps : List Part) → PartsWithin most ps → AreWithi
 rows_within most [] a = tt
 rows_within most (p ∷ ps) a = (a.0, rows_within most ps a.1)
 
-base_within : (most : ℕ) (ls : List Linked) (base : Option Version) → AllByRecursion (λ (l : Linked). AreWithin most (row_sizes l.index.slots)) ls → AreWithin most (rows_of_version ls base)
+pub base_within : (most : ℕ) (ls : List Linked) (base : Option Version) → AllByRecursion (λ (l : Linked). AreWithin most (row_sizes l.index.slots)) ls → AreWithin most (rows_of_version ls base)
 base_within most ls None all = tt
 base_within most ls (Some v) all = found ls all
   where

@@ -68,7 +68,7 @@ unstaged symbol (events.Unname client snap) h still = refl
 unstaged symbol (events.Drop client key) h still = refl
 
 -- a test that does not pass does not pass with another
-not_with : (a b : Bool) → b ≡ false → (a && b) ≡ false
+pub not_with : (a b : Bool) → b ≡ false → (a && b) ≡ false
 not_with true b e = e
 not_with false b e = refl
 

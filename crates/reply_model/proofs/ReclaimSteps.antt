@@ -47,7 +47,7 @@ use Rattle.reply_model.proofs.TryCounts.{reversed_none}
 -- ---- the outcome
 
 -- a reclaim that is not cut was met, found no reference, or freed
-abbrev Reclaims : History → Client → Name → Reply → Window → Outcome → Type 0
+abbrev pub Reclaims : History → Client → Name → Reply → Window → Outcome → Type 0
 Reclaims h client symbol reply w o =
     Met h client (commands.Reclaim symbol) reply w
     ⊎ ((o ≡ outcomes.Refused refusals.NoSuchSymbol) × ((state_of (history_at h reply.place) symbol).has_reference ≡ false))
@@ -63,11 +63,11 @@ refused_reclaim h client symbol reply w (refusals.VersionGone number) cut l = ab
 refused_reclaim h client symbol reply w refusals.NoSuchSymbol cut l = inr (inl (refl, l))
 refused_reclaim h client symbol reply w why cut l = absurd l
 
-reclaim_outcome : (h : History) (client : Client) (symbol : Name) (reply : Reply) (w : Window) (o : Outcome) → is_cut o ≡ false → IsLegalOutcome h client (commands.Reclaim symbol) reply w o
+pub reclaim_is : (h : History) (client : Client) (symbol : Name) (reply : Reply) (w : Window) (o : Outcome) → is_cut o ≡ false → IsLegalOutcome h client (commands.Reclaim symbol) reply w o
     → Reclaims h client symbol reply w o
-reclaim_outcome h client symbol reply w (outcomes.Refused why) cut l = refused_reclaim h client symbol reply w why cut l
-reclaim_outcome h client symbol reply w (outcomes.Freed tiles indexes pieces) cut l = inr (inr (tiles, indexes, pieces, refl, l))
-reclaim_outcome h client symbol reply w o cut l = absurd l
+reclaim_is h client symbol reply w (outcomes.Refused why) cut l = refused_reclaim h client symbol reply w why cut l
+reclaim_is h client symbol reply w (outcomes.Freed tiles indexes pieces) cut l = inr (inr (tiles, indexes, pieces, refl, l))
+reclaim_is h client symbol reply w o cut l = absurd l
 
 -- ---- a dropped key does not come back
 
@@ -98,7 +98,7 @@ gone_behind h key (events.Drop c k) lawful put gone = (by (same_key k key), gone
     by false = gone.0
 
 -- a key that an event of the history dropped is not stored
-dropped_is_gone : (h : History) (key : Key) (q : ℕ) (e : Event) → IsLawful h → is_put key.kind ≡ true → q ≤ length h → event_at h q ≡ Some e → drops key e ≡ true → (stored h key ≡ None) × (is_some (body_put h key) ≡ true)
+pub dropped_is_gone : (h : History) (key : Key) (q : ℕ) (e : Event) → IsLawful h → is_put key.kind ≡ true → q ≤ length h → event_at h q ≡ Some e → drops key e ≡ true → (stored h key ≡ None) × (is_some (body_put h key) ≡ true)
 dropped_is_gone [] key q e lawful put low at is = absurd (none_at (nat_le q 0) (0 - q) at)
   where
     none_at : (b : Bool) (n : ℕ) → cond b (newest (drop n [])) None ≡ Some e → ⊥
@@ -134,7 +134,7 @@ drops_tell_nothing client keys old kept = subst (λ h. IsKept client old h) (dro
         none_reversed es none = reversed_none tells es none
 
 -- drops of one kind count all, or none
-counted_drops : (client : ℕ) (is kind : KeyKind) (keys : List Key) → AllByRecursion (λ (k : Key). k.kind ≡ is) keys → count_by (drops_kind kind) (map (events.Drop client) keys) ≡ cond (same_kind is kind) (length keys) 0
+pub counted_drops : (client : ℕ) (is kind : KeyKind) (keys : List Key) → AllByRecursion (λ (k : Key). k.kind ≡ is) keys → count_by (drops_kind kind) (map (events.Drop client) keys) ≡ cond (same_kind is kind) (length keys) 0
 counted_drops client is kind [] all = both (same_kind is kind)
   where
     both : (b : Bool) → ◌≡◌ {A = ℕ} 0 (cond b 0 0)
@@ -147,11 +147,11 @@ counted_drops client is kind (k ∷ keys) all =
     one_more true f g h = omega (arith, f, g, h)
     one_more false f g h = omega (arith, f, g, h)
 
-mapped_append : (client : ℕ) (xs ys : List Key) → map (events.Drop client) (xs ++ ys) ≡ map (events.Drop client) xs ++ map (events.Drop client) ys
+pub mapped_append : (client : ℕ) (xs ys : List Key) → map (events.Drop client) (xs ++ ys) ≡ map (events.Drop client) xs ++ map (events.Drop client) ys
 mapped_append client [] ys = refl
 mapped_append client (x ∷ xs) ys = ap (λ es. events.Drop client x ∷ es) (mapped_append client xs ys)
 
-kinds_of : (P : Key → Type 0) (is : KeyKind) → ((k : Key) → P k → k.kind ≡ is) → (keys : List Key) → AllByRecursion P keys → AllByRecursion (λ (k : Key). k.kind ≡ is) keys
+pub kinds_of : (P : Key → Type 0) (is : KeyKind) → ((k : Key) → P k → k.kind ≡ is) → (keys : List Key) → AllByRecursion P keys → AllByRecursion (λ (k : Key). k.kind ≡ is) keys
 kinds_of P is f [] all = tt
 kinds_of P is f (k ∷ keys) all = (f k all.0, kinds_of P is f keys all.1)
 
@@ -320,7 +320,7 @@ module _ (c : Cutting) (client : Client) (symbol : Name) (reply : Reply) (more o
   -- a legal reclaim whose place is where the window begins, if it is done, is a step of the run alone
   pub reclaim_step : IsStep c client.session (commands.Reclaim symbol) reply old h
   reclaim_step r stands =
-      elim (reclaim_outcome h client symbol reply (added more old faulted) reply.outcome heard.cut heard.seen.outcome) [
+      elim (reclaim_is h client symbol reply (added more old faulted) reply.outcome heard.cut heard.seen.outcome) [
         | inl met ↦ absurd (not_met client (commands.Reclaim symbol) reply more old faulted heard met)
         | inr rest ↦ elim rest [
           | inl none ↦ unreferred_step r stands none.0 none.1

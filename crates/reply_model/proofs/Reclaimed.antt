@@ -39,13 +39,13 @@ pub record Frees (old new : History) (symbol : Name) (tiles indexes pieces : Lis
 
 -- ---- lists
 
-data_is_no_index : (key : Key) → key.kind ≡ kinds.TableData → key.kind ≡ kinds.TableIndex → ⊥
+pub data_is_no_index : (key : Key) → key.kind ≡ kinds.TableData → key.kind ≡ kinds.TableIndex → ⊥
 data_is_no_index key e f = true≢false (ap (λ k. same_kind k kinds.TableData) (sym e ∙ f))
 
-data_is_no_piece : (key : Key) → key.kind ≡ kinds.TableData → key.kind ≡ kinds.Staged → ⊥
+pub data_is_no_piece : (key : Key) → key.kind ≡ kinds.TableData → key.kind ≡ kinds.Staged → ⊥
 data_is_no_piece key e f = true≢false (ap (λ k. same_kind k kinds.TableData) (sym e ∙ f))
 
-index_is_no_piece : (key : Key) → key.kind ≡ kinds.TableIndex → key.kind ≡ kinds.Staged → ⊥
+pub index_is_no_piece : (key : Key) → key.kind ≡ kinds.TableIndex → key.kind ≡ kinds.Staged → ⊥
 index_is_no_piece key e f = true≢false (ap (λ k. same_kind k kinds.TableIndex) (sym e ∙ f))
 
 not_not : (x : Bool) → not x ≡ true → x ≡ true → ⊥

@@ -86,7 +86,7 @@ all_filtered : (P : Key → Type 0) (p : Key → Bool) (ks : List Key) → AllBy
 all_filtered P p [] all = tt
 all_filtered P p (k ∷ ks) all = elim (p k) as (λ t. AllByRecursion P (cond t (k ∷ filter p ks) (filter p ks))) [ true ↦ (all.0, all_filtered P p ks all.1) | false ↦ all_filtered P p ks all.1 ]
 
-ascending_filtered : (p : Key → Bool) (ks : List Key) → Ascending ks → Ascending (filter p ks)
+pub ascending_filtered : (p : Key → Bool) (ks : List Key) → Ascending ks → Ascending (filter p ks)
 ascending_filtered p [] up = tt
 ascending_filtered p (k ∷ ks) up =
     elim (p k) as (λ t. Ascending (cond t (k ∷ filter p ks) (filter p ks))) [
@@ -131,7 +131,7 @@ count_inserted p key (k ∷ ks) none =
     ]
 
 -- a key that does not pass does not count
-count_other : (p : Key → Bool) (key : Key) (ks : List Key) → p key ≡ false → count_by p (insert_key key ks) ≡ count_by p ks
+pub count_other : (p : Key → Bool) (key : Key) (ks : List Key) → p key ≡ false → count_by p (insert_key key ks) ≡ count_by p ks
 count_other p key [] fails = count_by-cons p key [] ∙ ap (λ (b : Bool). cond {A = ℕ} b 1 0 + 0) fails
 count_other p key (k ∷ ks) fails =
     let one : cond {A = ℕ} (p key) 1 0 ≡ 0 = ap (λ b. cond b 1 0) fails in

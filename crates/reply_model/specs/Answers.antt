@@ -1,6 +1,6 @@
 -- What the one-thread library answers to each command, over whole frames.
 --     answer                  the answer; `keys` and `reclaim` have clauses of their own, `snapshot` and `delete_snapshot` answers of their own
-use Rattle.std.specs.Prelude.{ℕ, false, if◌then◌else◌, [], map, Option, Some, None, Ok, option_map}
+use Rattle.std.specs.Prelude.{ℕ, if◌then◌else◌, [], map, Option, Some, None, Ok, option_map}
 use Rattle.key_kind.specs.Names.{Name}
 use Rattle.bucket_core.specs.declared.event.Change.TheVariants as changes
 use Rattle.store_model.specs.Library.{base_of}
@@ -9,8 +9,8 @@ use Rattle.reply_model.specs.declared.outcome.SymbolRow.{SymbolRow}
 use Rattle.expr_clause.specs.declared.command.Command.{Command}
 use Rattle.expr_clause.specs.declared.command.Command.TheVariants as commands
 use Rattle.reply_model.specs.declared.outcome.Outcome.TheVariants as outcomes
-use Rattle.reply_model.specs.Answering.{Session, Answer, answered, ◌then◌, with_frame, stamp_of, committed, base_or}
-use Rattle.reply_model.specs.CommitAnswers.{append_answer, update_answer, delete_answer, prune_answer}
+use Rattle.reply_model.specs.Answering.{Session, Answer, answered, ◌then◌, with_frame, stamp_of, committed}
+use Rattle.reply_model.specs.CommitAnswers.{append_answer, update_answer, clear_answer, delete_answer, prune_answer}
 use Rattle.reply_model.specs.ReadAnswers.{versions_answer, read_version, ask}
 use Rattle.reply_model.specs.PieceAnswers.{finalize_answer, discard_answer}
 
@@ -23,8 +23,7 @@ abbrev pub answer : Session → Library → Library → ℕ → Command → Opti
 answer s listed l place (commands.Write symbol frame at prune) = with_frame s frame (λ f. Ok (committed (l.state symbol) prune (changes.Wrote f (stamp_of s at))))
 answer s listed l place (commands.Append symbol frame at prune) = with_frame s frame (λ f. append_answer (l.state symbol) prune (stamp_of s at) f)
 answer s listed l place (commands.Update symbol frame range upsert at prune) = with_frame s frame (λ f. update_answer (l.state symbol) upsert prune (stamp_of s at) range f)
-answer s listed l place (commands.DeleteRange symbol range at prune) =
-    Some (answered (base_or (l.state symbol) then λ v. update_answer (l.state symbol) false prune (stamp_of s at) (Some range) (record v.frame { rows = [] })))
+answer s listed l place (commands.DeleteRange symbol range at prune) = Some (answered (clear_answer range prune (stamp_of s at) (l.state symbol)))
 answer s listed l place (commands.Stage symbol frame) = with_frame s frame (λ f. Ok (record { outcome = outcomes.Staged; marks = [] }))
 answer s listed l place (commands.Finalize symbol append sorted at prune) = Some (answered (finalize_answer (listed.state symbol) (l.state symbol) append sorted prune (stamp_of s at)))
 answer s listed l place (commands.Discard symbol) = Some (answered (discard_answer (listed.state symbol) (l.state symbol)))

@@ -1,5 +1,5 @@
 -- The row blocks of versions: how rows are cut, which blocks a new version shares with its base, and which are stored.
---     Cutting             the most rows of a block, and the most columns of a tile
+--     Cutting, run_cutting      the most rows of a block, and the most columns of a tile; those of a cutting of frames
 --     Block               a row block: by which version it was made, its number there, its rows and its tiles
 --     parts_of            what a change makes of its base's blocks: shared ones, and new ones of so many rows
 --     Shape               of a symbol: the blocks of its versions, and what is stored
@@ -8,6 +8,7 @@ use Rattle.std.specs.Prelude.{ℕ, zero, suc, ◌+◌, ◌-◌, ◌/◌, ◌%◌
 use Rattle.std.specs.Option.{option_map_or}
 use Rattle.std.specs.List.{list_any}
 use Rattle.frame_core.specs.Frames.{rows_between}
+use Rattle.segment_cut.specs.Cuttings.{Cutting as Sizes}
 use Rattle.bucket_core.specs.declared.event.PieceName.{PieceName}
 use Rattle.bucket_core.specs.declared.event.Change.{Change}
 use Rattle.bucket_core.specs.declared.event.Change.TheVariants as changes
@@ -17,6 +18,10 @@ use Rattle.store_model.specs.Library.{State, Version, base_of, is_kept, is_consu
 pub record Cutting : Type 0 where
   pub rows : ℕ
   pub columns : ℕ
+
+-- the cutting of frames, as a run of one client alone has it
+abbrev pub run_cutting : Sizes → Cutting
+run_cutting c = record { rows = c.rows; columns = c.cols }
 
 -- a row block: the version that it was made for, its number among those made with it, its rows and its tiles
 pub record Block : Type 0 where

@@ -1,6 +1,6 @@
--- The answers of append, update, delete and prune.
---     append_answer, update_answer, delete_answer, prune_answer
-use Rattle.std.specs.Prelude.{ℕ, ◌+◌, ℤ, Bool, ◌&&◌, not, if◌then◌else◌, List, [], ◌∷◌, ◌++◌, map, reverse, length, find, Option, Some, None, Result, Ok, nat_eq, nat_lt}
+-- The answers of append, update, delete_range, delete and prune.
+--     append_answer, update_answer, clear_answer, delete_answer, prune_answer
+use Rattle.std.specs.Prelude.{ℕ, ◌+◌, ℤ, Bool, false, ◌&&◌, not, if◌then◌else◌, List, [], ◌∷◌, ◌++◌, map, reverse, length, find, Option, Some, None, Result, Ok, nat_eq, nat_lt}
 use Rattle.frame_core.specs.Ranges.{Range}
 use Rattle.frame_core.specs.declared.refusal.Asked.TheVariants as asks
 use Rattle.frame_core.specs.declared.refusal.Refusal.{Refusal}
@@ -11,7 +11,7 @@ use Rattle.frame_core.specs.RawFrames.{unless}
 use Rattle.bucket_core.specs.declared.event.Change.TheVariants as changes
 use Rattle.store_model.specs.Library.{State, Version, is_live, base_of, live_versions}
 use Rattle.reply_model.specs.declared.outcome.Outcome.TheVariants as outcomes
-use Rattle.reply_model.specs.Answering.{Answer, ◌then◌, refuse_if, or_refuse, live_numbers, removed, committed, fits_schema, may_append, joined_within}
+use Rattle.reply_model.specs.Answering.{Answer, ◌then◌, refuse_if, or_refuse, live_numbers, removed, committed, base_or, fits_schema, may_append, joined_within}
 
 -- the answer of append
 abbrev pub append_answer : State → Bool → ℤ → Frame → Result Answer Refusal
@@ -39,6 +39,10 @@ update_answer st upsert prune at asked frame =
     update_range asked frame then λ range.
     may_update st upsert (base_of st) frame then λ f.
     joined_within (λ old new. replace_range range new old) (base_of st) f then λ g. Ok (committed st prune (changes.Updated g range at))
+
+-- the answer of delete_range: that of update by no rows of the base's columns
+abbrev pub clear_answer : Range → Bool → ℤ → State → Result Answer Refusal
+clear_answer range prune at st = base_or st then λ v. update_answer st false prune at (Some range) (record v.frame { rows = [] })
 
 -- the first number that is not live
 abbrev pub first_absent : State → List ℕ → Option ℕ

@@ -3,18 +3,22 @@
 --     IsReclaiming         the own events of a reclaim
 --     HasDeadKey           such a key is stored
 --     IsFreedAt            the clause of Freed
-use Rattle.std.specs.Prelude.{◌≡◌, ◌≢◌, ◌⊎◌, ℕ, ◌≤◌, Bool, true, false, List, [], ◌∷◌, ◌++◌, map, count_by, Some, None, ⊤, Contains, is_some}
-use Rattle.std.specs.List.{AllByRecursion}
+--     reclaim_outcome      how many stored keys are dead, which is what a reclaim frees of them
+use Rattle.std.specs.Prelude.{◌≡◌, ◌≢◌, ◌⊎◌, ◌&&◌, ℕ, ◌≤◌, Bool, true, false, not, if◌then◌else◌, List, [], ◌∷◌, ◌++◌, map, count_by, Some, None, ⊤, Contains, is_some}
+use Rattle.std.specs.List.{list_any, AllByRecursion}
+use Rattle.frame_core.specs.declared.refusal.Refusal.TheVariants as refusals
 use Rattle.key_kind.specs.declared.key.KeyKind.{KeyKind}
 use Rattle.key_kind.specs.declared.key.KeyKind.TheVariants as kinds
 use Rattle.key_kind.specs.declared.key.Key.{Key}
-use Rattle.key_kind.specs.Names.{Name}
+use Rattle.key_kind.specs.Names.{Name, same_name}
 use Rattle.key_kind.specs.Keys.{same_key, same_kind, key_before}
 use Rattle.bucket_core.specs.declared.event.Event.{Event}
 use Rattle.bucket_core.specs.declared.event.Event.TheVariants as events
-use Rattle.bucket_core.specs.History.{History, author, stored, history_at, event_at}
-use Rattle.store_model.specs.Library.{state_of}
-use Rattle.store_model.specs.Links.{Linked, links, reached, IsUnneeded, IsConsumedPiece}
+use Rattle.bucket_core.specs.History.{History, author, stored, stored_keys, history_at, event_at}
+use Rattle.store_model.specs.Library.{state_of, is_consumed}
+use Rattle.store_model.specs.Links.{Linked, links, reached, reaches, is_reached, is_reached_by_needed, IsUnneeded, IsConsumedPiece}
+use Rattle.reply_model.specs.declared.outcome.Outcome.{Outcome}
+use Rattle.reply_model.specs.declared.outcome.Outcome.TheVariants as outcomes
 use Rattle.reply_model.specs.declared.reply.Reply.{Reply}
 use Rattle.reply_model.specs.Windows.{Window, own_events, is_refused}
 use Rattle.reply_model.specs.Tries.{IsKeyOf}
@@ -85,3 +89,29 @@ pub record IsFreedAt (h : History) (client : ℕ) (symbol : Name) (tiles indexes
       → Contains (reached l) key → IsKeyOf kinds.TableData symbol key → IsUnneeded (history_at h reply.place) key
       → (stored (history_at h w.stop) key ≡ None) ⊎ DroppedByAnother h client w l.row.index
   pub no_piece : (key : Key) → IsDeadPiece (history_at h reply.place) symbol key → stored (history_at h w.stop) key ≡ None
+
+-- ---- how many keys are dead
+
+-- a key of this kind of the symbol that some link reached, and that no live or held link reaches
+abbrev pub is_unneeded_of : KeyKind → History → Name → Key → Bool
+is_unneeded_of kind g symbol key = same_kind key.kind kind && same_name key.name symbol && is_reached g key && not (is_reached_by_needed g key)
+
+-- the test of a dead index
+abbrev pub is_dead_index : History → Name → Key → Bool
+is_dead_index g symbol key = is_unneeded_of kinds.TableIndex g symbol key && is_some (stored g key)
+
+-- the test of a dead tile, which such an index names
+abbrev pub is_dead_tile : History → Name → Key → Bool
+is_dead_tile g symbol key = is_unneeded_of kinds.TableData g symbol key && list_any (λ (l : Linked). reaches l key && is_dead_index g symbol l.row.index) (links g symbol)
+
+-- the test of a consumed piece
+abbrev pub is_dead_piece : History → Name → Key → Bool
+is_dead_piece g symbol key = same_kind key.kind kinds.Staged && same_name key.name symbol && is_consumed (state_of g key.name) (record { client = key.client; serial = key.serial }) && is_some (stored g key)
+
+-- how many stored keys of the symbol are dead, of each kind
+abbrev pub freed_outcome : History → Name → Outcome
+freed_outcome g symbol = outcomes.Freed (count_by (is_dead_tile g symbol) (stored_keys g)) (count_by (is_dead_index g symbol) (stored_keys g)) (count_by (is_dead_piece g symbol) (stored_keys g))
+
+-- what a reclaim of these contents answers
+abbrev pub reclaim_outcome : History → Name → Outcome
+reclaim_outcome g symbol = if (state_of g symbol).has_reference then freed_outcome g symbol else outcomes.Refused refusals.NoSuchSymbol

@@ -2,9 +2,9 @@
 --     Talk, IsLegalTalk    the commands of one client, its replies, and the windows that are shown
 --     AllCovered, AllApart      each event lies in one window of its own client
 --     IsLegalRun           the first commands, the clients and the last commands
---     IsIsolated           what a command answers that is alone on its symbol
+--     outcome_at, IsIsolated      what a command answers that is alone on its symbol
 --     RefusedHarmsNothing, RefusedReleases      what a refused command leaves as it was
-use Rattle.std.specs.Prelude.{◌≡◌, ◌⊎◌, ⊤, ℕ, ◌<◌, ◌≤◌, Bool, true, false, ◌&&◌, not, List, [], ◌∷◌, length, max, Some, nat_eq, nat_lt, nat_le, Any}
+use Rattle.std.specs.Prelude.{◌≡◌, ◌⊎◌, ⊤, ℕ, ◌<◌, ◌≤◌, Bool, true, false, ◌&&◌, not, List, [], ◌∷◌, length, max, Option, Some, nat_eq, nat_lt, nat_le, Any, option_map}
 use Rattle.std.specs.List.{list_any, AllByRecursion}
 use Rattle.key_kind.specs.Names.{Name, same_name}
 use Rattle.key_kind.specs.declared.key.KeyKind.TheVariants as kinds
@@ -19,12 +19,16 @@ use Rattle.expr_clause.specs.declared.command.AsOf.TheVariants as moments
 use Rattle.expr_clause.specs.declared.command.Pick.{Pick}
 use Rattle.expr_clause.specs.declared.command.Command.{Command}
 use Rattle.expr_clause.specs.declared.command.Command.TheVariants as commands
+use Rattle.store_model.specs.Law.{IsLawful}
+use Rattle.reply_model.specs.declared.outcome.Outcome.{Outcome}
 use Rattle.reply_model.specs.declared.reply.Reply.{Reply}
 use Rattle.reply_model.specs.Answering.{Session, Answer}
 use Rattle.reply_model.specs.Answers.{answer}
 use Rattle.reply_model.specs.Windows.{Window, Client, library_at, own_events, symbol_of, is_refused, is_cut, is_store_fault}
 use Rattle.reply_model.specs.OwnEvents.{HasOwnEvents}
 use Rattle.reply_model.specs.Left.{releases, HasLeft}
+use Rattle.reply_model.specs.Drops.{reclaim_outcome}
+use Rattle.reply_model.specs.Rows.{keys_outcome}
 use Rattle.reply_model.specs.Legal.{LegalFrom, IsLegalReply}
 
 -- the place lies in one of the windows
@@ -102,10 +106,21 @@ abbrev pub reads_snapshot : Command → Bool
 reads_snapshot (commands.Read symbol (moments.Snapshot snap) range columns) = true
 reads_snapshot c = false
 
--- alone on its symbol a command answers what the one-thread library answers where its window begins
+-- what a command answers at a place: the counts of the keys stored there, of all and of dead ones, or else what the one-thread library answers
+abbrev pub outcome_at : Session → History → ℕ → Command → Option Outcome
+outcome_at s h place (commands.Keys symbol) = Some (keys_outcome (history_at h place) symbol)
+outcome_at s h place (commands.Reclaim symbol) = Some (reclaim_outcome (history_at h place) symbol)
+outcome_at s h place c = option_map (λ (a : Answer). a.outcome) (answer s (library_at h place) (library_at h place) place c)
+
+-- of a reclaim the history is lawful, so that no key is put again that was dropped
+abbrev pub IsLawfulFor : Command → History → Type 0
+IsLawfulFor (commands.Reclaim symbol) h = IsLawful h
+IsLawfulFor c h = ⊤
+
+-- alone on its symbol a command answers what it would answer where its window begins
 abbrev pub IsIsolated : History → Client → Command → Reply → Window → Type 0
-IsIsolated h client c reply w = (symbol : Name) (a : Answer) → symbol_of c ≡ Some symbol → reads_snapshot c ≡ false → is_cut reply.outcome ≡ false → IsAlone h client.session.client symbol w
-    → answer client.session (library_at h w.start) (library_at h w.start) w.start c ≡ Some a → reply.outcome ≡ a.outcome
+IsIsolated h client c reply w = (symbol : Name) (o : Outcome) → symbol_of c ≡ Some symbol → reads_snapshot c ≡ false → is_cut reply.outcome ≡ false → IsAlone h client.session.client symbol w
+    → IsLawfulFor c h → outcome_at client.session h w.start c ≡ Some o → reply.outcome ≡ o
 
 -- each legal reply is isolated, in the history at its window's end
 abbrev pub LegalIsIsolated : Type 0

@@ -14,8 +14,9 @@ pub fn refused_commands_change_nothing()
     ensures released { RefusedReleases }
 {}
 
-/// A command that is alone on its symbol answers what the one-thread library answers where its window begins: where no event of
-/// others in the window names the symbol, each legal reply has that outcome, want of memory, failures and a full store aside.
+/// A command that is alone on its symbol answers what it would answer where its window begins: where no event of others in the window
+/// names the symbol, each legal reply has the outcome of the one-thread library there, or, of `keys` and `reclaim`, the counts of
+/// the keys that are stored there and of those that are dead there, want of memory, failures and a full store aside.
 pub fn commands_are_isolated()
     ensures { LegalIsIsolated }
 {}

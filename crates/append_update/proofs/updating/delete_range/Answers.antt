@@ -1,7 +1,8 @@
 use Rattle.std.proofs.Common.{sym, ap}
 use Rattle.frame_write.proofs.ReplyLemmas.{goes_on}
 use Rattle.append_update.specs.declared.wish.Wish.TheVariants as wishes
-use Rattle.append_update.specs.Asking.{clear_answer, IsAnswered, Declines, Wants}
+use Rattle.append_update.specs.Asking.{IsAnswered, Declines, Wants}
+use Rattle.reply_model.specs.CommitAnswers.{clear_answer}
 use Rattle.append_update.proofs.AloneLemmas.{tries_lay}
 use Rattle.append_update.proofs.ReplyLemmas.{delete_is_legal}
 use Rattle.append_update.proofs.updating.delete_range.Goals as goal

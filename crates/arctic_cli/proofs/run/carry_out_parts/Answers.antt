@@ -1,4 +1,4 @@
-use Rattle.library_api.specs.Steps.{run_cutting}
+use Rattle.reply_model.specs.Blocks.{run_cutting}
 use Rattle.bucket_shared.specs.Passes.{seen_of, number_of, limit_of}
 use Rattle.arctic_cli.proofs.Running.{ran-items}
 use Rattle.arctic_cli.proofs.run.carry_out_parts.Goals as goal

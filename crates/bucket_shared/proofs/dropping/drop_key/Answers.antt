@@ -11,6 +11,7 @@ use Rattle.bucket_shared.specs.Sole.{is_sole}
 use Rattle.bucket_shared.specs.Stories.{history}
 use Rattle.bucket_shared.proofs.Adding.{Adds-look}
 use Rattle.bucket_shared.proofs.Gone.{drop-later}
+use Rattle.bucket_shared.proofs.NotesKept.{KeepsNotes-give, KeepsNotes-add}
 use Rattle.bucket_shared.proofs.dropping.drop_key.Given.{Over}
 use Rattle.bucket_shared.proofs.dropping.drop_key.Goals as goal
 
@@ -55,3 +56,15 @@ returns-clause-did g c =
       below,
       subst (λ (h : History). is_some (stored (drop 1 h) c.args.key.now) ≡ true) (sym (added g c)) (stood g c),
     )
+
+-- the notes of before are true of what was seen with the turn, and of what was added to it
+pub returns-clause-noted : goal.returns-clause-noted
+returns-clause-noted g c =
+    KeepsNotes-add c.args.seat.now.me.0.notes c.take-store.new.seat.me.0 c.add.new.seat.me.0 g.K.EventName.event c.take-store.ensures.noted c.add.ensures.seen c.add.ensures.notes
+
+-- a turn that was given again without an event has shown them
+pub returns-then-not-stands-clause-noted : goal.returns-then-not-stands-clause-noted
+returns-then-not-stands-clause-noted g c = KeepsNotes-give c.args.seat.now.me.0.notes c.take-store.new.seat.me.0 c.give.new.seat.me.0 c.take-store.ensures.noted c.give.ensures.view
+
+pub returns-then-limit-count-clause-noted : goal.returns-then-limit-count-clause-noted
+returns-then-limit-count-clause-noted g c = KeepsNotes-give c.args.seat.now.me.0.notes c.take-store.new.seat.me.0 c.give-then-limit-count.new.seat.me.0 c.take-store.ensures.noted c.give-then-limit-count.ensures.view

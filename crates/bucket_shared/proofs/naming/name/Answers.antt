@@ -12,6 +12,7 @@ use Rattle.store_model.specs.Law.{IsClaimed}
 use Rattle.bucket_shared.specs.Sole.{is_sole}
 use Rattle.bucket_shared.specs.Stories.{history}
 use Rattle.bucket_shared.proofs.Adding.{claim-later, Adds-look, not_err}
+use Rattle.bucket_shared.proofs.NotesKept.{KeepsNotes-give, KeepsNotes-add}
 use Rattle.bucket_shared.proofs.naming.name.Given.{Over}
 use Rattle.bucket_shared.proofs.naming.name.Goals as goal
 
@@ -57,3 +58,18 @@ returns-clause-did g c =
       below,
       subst (λ (h : History). is_some (stored (drop 1 h) (snapshot_key c.args.snap.now)) ≡ false) (sym (added g c)) (free g c),
     )
+
+-- the notes of before are true of what was seen with the turn, and of what was added to it
+pub returns-clause-noted : goal.returns-clause-noted
+returns-clause-noted g c =
+    KeepsNotes-add c.args.seat.now.me.0.notes c.take-store.new.seat.me.0 c.add.new.seat.me.0 g.K.EventName.event c.take-store.ensures.noted c.add.ensures.seen c.add.ensures.notes
+
+-- a turn that was given again without an event has shown them
+pub returns-then-stands-clause-noted : goal.returns-then-stands-clause-noted
+returns-then-stands-clause-noted g c = KeepsNotes-give c.args.seat.now.me.0.notes c.take-store.new.seat.me.0 c.give.new.seat.me.0 c.take-store.ensures.noted c.give.ensures.view
+
+pub returns-then-limit-count-clause-noted : goal.returns-then-limit-count-clause-noted
+returns-then-limit-count-clause-noted g c = KeepsNotes-give c.args.seat.now.me.0.notes c.take-store.new.seat.me.0 c.give-then-limit-count.new.seat.me.0 c.take-store.ensures.noted c.give-then-limit-count.ensures.view
+
+pub returns-then-is_err-clause-noted : goal.returns-then-is_err-clause-noted
+returns-then-is_err-clause-noted g c = KeepsNotes-give c.args.seat.now.me.0.notes c.take-store.new.seat.me.0 c.give-then-is_err.new.seat.me.0 c.take-store.ensures.noted c.give-then-is_err.ensures.view

@@ -11,6 +11,7 @@ use Rattle.store_model.specs.Law.{IsClaimed}
 use Rattle.bucket_shared.specs.Sole.{is_sole}
 use Rattle.bucket_shared.specs.Stories.{history}
 use Rattle.bucket_shared.proofs.Adding.{claim-later, not_err}
+use Rattle.bucket_shared.proofs.NotesKept.{KeepsNotes-give, KeepsNotes-add}
 use Rattle.bucket_shared.proofs.putting.put.Goals as goal
 
 pub add-requires-clause-shows : goal.add-requires-clause-shows
@@ -35,3 +36,15 @@ returns-clause-room g c =
     let below : c.len-count.result < c.args.limit = search rules in
     let le : puts_by n h ≤ length h = puts_by-le-length n h in
     omega (arith, le, below, c.take-store.ensures.serial, c.take-store.ensures.stands.shows.count, c.len-count.ensures, c.requires.limit)
+
+-- the notes of before are true of what was seen with the turn, and of what was added to it
+pub returns-clause-noted : goal.returns-clause-noted
+returns-clause-noted g c =
+    KeepsNotes-add c.args.seat.now.me.0.notes c.take-store.new.seat.me.0 c.add.new.seat.me.0 g.K.EventName.event c.take-store.ensures.noted c.add.ensures.seen c.add.ensures.notes
+
+-- a turn that was given again without an event has shown them
+pub returns-then-limit-count-clause-noted : goal.returns-then-limit-count-clause-noted
+returns-then-limit-count-clause-noted g c = KeepsNotes-give c.args.seat.now.me.0.notes c.take-store.new.seat.me.0 c.give.new.seat.me.0 c.take-store.ensures.noted c.give.ensures.view
+
+pub returns-then-is_err-clause-noted : goal.returns-then-is_err-clause-noted
+returns-then-is_err-clause-noted g c = KeepsNotes-give c.args.seat.now.me.0.notes c.take-store.new.seat.me.0 c.give-then-is_err.new.seat.me.0 c.take-store.ensures.noted c.give-then-is_err.ensures.view

@@ -21,3 +21,6 @@ pub returns-clause-had : goal.returns-clause-had
 returns-clause-had g c =
     let v = c.args.seat.now.me.0 in
     ∥∥₁_map c.requires.had (λ (h : AreHad v.badge v.seen). subst (λ (x : View Event). AreHad x.badge x.seen) (sym (after g c)) (AreHad-add v.badge v.seen g.K.EventName.event c.requires.holds.0 c.requires.author h))
+
+pub returns-clause-notes : goal.returns-clause-notes
+returns-clause-notes g c = ap (λ (v : View Event). v.notes) (after g c)

@@ -1,6 +1,7 @@
-use Rattle.std.proofs.Common.{◌≡◌, ◌≢◌, ℕ, length, inl, refl, sym, ap, ◌∙◌, subst}
+use Rattle.std.proofs.Common.{◌≡◌, ◌≢◌, ℕ, List, length, inl, refl, sym, ap, ◌∙◌, subst}
 use mathlib.Core.Logic.{∥∥₁_elim, ∥∥₁_map, ∥∥₁_prop}
 use Rattle.turn_cell.specs.declared.badge.Badge.{Badge}
+use Rattle.turn_cell.specs.declared.view.Note.{Note}
 use Rattle.turn_cell.specs.declared.view.View.{View}
 use Rattle.turn_cell.specs.Badges.{Among, Has, Awaits, joined_at, joined_badge}
 use Rattle.turn_cell.specs.Entries.{entries_by}
@@ -11,6 +12,7 @@ use Rattle.bucket_core.specs.History.{author}
 use Rattle.bucket_shared.specs.Authors.{AreEnded}
 use Rattle.bucket_shared.proofs.Authors.{AreEnded-join}
 use Rattle.bucket_shared.proofs.Growth.{Looks-later, puts_by-later}
+use Rattle.bucket_shared.specs.Notes.{KeepsNotes}
 use Rattle.bucket_shared.proofs.turn.merge.Given.{Over}
 use Rattle.bucket_shared.proofs.turn.merge.Goals as goal
 
@@ -57,3 +59,8 @@ look-requires-clause-ended g c =
     ∥∥₁_elim c.requires.ended ∥∥₁_prop (λ (kv : AreEnded v.badge v.seen). ∥∥₁_map c.requires.other_ended (λ (kw : AreEnded w.badge w.seen).
     subst (λ (b : Badge). AreEnded b joined.seen) (sym badge)
     (AreEnded-join v w joined.seen c.join.ensures.later c.join.ensures.other_later c.join.ensures.joined c.join.ensures.other_joined c.requires.other_rests.0 apart kv kw)))
+
+-- the notes of both are true of what was seen
+pub returns-clause-noted : goal.returns-clause-noted
+returns-clause-noted g c =
+    subst (λ (notes : List Note). KeepsNotes notes c.look.new.seat.me.0) (ap (λ (v : View Event). v.notes) c.join.ensures.view) c.look.ensures.noted

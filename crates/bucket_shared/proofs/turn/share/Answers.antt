@@ -10,6 +10,8 @@ use Rattle.bucket_core.specs.History.{author}
 use Rattle.bucket_shared.specs.Authors.{AreEnded, AreHad}
 use Rattle.bucket_shared.proofs.Authors.{AreEnded-split, AreEnded-new, AreHad-split, AreHad-new}
 use Rattle.bucket_shared.proofs.Growth.{nothing_by, puts_by-none}
+use Rattle.bucket_shared.specs.Notes.{KeepsNotes}
+use Rattle.bucket_shared.proofs.NotesKept.{KeepsNotes-give}
 use Rattle.bucket_shared.proofs.turn.share.Given.{Over}
 use Rattle.bucket_shared.proofs.turn.share.Goals as goal
 
@@ -57,3 +59,13 @@ returns-clause-other_had g c =
     let first : v.badge.first ≤ c.take-store.result.given = subst (λ (b : Badge). b.first ≤ c.take-store.result.given) (sym c.take-store.ensures.badge) c.take-store.ensures.first in
     let less : v.badge.first < v.top + 1 = omega (arith, first, c.take-store.ensures.given) in
     ∣ subst (λ (x : View Event). AreHad x.badge x.seen) (sym c.split-other.ensures.new_view) (AreHad-new v.badge (v.top + 1) v.seen less) ∣₁
+
+pub returns-clause-noted : goal.returns-clause-noted
+returns-clause-noted g c =
+    let v = c.args.seat.now.me.0 in let taken = c.take-store.new.seat.me.0 in
+    let told : KeepsNotes v.notes (view_after_split taken) = record { same = c.take-store.ensures.noted.same; are_true = c.take-store.ensures.noted.are_true } in
+    KeepsNotes-give v.notes (view_after_split taken) c.give-2.new.seat.me.0 told (after g c)
+
+-- a turn that was given again without an event has shown them
+pub returns-then-store-clause-noted : goal.returns-then-store-clause-noted
+returns-then-store-clause-noted g c = KeepsNotes-give c.args.seat.now.me.0.notes c.take-store.new.seat.me.0 c.give.new.seat.me.0 c.take-store.ensures.noted c.give.ensures.view

@@ -7,6 +7,7 @@ use Rattle.bucket_core.specs.declared.event.Event.{Event}
 use Rattle.bucket_shared.specs.Authors.{AreEnded}
 use Rattle.bucket_shared.proofs.Authors.{AreEnded-later, AreHad-finds}
 use Rattle.bucket_shared.proofs.Growth.{Looks-finds, puts_by-later}
+use Rattle.bucket_shared.proofs.NotesKept.{KeepsNotes-finds}
 use Rattle.bucket_shared.proofs.turn.take.Goals as goal
 
 pub returns-clause-looks : goal.returns-clause-looks
@@ -35,4 +36,4 @@ pub returns-clause-had : goal.returns-clause-had
 returns-clause-had g c = ∣ AreHad-finds c.args.seat.now.me.0 c.take.new.seat.me.0 c.take.ensures.finds ∣₁
 
 pub returns-clause-noted : goal.returns-clause-noted
-returns-clause-noted g c = c.take.ensures.finds.noted
+returns-clause-noted g c = KeepsNotes-finds c.args.seat.now.me.0 c.take.new.seat.me.0 c.take.ensures.finds

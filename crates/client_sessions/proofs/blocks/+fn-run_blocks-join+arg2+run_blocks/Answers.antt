@@ -3,7 +3,7 @@ use Rattle.std.proofs.lemmas.List.{reverse-append}
 use Rattle.bucket_shared.specs.Passes.{limit_of}
 use Rattle.expr_clause.specs.declared.command.Command.{Command}
 use Rattle.reply_model.specs.declared.reply.Reply.{Reply}
-use Rattle.library_api.specs.Steps.{run_cutting}
+use Rattle.reply_model.specs.Blocks.{run_cutting}
 use Rattle.client_sessions.specs.Blocks.{clients_of, IsSessionOf, AreRun}
 use Rattle.client_sessions.proofs.BlockRuns.{run_none, run_here, run_beside}
 use Rattle.client_sessions.proofs.blocks.+fn-run_blocks-join+arg2+run_blocks.Goals as goal

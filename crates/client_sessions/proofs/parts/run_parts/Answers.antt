@@ -2,7 +2,7 @@ use Rattle.std.proofs.Common.{◌∙◌, ℕ, List, refl, sym, subst}
 use Rattle.bucket_shared.specs.Passes.{limit_of}
 use Rattle.reply_model.specs.declared.reply.Reply.{Reply}
 use Rattle.library_api.specs.declared.settings.Settings.{Settings}
-use Rattle.library_api.specs.Steps.{run_cutting}
+use Rattle.reply_model.specs.Blocks.{run_cutting}
 use Rattle.client_sessions.specs.Blocks.{clients_of, IsSessionOf, AreRun}
 use Rattle.client_sessions.proofs.Runs.{run_is, sole_end}
 use Rattle.client_sessions.proofs.parts.run_parts.Given.{Over}

@@ -2,7 +2,8 @@ use Rattle.std.proofs.Common.{rules, ◌∙◌, ◌+◌, ℕ, List, [], take, re
 use Rattle.version_chain.specs.Traces.{GoesOn}
 use Rattle.reply_model.specs.declared.reply.Reply.{Reply}
 use Rattle.reply_model.specs.Windows.{Client}
-use Rattle.library_api.specs.Steps.{client_of, run_cutting, IsLegalIn, IsStepAlone}
+use Rattle.library_api.specs.Steps.{client_of, IsLegalIn, IsStepAlone}
+use Rattle.reply_model.specs.Blocks.{run_cutting}
 use Rattle.library_api.specs.declared.settings.Settings.{Settings}
 use Rattle.client_sessions.specs.Sessions.{IsSession}
 use Rattle.client_sessions.proofs.Sessions.{session_none, same_client, session_at, session_all}

@@ -1,7 +1,8 @@
 use Rattle.std.proofs.Common.{◌≡◌, ◌≤◌, take, length}
 use Rattle.std.specs.Vec.{vec_len, vec_capacity}
 use Rattle.bucket_core.specs.Calls.{IsSteady}
-use Rattle.library_api.specs.Steps.{client_of, run_cutting}
+use Rattle.library_api.specs.Steps.{client_of}
+use Rattle.reply_model.specs.Blocks.{run_cutting}
 use Rattle.client_sessions.specs.Sessions.{IsSession}
 use Rattle.client_sessions.proofs.session.carry_out.Given as goal
 

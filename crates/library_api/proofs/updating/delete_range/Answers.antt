@@ -4,7 +4,7 @@ use Rattle.version_chain.proofs.Walked.{looks_none}
 use Rattle.expr_clause.specs.declared.command.Command.{Command}
 use Rattle.expr_clause.specs.declared.command.Command.TheVariants as commands
 use Rattle.library_api.specs.Steps.{refusal_reply}
-use Rattle.append_update.specs.Asking.{clear_answer}
+use Rattle.reply_model.specs.CommitAnswers.{clear_answer}
 use Rattle.library_api.specs.Frames.{IsLegalWithStamp, LaysDone}
 use Rattle.library_api.proofs.LayLemmas.{refused_done, result_done}
 use Rattle.library_api.proofs.NoEvents.{looks_go_on}

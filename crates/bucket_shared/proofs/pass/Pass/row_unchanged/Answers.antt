@@ -20,3 +20,6 @@ returns-clause-changed c = OnFalse_from c.unchanged.result _ (λ no.
     let is : c.row_of-row.result ≡ row c.args.symbol.now = c.row_of-row.ensures.row ∙ ap (λ (n : Name). row n) c.name.ensures.same in
     let found = OnFalse_at no c.unchanged.ensures.noted in
     record { changed_at = found.0; after = found.1; noted = ap (λ (v : View Event). v.notes) found.2 ∙ ap (λ (q : ℕ). note_at q found.0 ∷ c.args.self.now.seat.me.0.notes) is })
+
+pub returns-clause-same_notes : goal.returns-clause-same_notes
+returns-clause-same_notes c = OnTrue_from c.unchanged.result _ (λ yes. ap (λ (v : View Event). v.notes) (OnTrue_at yes c.unchanged.ensures.same))
