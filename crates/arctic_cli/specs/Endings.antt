@@ -6,10 +6,10 @@
 --     AllWritten, RunEnds     how the lines of a run came to be written, or not
 --     JobEnds, Ends           the endings of a job, and all endings
 --     IsTranscript, StopsByUsage, StopsByScript, StopsByFetch, StopsByPut, WantsMemory, StopsByFile      the ending of each status
---     HasServed, IsOfOne      one client alone at a time runs on an empty store, and all is told of it
+--     HasOneBlock, IsOfOne      one client alone at a time runs on an empty store, and all is told of it
 --     IsRun, IsRunOrFails     exactly the status and the output of a run; or that, unless something failed
 use Rattle.std.specs.Prelude.{◌≡◌, ◌⊎◌, ⊤, ◌<◌, ◌≤◌, ℕ, ℤ, List, [], ◌++◌, length, take, Option, Some, None, Result, Ok, Err}
-use Rattle.std.specs.List.{AllByRecursion, concat}
+use Rattle.std.specs.List.{concat}
 use Rattle.base_types.specs.Faults.{Rose}
 use Rattle.frame_core.specs.Texts.{Text}
 use Rattle.bucket_core.specs.History.{History}
@@ -17,7 +17,6 @@ use Rattle.bucket_shared.specs.declared.pass.Pass.{Pass}
 use Rattle.bucket_shared.specs.Passes.{seen_of, number_of, limit_of}
 use Rattle.reply_model.specs.Windows.{Client}
 use Rattle.client_sessions.specs.declared.parts.PartReplies.{PartReplies}
-use Rattle.client_sessions.specs.Sessions.{AreServed}
 use Rattle.client_sessions.specs.Parts as sessions
 use Rattle.program_edge.specs.Shelves.{Held}
 use Rattle.program_edge.specs.Clocks.{IsReading}
@@ -162,13 +161,13 @@ WantsMemory start shelf_faults shelf_now before after new =
 
 -- ---- completeness
 
--- the job, if there is one, has at most one block, and of each of its commands it is told what one client alone gets
-abbrev pub HasServed : Result Job Stop → Type 0
-HasServed (Ok job) = (length job.parts.blocks ≤ 1) × AreServed job.parts.first × AllByRecursion AreServed job.parts.blocks × AreServed job.parts.last
-HasServed (Err stop) = ⊤
+-- the job, if there is one, has at most one block
+abbrev pub HasOneBlock : Result Job Stop → Type 0
+HasOneBlock (Ok job) = length job.parts.blocks ≤ 1
+HasOneBlock (Err stop) = ⊤
 
 -- one client alone at a time runs on an empty store: shelf, output and clock tell what they hold; the store is empty and the pass that of
--- client 1; the limit was not reached; there is at most one block; and no command is one of which it is not told what one client alone gets
+-- client 1; the limit was not reached; and there is at most one block
 pub record IsOfOne (start : Start) (held : Shelf) (told : Text) (moment : ℤ) (before : Option Text) (new : History) : Type 0 where
   pub tells : start.holds ≡ Some held
   pub written : before ≡ Some told
@@ -176,7 +175,7 @@ pub record IsOfOne (start : Start) (held : Shelf) (told : Text) (moment : ℤ) (
   pub empty : start.history ≡ []
   pub first : start.client ≡ 1
   pub room : length new < start.limit
-  pub served : HasServed (prepared held start.words)
+  pub few : HasOneBlock (prepared held start.words)
 
 -- the status and the output are those of the run, if there is one
 abbrev pub IsRun : Option Run → Text → Option Text → ℕ → Type 0

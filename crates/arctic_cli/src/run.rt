@@ -310,8 +310,8 @@ pub fn run<R: Threads + Wait + Sync, F: Shelf, S: Sink, C: Clock, G: Gate>(
     ensures sole { sole_of result.pass ≡ true }
     ensures store { store_of result.pass ≡ store_of pass }
 
-    // Where one client alone at a time runs on an empty store, and no command is a reclaim, there is no other answer than this run, but
-    // for want of memory and for failures of the output and of the shelf.
+    // Where one client alone at a time runs on an empty store, there is no other answer than this run, but for want of memory and for
+    // failures of the output and of the shelf.
     ensures complete { (held : Files) (told : Bytes) (moment : ℤ) → IsOfOne (start_of (map string_bytes words.now) (F.holds shelf.old) (C.reading clock.old) pass) held told moment (S.written out.old) (seen_of result.pass) → IsRunOrFails (run_alone moment held (map string_bytes words.now)) (F.faults shelf.old) (F.faults shelf.new) (S.faults out.old) (S.faults out.new) told (S.written out.new) result.status }
 {
     let moment = clock.now();

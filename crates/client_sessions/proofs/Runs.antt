@@ -165,7 +165,7 @@ module _ (cutting : Cutting) (client : ℕ → Client) (named : (n : ℕ) → (c
     clients_within = r.legal;
     last_within = end.legal;
     without_blocks = r.without_blocks;
-    first_alone = λ l served uncut. a.session.alone (record { more = a.session.more; is = a.session.goes_on; own = a.session.own sole }) l served uncut;
-    block_alone = λ block met one_block one_reply l served uncut n. r.one_alone block met one_block one_reply (ap is_sole a.badge ∙ sole) (a.session.lawful l) served uncut n;
-    last_alone = λ l served uncut. end.alone (record { more = end.more; is = end.goes_on; own = end.own sole_last }) (r.lawful (a.session.lawful l)) served uncut;
+    first_alone = λ l uncut. a.session.alone (record { more = a.session.more; is = a.session.goes_on; own = a.session.own sole }) l uncut;
+    block_alone = λ block met one_block one_reply l uncut n. r.one_alone block met one_block one_reply (ap is_sole a.badge ∙ sole) (a.session.lawful l) uncut n;
+    last_alone = λ l uncut. end.alone (record { more = end.more; is = end.goes_on; own = end.own sole_last }) (r.lawful (a.session.lawful l)) uncut;
   }

@@ -17,7 +17,7 @@ use Rattle.reply_model.specs.Standing.{GrowsAlone, IsStep, RunsGrow}
 use Rattle.reply_model.specs.Legal.{IsLegalReply, LegalFrom}
 use Rattle.reply_model.specs.Runs.{is_covered}
 use Rattle.version_chain.specs.Traces.{GoesOn}
-use Rattle.library_api.specs.Steps.{client_of, IsLegalIn, is_told_alone}
+use Rattle.library_api.specs.Steps.{client_of, IsLegalIn}
 use Rattle.library_api.specs.declared.settings.Settings.{Settings}
 use Rattle.client_sessions.specs.Sessions.{IsSession}
 use Rattle.client_sessions.proofs.Windows.{legal_later, ends_within, legal_push, covered_before, covered_behind, faults_push}
@@ -46,12 +46,12 @@ session_none cutting grow client sole f old = record {
   legal = tt;
   covered = λ n after before. absurd (omega (arith, after, before));
   faults = refl;
-  alone = λ s l served uncut. grow.none cutting client.session old;
+  alone = λ s l uncut. grow.none cutting client.session old;
 }
 
 -- one command more, whose events were added to the history
 module _ (cutting : Cutting) (grow : RunsGrow) (client : Client) (cs : List Command) (rs : List Reply) (c : Command) (r : Reply) (old mid new : History) (f0 f1 f2 : ℕ) (sole still : Bool) (more : f1 ≤ f2) (stays : sole ≡ true → still ≡ true)
-    (x : IsSession cutting client sole f0 f1 cs rs old mid) (g : GoesOn client.session.client still mid new) (legal : IsLegalIn client f1 f2 mid new c r) (stands : IsLawful mid → GrowsAlone client.session.client mid new → is_told_alone c ≡ true → is_cut r.outcome ≡ false → IsStep cutting client.session c r mid new) where
+    (x : IsSession cutting client sole f0 f1 cs rs old mid) (g : GoesOn client.session.client still mid new) (legal : IsLegalIn client f1 f2 mid new c r) (stands : IsLawful mid → GrowsAlone client.session.client mid new → is_cut r.outcome ≡ false → IsStep cutting client.session c r mid new) where
   -- the window of what was added
   abbrev added : Bool → Window
   added faulted = record { start = length mid; stop = length new; faulted = faulted }
@@ -78,7 +78,7 @@ module _ (cutting : Cutting) (grow : RunsGrow) (client : Client) (cs : List Comm
         (ends_within mid client (length old) cs rs x.windows longer x.legal) (subst (λ (h : History). IsLegalReply h client c r (added faulted)) g.is (legal faulted set)));
     covered = covered faulted;
     faults = faults_push f0 f1 f2 x.windows (added faulted) more marked x.faults;
-    alone = λ s l served uncut. grow.one_more_alone cutting client.session cs rs c r old mid new x.more g.more x.goes_on g.is (λ before. x.alone before l (all-front _ cs c served) (all-front _ rs r uncut)) (λ after. stands (x.lawful l) after (all-last _ cs c served) (all-last _ rs r uncut)) s;
+    alone = λ s l uncut. grow.one_more_alone cutting client.session cs rs c r old mid new x.more g.more x.goes_on g.is (λ before. x.alone before l (all-front _ rs r uncut)) (λ after. stands (x.lawful l) after (all-last _ rs r uncut)) s;
   }
 
   pub session_more : IsSession cutting client sole f0 f2 (cs ++ c ∷ []) (rs ++ r ∷ []) old new
@@ -98,7 +98,7 @@ same_client frames s t m n k l e f g = ap (λ (x : Settings). client_of frames x
 
 -- the commands up to the next place
 pub session_at : (cutting : Cutting) (grow : RunsGrow) (client : Client) (list : List Command) (i : ℕ) (rs : List Reply) (c : Command) (r : Reply) (old mid new : History) (f0 f1 f2 : ℕ) (sole still : Bool) → i < length list → c ≡ get_or list i c → f1 ≤ f2 → (sole ≡ true → still ≡ true) →
-    IsSession cutting client sole f0 f1 (take i list) rs old mid → GoesOn client.session.client still mid new → IsLegalIn client f1 f2 mid new c r → (IsLawful mid → GrowsAlone client.session.client mid new → is_told_alone c ≡ true → is_cut r.outcome ≡ false → IsStep cutting client.session c r mid new)
+    IsSession cutting client sole f0 f1 (take i list) rs old mid → GoesOn client.session.client still mid new → IsLegalIn client f1 f2 mid new c r → (IsLawful mid → GrowsAlone client.session.client mid new → is_cut r.outcome ≡ false → IsStep cutting client.session c r mid new)
     → IsSession cutting client sole f0 f2 (take (i + 1) list) (rs ++ r ∷ []) old new
 session_at cutting grow client list i rs c r old mid new f0 f1 f2 sole still lt is more stays x g legal stands =
     let next : take (i + 1) list ≡ take i list ++ c ∷ [] = take_more list i c lt ∙ ap (λ (d : Command). take i list ++ d ∷ []) (sym is) in

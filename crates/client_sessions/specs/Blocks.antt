@@ -23,7 +23,7 @@ use Rattle.reply_model.specs.Runs.{Talk, IsLegalTalk, HasNoFault, Covers, AllApa
 use Rattle.reply_model.specs.Standing.{RunsAlone}
 use Rattle.library_api.specs.declared.settings.Settings.{Settings}
 use Rattle.library_api.specs.Steps.{client_of}
-use Rattle.client_sessions.specs.Sessions.{talk_of, AreServed, AreUncut, IsSession}
+use Rattle.client_sessions.specs.Sessions.{talk_of, AreUncut, IsSession}
 
 -- what the replies of a client of this number are judged by: its session has these frames and settings, and its bucket this limit
 abbrev pub clients_of : List RawFrame → Settings → ℕ → ℕ → Client
@@ -65,9 +65,9 @@ pub record AreRun (cutting : Cutting) (client : ℕ → Client) (blocks : List (
   pub goes_on : seen_of new ≡ more ++ seen_of old
   pub lawful : IsLawful (seen_of old) → IsLawful (seen_of new)
   pub without_blocks : blocks ≡ [] → seen_of new ≡ seen_of old
-  -- a sole pass that has one block to carry out leaves what one client alone would leave, whatever that client's number is: where all commands of
-  -- the block are served and none of its replies is cut
-  pub one_alone : (block : List Command) (met : List Reply) → blocks ≡ block ∷ [] → replies ≡ met ∷ [] → sole_of old ≡ true → IsLawful (seen_of old) → AreServed block → AreUncut met
+  -- a sole pass that has one block to carry out leaves what one client alone would leave, whatever that client's number is: where none of the
+  -- block's replies is cut
+  pub one_alone : (block : List Command) (met : List Reply) → blocks ≡ block ∷ [] → replies ≡ met ∷ [] → sole_of old ≡ true → IsLawful (seen_of old) → AreUncut met
       → (n : ℕ) → RunsAlone cutting (client n).session block met (seen_of old) (seen_of new)
   pub talks : List Talk
   pub talks_are : AreTalksOf client blocks replies talks
