@@ -4,7 +4,7 @@
 --     AreParts            pieces that have the row blocks of these parts
 --     keys_in, kept_keys, KeepKeys      the keys that the row blocks of pieces keep: those that the parts of the version keep
 --     AreSmall            no row block of the base has more rows than the cutting's
---     HavePartKeys            the slots of a version's index have the keys of its parts
+--     HavePartKeys        the slots of a version's index have the keys of its parts
 --     IsPutAs, IsBuiltOn  what a commit put and what it built, by the row blocks of its version
 --     LaysAs              where nobody else makes events, the version that the library answers is laid out so
 use Rattle.std.specs.Prelude.{◌≡◌, ◌≤◌, ℕ, ◌+◌, ◌*◌, true, List, [], ◌∷◌, ◌++◌, map, length, Option, Some, None, Result, Ok}
