@@ -1,4 +1,4 @@
--- Where nothing hinders a run of one client alone, it is that of the fold.
+-- A run of one client alone at a time is that of the fold.
 use Rattle.std.proofs.Common.{◌≡◌, ℕ, ℤ, ◌<◌, ◌≤◌, ◌⊎◌, suc, Bool, true, false, cond, List, [], ◌∷◌, ◌++◌, length, Option, Some, Result, Ok, Err, refl, sym, ap, ◌∙◌, subst, inl, inr, arith}
 use Rattle.std.specs.Prelude.{◌||◌, option_map}
 use Rattle.std.specs.List.{AllByRecursion, concat, list_any}
@@ -19,13 +19,14 @@ use Rattle.reply_model.specs.Standing.{RunsAlone, RunsGrow, BlocksAreSole}
 use Rattle.store_model.specs.Law.{IsLawful}
 use Rattle.program_edge.specs.Clocks.{IsReading}
 use Rattle.arctic_cli.specs.declared.stop.Stop.{Stop}
+use Rattle.arctic_cli.specs.declared.stop.Stop.TheVariants as stops
 use Rattle.client_sessions.specs.declared.parts.PartReplies.{PartReplies}
-use Rattle.client_sessions.specs.Sessions.{AreUncut, AreServed}
+use Rattle.client_sessions.specs.Sessions.{AreUncut}
 use Rattle.client_sessions.specs.Blocks.{AreTalksOf}
 use Rattle.arctic_cli.specs.Program.{Shelf, Job, Run, run_of, wants_memory, some_outcome, some_reply, replies_status, one_block, replies_alone, run_from, run_alone, prepared}
 use Rattle.arctic_cli.specs.Causes.{Prepares}
-use Rattle.arctic_cli.specs.Endings.{Start, client_of, Performs, IsDue, Due, AllWritten, RunEnds, Ends, HasServed, IsUnhindered, IsRun}
-use Rattle.arctic_cli.proofs.Told.{prepares-told}
+use Rattle.arctic_cli.specs.Endings.{Start, client_of, Performs, IsDue, Due, AllWritten, RunEnds, Ends, HasOneBlock, IsOfOne, IsRun, IsRunOrFails}
+use Rattle.arctic_cli.proofs.Told.{FailsFetch, prepares-told}
 use Rattle.script_lang.specs.Fronts.{◌>>=◌}
 
 -- ---- replies that are not cut
@@ -116,8 +117,8 @@ met-uncut start job moment new from block met (t ∷ talks) are legal calm memor
 
 -- a run of a job with at most one block
 job-exact : (grow : RunsGrow) (are_sole : BlocksAreSole) (start : Start) (job : Job) (run : Run) (moment : ℤ) (told : Text) (after : Option Text) (status : ℕ) (new : History) → start.reading ≡ Some moment → start.history ≡ [] → start.client ≡ 1 → length new < start.limit →
-    length job.parts.blocks ≤ 1 → AreServed job.parts.first → AllByRecursion AreServed job.parts.blocks → AreServed job.parts.last → Performs start job run new → AllWritten run (Some told) after status → (status ≡ 6) ⊎ IsRun (run_from moment (Ok job)) told after status
-job-exact grow are_sole start job run moment told after status new reading empty one below few first_served blocks_served last_served p w = of (some_reply wants_memory p.replies) refl
+    length job.parts.blocks ≤ 1 → Performs start job run new → AllWritten run (Some told) after status → (status ≡ 6) ⊎ IsRun (run_from moment (Ok job)) told after status
+job-exact grow are_sole start job run moment told after status new reading empty one below few p w = of (some_reply wants_memory p.replies) refl
   where
     same : p.moment ≡ moment
     same = subst (λ o. IsReading o p.moment) reading p.told
@@ -154,8 +155,8 @@ job-exact grow are_sole start job run moment told after status new reading empty
         sole job.cutting job.frames p.moment job.parts.first block job.parts.last ≡ Some (record { first = p.replies.first; block = met; last = p.replies.last; events = length new })
     is_sole calm block met runs = are_sole job.cutting (client_of start job p.moment start.client).session second job.parts.first block job.parts.last p.replies.first met p.replies.last p.ran.behind_first p.ran.before_last new one refl refl refl
         (subst (λ (h : History). RunsAlone job.cutting (client_of start job p.moment start.client).session job.parts.first p.replies.first h p.ran.behind_first) empty
-        (p.ran.first_alone lawful first_served (first_uncut calm)))
-        runs (p.ran.last_alone lawful last_served (last_uncut calm))
+        (p.ran.first_alone lawful (first_uncut calm)))
+        runs (p.ran.last_alone lawful (last_uncut calm))
 
     -- the replies are those of the run alone
     told_parts : List (List Reply) → PartReplies
@@ -171,12 +172,12 @@ job-exact grow are_sole start job run moment told after status new reading empty
     told_with : (blocks : List (List Reply)) → p.replies.blocks ≡ blocks → Some (run_of job.names (told_parts blocks) (length new)) ≡ Some run
     told_with blocks is = ap (λ (b : List (List Reply)). is_run (run_of job.names (told_parts b) (length new))) (sym is) ∙ ap is_run (sym p.run_is)
 
-    alone_with : some_reply wants_memory p.replies ≡ false → (blocks : List (List Command)) → job.parts.blocks ≡ blocks → length blocks ≤ 1 → AllByRecursion AreServed blocks → run_with blocks ≡ Some run
-    alone_with calm [] is short served =
+    alone_with : some_reply wants_memory p.replies ≡ false → (blocks : List (List Command)) → job.parts.blocks ≡ blocks → length blocks ≤ 1 → run_with blocks ≡ Some run
+    alone_with calm [] is short =
         ap (option_map (λ (r : SoleRun). run_of job.names (replies_alone [] r) r.events))
         (is_sole calm [] [] (subst (λ (h : History). RunsAlone job.cutting second [] [] p.ran.behind_first h) (sym (p.ran.without_blocks is)) (grow.none job.cutting second p.ran.behind_first)))
         ∙ told_with [] (no-blocks (client_of start job p.moment) job.parts.blocks p.replies.blocks p.ran.clients p.ran.clients_are is)
-    alone_with calm (block ∷ []) is short served =
+    alone_with calm (block ∷ []) is short =
         let are : AreTalksOf (client_of start job p.moment) (block ∷ []) p.replies.blocks p.ran.clients = subst (λ (b : List (List Command)). AreTalksOf (client_of start job p.moment) b p.replies.blocks p.ran.clients) is p.ran.clients_are in
         with_met (one-met (client_of start job p.moment) block p.replies.blocks p.ran.clients are) are
       where
@@ -187,12 +188,12 @@ job-exact grow are_sole start job run moment told after status new reading empty
             (subst (λ (b : List (List Reply)). AreTalksOf (client_of start job p.moment) (block ∷ []) b p.ran.clients) met_is are) p.ran.legal.clients_legal p.ran.legal.no_fault.1.1
             (or-first (some_outcome wants_memory met) false memory) below in
             ap (option_map (λ (r : SoleRun). run_of job.names (replies_alone (block ∷ []) r) r.events))
-            (is_sole calm block met (p.ran.block_alone block met is met_is lawful served.0 uncut 2))
+            (is_sole calm block met (p.ran.block_alone block met is met_is lawful uncut 2))
             ∙ told_with (met ∷ []) met_is
-    alone_with calm (block ∷ next ∷ more) is short served = absurd (omega (arith, short))
+    alone_with calm (block ∷ next ∷ more) is short = absurd (omega (arith, short))
 
     alone_is : some_reply wants_memory p.replies ≡ false → run_from p.moment (Ok job) ≡ Some run
-    alone_is calm = alone_with calm job.parts.blocks refl few blocks_served
+    alone_is calm = alone_with calm job.parts.blocks refl few
 
     written : IsRun (Some run) told after status
     written = (w.status_is, w.output)
@@ -204,26 +205,40 @@ job-exact grow are_sole start job run moment told after status new reading empty
 
 -- all was written
 plan-exact : (grow : RunsGrow) (are_sole : BlocksAreSole) (start : Start) (plan : Result Job Stop) (run : Run) (moment : ℤ) (told : Text) (after : Option Text) (status : ℕ) (new : History) → start.reading ≡ Some moment → start.history ≡ [] → start.client ≡ 1 → length new < start.limit →
-    HasServed plan → IsDue start plan run new → AllWritten run (Some told) after status → (status ≡ 6) ⊎ IsRun (run_from moment plan) told after status
-plan-exact grow are_sole start (Ok job) run moment told after status new reading empty one below served due w =
-    job-exact grow are_sole start job run moment told after status new reading empty one below served.0 served.1 served.2 served.3 due w
-plan-exact grow are_sole start (Err s) run moment told after status new reading empty one below served due w =
+    HasOneBlock plan → IsDue start plan run new → AllWritten run (Some told) after status → (status ≡ 6) ⊎ IsRun (run_from moment plan) told after status
+plan-exact grow are_sole start (Ok job) run moment told after status new reading empty one below few due w =
+    job-exact grow are_sole start job run moment told after status new reading empty one below few due w
+plan-exact grow are_sole start (Err s) run moment told after status new reading empty one below few due w =
     inr (w.status_is ∙ ap (λ (r : Run). r.status) due.0, w.output ∙ ap (λ (r : Run). some (told ++ concat r.lines)) due.0)
   where
     some : Text → Option Text
     some t = Some t
 
-due-exact : (grow : RunsGrow) (are_sole : BlocksAreSole) (start : Start) (f0 f1 g0 g1 : ℕ) (held : Shelf) (told : Text) (moment : ℤ) (w0 w1 : Option Text) (status : ℕ) (new : History) → IsUnhindered start f0 f1 g0 g1 held told moment w0 new → (due : Due start f0 f1 new) →
-    RunEnds due.run g0 g1 w0 w1 status → (status ≡ 6) ⊎ IsRun (run_alone moment held start.words) told w1 status
-due-exact grow are_sole start f0 f1 g0 g1 held told moment w0 w1 status new u due (inr (inl p)) = absurd (u.output_works p.1)
-due-exact grow are_sole start f0 f1 g0 g1 held told moment w0 w1 status new u due (inr (inr p)) = inl p.0
-due-exact grow are_sole start f0 f1 g0 g1 held told moment w0 w1 status new u due (inl w) =
-    let made : prepared held start.words ≡ due.plan = prepares-told held f0 f1 start.words due.plan u.shelf_works (subst (λ h. Prepares h f0 f1 start.words due.plan) u.tells due.prepares) in
-    subst (λ (x : Result Job Stop). (status ≡ 6) ⊎ IsRun (run_from moment x) told w1 status) (sym made)
-    (plan-exact grow are_sole start due.plan due.run moment told w1 status new u.reading u.empty u.first u.room (subst HasServed made u.served) due.is_due (subst (λ (o : Option Text). AllWritten due.run o w1 status) u.written w))
+-- the run of a stop by a fetch that failed has status 4
+fetch-stopped : (start : Start) (f0 f1 : ℕ) (plan : Result Job Stop) (run : Run) (new : History) → FailsFetch f0 f1 plan → IsDue start plan run new → run.status ≡ 4
+fetch-stopped start f0 f1 plan run new failed due = ap (λ (r : Run). r.status) stop.0
+  where
+    stop : IsDue start (Err (stops.Unreadable failed.name)) run new
+    stop = subst (λ (x : Result Job Stop). IsDue start x run new) failed.plan_is due
 
--- where nothing hinders it, the run is that of one client alone, or memory was wanted
-pub exact : (grow : RunsGrow) (are_sole : BlocksAreSole) (start : Start) (f0 f1 g0 g1 : ℕ) (held : Shelf) (told : Text) (moment : ℤ) (w0 w1 : Option Text) (status : ℕ) (new : History) → IsUnhindered start f0 f1 g0 g1 held told moment w0 new →
-    Ends start f0 f1 g0 g1 w0 w1 status new → (status ≡ 6) ⊎ IsRun (run_alone moment held start.words) told w1 status
+due-exact : (grow : RunsGrow) (are_sole : BlocksAreSole) (start : Start) (f0 f1 g0 g1 : ℕ) (held : Shelf) (told : Text) (moment : ℤ) (w0 w1 : Option Text) (status : ℕ) (new : History) → IsOfOne start held told moment w0 new → (due : Due start f0 f1 new) →
+    RunEnds due.run g0 g1 w0 w1 status → IsRunOrFails (run_alone moment held start.words) f0 f1 g0 g1 told w1 status
+due-exact grow are_sole start f0 f1 g0 g1 held told moment w0 w1 status new u due (inr (inl p)) = inr (inr (inl (p.0, p.1)))
+due-exact grow are_sole start f0 f1 g0 g1 held told moment w0 w1 status new u due (inr (inr p)) = inr (inl p.0)
+due-exact grow are_sole start f0 f1 g0 g1 held told moment w0 w1 status new u due (inl w) =
+    of (prepares-told held f0 f1 start.words due.plan (subst (λ h. Prepares h f0 f1 start.words due.plan) u.tells due.prepares))
+  where
+    exactly : (status ≡ 6) ⊎ IsRun (run_alone moment held start.words) told w1 status → IsRunOrFails (run_alone moment held start.words) f0 f1 g0 g1 told w1 status
+    exactly (inl six) = inr (inl six)
+    exactly (inr ended) = inl ended
+
+    of : (prepared held start.words ≡ due.plan) ⊎ FailsFetch f0 f1 due.plan → IsRunOrFails (run_alone moment held start.words) f0 f1 g0 g1 told w1 status
+    of (inl made) = exactly (subst (λ (x : Result Job Stop). (status ≡ 6) ⊎ IsRun (run_from moment x) told w1 status) (sym made)
+        (plan-exact grow are_sole start due.plan due.run moment told w1 status new u.reading u.empty u.first u.room (subst HasOneBlock made u.few) due.is_due (subst (λ (o : Option Text). AllWritten due.run o w1 status) u.written w)))
+    of (inr failed) = inr (inr (inr (w.status_is ∙ fetch-stopped start f0 f1 due.plan due.run new failed due.is_due, failed.rose)))
+
+-- the run is that of one client alone, unless memory was wanted, or the output or the shelf failed
+pub exact : (grow : RunsGrow) (are_sole : BlocksAreSole) (start : Start) (f0 f1 g0 g1 : ℕ) (held : Shelf) (told : Text) (moment : ℤ) (w0 w1 : Option Text) (status : ℕ) (new : History) → IsOfOne start held told moment w0 new →
+    Ends start f0 f1 g0 g1 w0 w1 status new → IsRunOrFails (run_alone moment held start.words) f0 f1 g0 g1 told w1 status
 exact grow are_sole start f0 f1 g0 g1 held told moment w0 w1 status new u (inl e) = due-exact grow are_sole start f0 f1 g0 g1 held told moment w0 w1 status new u e.0 e.1
-exact grow are_sole start f0 f1 g0 g1 held told moment w0 w1 status new u (inr e) = inl e.0
+exact grow are_sole start f0 f1 g0 g1 held told moment w0 w1 status new u (inr e) = inr (inl e.0)

@@ -9,7 +9,8 @@ use Rattle.frame_core.specs.Texts.{Text}
 use Rattle.frame_core.specs.declared.cell.Cell.{Cell}
 use Rattle.frame_core.specs.Schemas.{Head}
 use Rattle.frame_core.specs.Frames.{Row, Frame, IsFrame, FitsColumns, stamp_at, cell_at}
-use Rattle.arctic_cli.specs.FrameText.{behind_commas, comma_before, further_fields, ended, record_text, cell_text, index_text, with_index}
+use Rattle.arctic_cli.specs.Commas.{behind_commas, comma_before, further_fields}
+use Rattle.arctic_cli.specs.FrameText.{ended, record_text, cell_text, index_text, with_index}
 
 -- the fields of a record are the first, and the others behind commas
 pub join-commas : (field : Text) (fields : List Text) → join_with_byte 44 (field ∷ fields) ≡ field ++ behind_commas fields

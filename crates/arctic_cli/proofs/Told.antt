@@ -85,24 +85,16 @@ load-halts held words load s reached e =
     ∙ halt (all_loaded held reached.script.loads) s (λ frames. Ok (job_of reached.found.said reached.script frames))
     (ap (λ (l : List Load). all_loaded held l) reached.loads_are ∙ all-halt held reached.earlier load reached.later reached.frames s reached.loaded e)
 
-no_fault : (held : Shelf) (before now : ℕ) (name : Text) → (Rose before now → ⊥) → NotFetched (Some held) before now name → held name ≡ None
-no_fault held before now name calm (inl rose) = absurd (calm rose)
-no_fault held before now name calm (inr missing) = missing
-
 -- a name that is missing
-unreadable-told : (held : Shelf) (before now : ℕ) (words : List Text) (name : Text) → (Rose before now → ⊥) → IsUnreadable (Some held) before now words name → prepared held words ≡ Err (stops.Unreadable name)
+unreadable-told : (held : Shelf) (words : List Text) (name : Text) → held name ≡ None → NamesScript words name ⊎ NamesLoad (Some held) words name → prepared held words ≡ Err (stops.Unreadable name)
 unfolding from_word
-unreadable-told held before now words name calm why = wanted why.wanted
-  where
-    missing : held name ≡ None
-    missing = no_fault held before now name calm why.missed
-
-    wanted : NamesScript words name ⊎ NamesLoad (Some held) words name → prepared held words ≡ Err (stops.Unreadable name)
-    wanted (inl script) = said-of held words script.said script.words_are
-        ∙ halt (fetched held script.said.word) (stops.Unreadable name) (λ bytes. from_bytes held script.said bytes) (subst (λ (n : Text). fetched held n ≡ Err (stops.Unreadable name)) (sym script.name_is) (fetched-missing held name missing))
-    wanted (inr named) = load-halts held words named.load (stops.Unreadable name) named.reached
-        (halt (fetched held named.load.file) (stops.Unreadable name) (λ bytes. or_stop (stops.BadFile named.load.file) (table_in_file named.load bytes))
-        (subst (λ (n : Text). fetched held n ≡ Err (stops.Unreadable name)) (sym named.name_is) (fetched-missing held name missing)))
+unreadable-told held words name missing (inl script) =
+    said-of held words script.said script.words_are
+    ∙ halt (fetched held script.said.word) (stops.Unreadable name) (λ bytes. from_bytes held script.said bytes) (subst (λ (n : Text). fetched held n ≡ Err (stops.Unreadable name)) (sym script.name_is) (fetched-missing held name missing))
+unreadable-told held words name missing (inr named) =
+    load-halts held words named.load (stops.Unreadable name) named.reached
+    (halt (fetched held named.load.file) (stops.Unreadable name) (λ bytes. or_stop (stops.BadFile named.load.file) (table_in_file named.load bytes))
+    (subst (λ (n : Text). fetched held n ≡ Err (stops.Unreadable name)) (sym named.name_is) (fetched-missing held name missing)))
 
 -- a bad file
 bad-told : (held : Shelf) (words : List Text) (name : Text) → IsBadFile (Some held) words name → prepared held words ≡ Err (stops.BadFile name)
@@ -115,20 +107,29 @@ bad-told held words name why =
     stopped_by : Text → Result Table Stop
     stopped_by n = Err (stops.BadFile n)
 
--- what was prepared is what the shelf makes of the words, where no fetch failed
-pub prepares-told : (held : Shelf) (before now : ℕ) (words : List Text) (plan : Result Job Stop) → (Rose before now → ⊥) →
-    Prepares (Some held) before now words plan → prepared held words ≡ plan
+-- a fetch failed, and the run stops there
+pub record FailsFetch (before now : ℕ) (plan : Result Job Stop) : Type 0 where
+  pub name : Text
+  pub plan_is : plan ≡ Err (stops.Unreadable name)
+  pub rose : Rose before now
+
+-- what was prepared is what the shelf makes of the words, or a fetch failed
+pub prepares-told : (held : Shelf) (before now : ℕ) (words : List Text) (plan : Result Job Stop) → Prepares (Some held) before now words plan → (prepared held words ≡ plan) ⊎ FailsFetch before now plan
 unfolding from_loads from_bytes from_word
-prepares-told held before now words (Ok job) calm p =
-    script-of held words p.script p.found
+prepares-told held before now words (Ok job) p =
+    inl (script-of held words p.script p.found
     ∙ (step (all_loaded held p.script.loads) p.frames (λ frames. Ok (job_of p.found.said p.script frames)) (all-good held p.script.loads p.frames p.loaded)
-    ∙ ap (λ (j : Job). job_planned j) (sym p.job_is))
+    ∙ ap (λ (j : Job). job_planned j) (sym p.job_is)))
   where
     job_planned : Job → Result Job Stop
     job_planned j = Ok j
-prepares-told held before now words (Err stops.Usage) calm p = ap (λ o. or_stop stops.Usage o then λ said. from_word held said) p
-prepares-told held before now words (Err stops.BadScript) calm p =
-    said-of held words p.said p.words_are ∙ (bytes-of held p.said p.bytes p.held
-    ∙ halt (or_stop stops.BadScript (script_in p.bytes)) stops.BadScript (λ script. from_loads held p.said script) (ap (λ o. or_stop stops.BadScript o) p.script_bad))
-prepares-told held before now words (Err (stops.Unreadable name)) calm p = unreadable-told held before now words name calm p
-prepares-told held before now words (Err (stops.BadFile name)) calm p = bad-told held words name p
+prepares-told held before now words (Err stops.Usage) p = inl (ap (λ o. or_stop stops.Usage o then λ said. from_word held said) p)
+prepares-told held before now words (Err stops.BadScript) p =
+    inl (said-of held words p.said p.words_are ∙ (bytes-of held p.said p.bytes p.held
+    ∙ halt (or_stop stops.BadScript (script_in p.bytes)) stops.BadScript (λ script. from_loads held p.said script) (ap (λ o. or_stop stops.BadScript o) p.script_bad)))
+prepares-told held before now words (Err (stops.Unreadable name)) p = of p.missed
+  where
+    of : NotFetched (Some held) before now name → (prepared held words ≡ Err (stops.Unreadable name)) ⊎ FailsFetch before now (Err (stops.Unreadable name))
+    of (inl rose) = inr (record { name = name; plan_is = refl; rose = rose })
+    of (inr missing) = inl (unreadable-told held words name missing p.wanted)
+prepares-told held before now words (Err (stops.BadFile name)) p = inl (bad-told held words name p)

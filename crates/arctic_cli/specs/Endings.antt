@@ -6,10 +6,10 @@
 --     AllWritten, RunEnds     how the lines of a run came to be written, or not
 --     JobEnds, Ends           the endings of a job, and all endings
 --     IsTranscript, StopsByUsage, StopsByScript, StopsByFetch, StopsByPut, WantsMemory, StopsByFile      the ending of each status
---     HasServed, IsUnhindered      nothing hinders a run of which one client alone makes each part
---     IsRun                   exactly the status and the output of a run
+--     HasOneBlock, IsOfOne      one client alone at a time runs on an empty store, and all is told of it
+--     IsRun, IsRunOrFails     exactly the status and the output of a run; or that, unless something failed
 use Rattle.std.specs.Prelude.{◌≡◌, ◌⊎◌, ⊤, ◌<◌, ◌≤◌, ℕ, ℤ, List, [], ◌++◌, length, take, Option, Some, None, Result, Ok, Err}
-use Rattle.std.specs.List.{AllByRecursion, concat}
+use Rattle.std.specs.List.{concat}
 use Rattle.base_types.specs.Faults.{Rose}
 use Rattle.frame_core.specs.Texts.{Text}
 use Rattle.bucket_core.specs.History.{History}
@@ -17,7 +17,6 @@ use Rattle.bucket_shared.specs.declared.pass.Pass.{Pass}
 use Rattle.bucket_shared.specs.Passes.{seen_of, number_of, limit_of}
 use Rattle.reply_model.specs.Windows.{Client}
 use Rattle.client_sessions.specs.declared.parts.PartReplies.{PartReplies}
-use Rattle.client_sessions.specs.Sessions.{AreServed}
 use Rattle.client_sessions.specs.Parts as sessions
 use Rattle.program_edge.specs.Shelves.{Held}
 use Rattle.program_edge.specs.Clocks.{IsReading}
@@ -162,26 +161,28 @@ WantsMemory start shelf_faults shelf_now before after new =
 
 -- ---- completeness
 
--- the job, if there is one, has at most one block, and of each of its commands it is told what one client alone gets
-abbrev pub HasServed : Result Job Stop → Type 0
-HasServed (Ok job) = (length job.parts.blocks ≤ 1) × AreServed job.parts.first × AllByRecursion AreServed job.parts.blocks × AreServed job.parts.last
-HasServed (Err stop) = ⊤
+-- the job, if there is one, has at most one block
+abbrev pub HasOneBlock : Result Job Stop → Type 0
+HasOneBlock (Ok job) = length job.parts.blocks ≤ 1
+HasOneBlock (Err stop) = ⊤
 
--- nothing hinders a run of one client alone: shelf, output and clock tell what they hold; the store is empty and the pass that of client
--- 1; neither shelf nor output failed; the limit was not reached; there is at most one block; and no command is one of which it is not told
--- what one client alone gets
-pub record IsUnhindered (start : Start) (shelf_faults shelf_now faults now : ℕ) (held : Shelf) (told : Text) (moment : ℤ) (before : Option Text) (new : History) : Type 0 where
+-- one client alone at a time runs on an empty store: shelf, output and clock tell what they hold; the store is empty and the pass that of
+-- client 1; the limit was not reached; and there is at most one block
+pub record IsOfOne (start : Start) (held : Shelf) (told : Text) (moment : ℤ) (before : Option Text) (new : History) : Type 0 where
   pub tells : start.holds ≡ Some held
   pub written : before ≡ Some told
   pub reading : start.reading ≡ Some moment
   pub empty : start.history ≡ []
   pub first : start.client ≡ 1
-  pub shelf_works : Rose shelf_faults shelf_now → ⊥
-  pub output_works : Rose faults now → ⊥
   pub room : length new < start.limit
-  pub served : HasServed (prepared held start.words)
+  pub few : HasOneBlock (prepared held start.words)
 
 -- the status and the output are those of the run, if there is one
 abbrev pub IsRun : Option Run → Text → Option Text → ℕ → Type 0
 IsRun None told after status = ⊥
 IsRun (Some run) told after status = (status ≡ run.status) × (after ≡ Some (told ++ concat run.lines))
+
+-- the run ended as this one; or memory was wanted; or the output failed; or the shelf failed, and the run stopped there
+abbrev pub IsRunOrFails : Option Run → ℕ → ℕ → ℕ → ℕ → Text → Option Text → ℕ → Type 0
+IsRunOrFails run shelf_faults shelf_now faults now told after status =
+    IsRun run told after status ⊎ (status ≡ 6) ⊎ ((status ≡ 5) × Rose faults now) ⊎ ((status ≡ 4) × Rose shelf_faults shelf_now)

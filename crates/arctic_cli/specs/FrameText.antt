@@ -1,11 +1,10 @@
 -- How a frame is printed: a header and its rows, each as a record of fields.
---     behind_commas, further_fields      fields behind commas; fields with a comma between each two
 --     record_text             the line of a record: its fields between commas
 --     cell_text               the field of a cell
 --     header_fields, row_fields      the fields of the header and of a row
 --     frame_lines             the lines of a frame
-use Rattle.std.specs.Prelude.{ℕ, zero, suc, Bool, true, false, if◌then◌else◌, List, [], ◌∷◌, ◌++◌, map, codes}
-use Rattle.std.specs.List.{join_with_byte, flat_map}
+use Rattle.std.specs.Prelude.{Bool, true, false, if◌then◌else◌, List, [], ◌∷◌, ◌++◌, map, codes}
+use Rattle.std.specs.List.{join_with_byte}
 use Rattle.std.specs.Fmt.{signed_decimal}
 use Rattle.frame_core.specs.declared.cell.Cell.{Cell}
 use Rattle.frame_core.specs.declared.cell.Cell.TheVariants as cells
@@ -16,20 +15,6 @@ use Rattle.frame_core.specs.Frames.{Row, Frame}
 -- a line with its end
 abbrev pub ended : Text → Text
 ended line = line ++ 10 ∷ []
-
--- the fields, each behind a comma
-abbrev pub behind_commas : List Text → Text
-behind_commas = flat_map (λ field. 44 ∷ field)
-
--- the comma before the field of a place, counted from 0; before the first one only where something stands before it
-abbrev pub comma_before : Bool → ℕ → Text
-comma_before stands zero = if stands then 44 ∷ [] else []
-comma_before stands (suc place) = 44 ∷ []
-
--- the fields between commas, or each behind a comma where something stands before them
-abbrev pub further_fields : Bool → List Text → Text
-further_fields true fields = behind_commas fields
-further_fields false fields = join_with_byte 44 fields
 
 -- the line of a record: its fields between commas
 unfoldable pub record_text : List Text → Text

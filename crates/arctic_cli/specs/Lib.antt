@@ -1,4 +1,5 @@
 pub mod CommandLine
+pub mod Commas
 pub mod FrameText
 pub mod Transcript
 pub mod Jobs

@@ -2,7 +2,8 @@
 
 ghost use Rattle.std.specs.Prelude.{◌≡◌, ◌++◌, ◌∷◌, [], OnOk, decimal, codes};
 ghost use Rattle.std.specs.Fmt.{signed_decimal};
-ghost use Rattle.arctic_cli.specs.FrameText.{ended, comma_before};
+ghost use Rattle.arctic_cli.specs.Commas.{comma_before};
+ghost use Rattle.arctic_cli.specs.FrameText.{ended};
 ghost use Rattle.arctic_cli.specs.Transcript.{field, version_text, place_text, asked_text, extent_text, refusal_name, refusal_fields};
 
 use base_types::NoMemory;

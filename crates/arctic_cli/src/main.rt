@@ -1,6 +1,7 @@
 //! The program: reads the words, runs the script over the store and prints the replies.
 #![tactic(auto)]
 
+mod args;
 mod frame_lines;
 mod line;
 mod outcome_text;
@@ -13,12 +14,14 @@ mod stop;
 mod tests;
 mod words;
 
+use args::words_of;
 use bucket_core::OpenGate;
 use bucket_shared::Shared;
 use program_edge::{FileShelf, HostClock, OutSink};
-use run::run;
+use run::{run, run_stop};
 use std::env;
 use std::process::ExitCode;
+use stop::Halt;
 
 /// The number of the first client, that of the first and the last commands.
 const FIRST_CLIENT: u32 = 1;
@@ -26,29 +29,32 @@ const FIRST_CLIENT: u32 = 1;
 /// The program's store takes so many events.
 const LIMIT: u64 = 1 << 40;
 
-fn main(rt: HostRuntime) -> anyhow::Result<ExitCode> {
-    let mut words = Vec::new(rt.alloc());
-    for word in env::args(&rt)?.skip(1) {
-        words.push(word)?;
-    }
+fn main(rt: HostRuntime) -> ExitCode {
     let Ok(pass) = Shared::make(rt.alloc(), LIMIT, FIRST_CLIENT) else {
-        return Ok(ExitCode::from(6));
+        return ExitCode::from(6);
     };
     let mut shelf = FileShelf::make(&rt);
     let mut out = OutSink::make(&rt);
     let mut clock = HostClock::make(&rt);
-    let ran = run(
-        &rt,
-        rt.alloc(),
-        &words,
-        &mut shelf,
-        &mut out,
-        &mut clock,
-        &OpenGate,
-        pass,
-    );
+    let status = match words_of(rt.alloc(), env::args(&rt)) {
+        Ok(words) => {
+            let ran = run(
+                &rt,
+                rt.alloc(),
+                &words,
+                &mut shelf,
+                &mut out,
+                &mut clock,
+                &OpenGate,
+                pass,
+            );
+            ran.status
+        }
+        Err(Halt::Stop(stop)) => run_stop(rt.alloc(), &mut out, &stop),
+        Err(Halt::NoMemory) => 6,
+    };
     match out.finish() {
-        Ok(()) => Ok(ExitCode::from(ran.status)),
-        Err(_) => Ok(ExitCode::from(5)),
+        Ok(()) => ExitCode::from(status),
+        Err(_) => ExitCode::from(5),
     }
 }

@@ -1,8 +1,8 @@
-ghost use Rattle.std.specs.Prelude.{◌≡◌, ◌≤◌, ◌⊎◌, ℤ, true, List, Option, IsOk, IsErrOf, IfOk, OnErr, length, map, string_bytes};
+ghost use Rattle.std.specs.Prelude.{◌≡◌, ◌≤◌, ℤ, true, List, Option, IsOk, IsErrOf, IfOk, OnErr, length, map, string_bytes};
 ghost use Rattle.std.specs.List.{list_any};
 ghost use Rattle.base_types.specs.Faults.{Rose};
 ghost use Rattle.frame_core.specs.Texts.{Text as Bytes};
-ghost use Rattle.bucket_shared.specs.Passes.{seen_of, number_of, limit_of, sole_of};
+ghost use Rattle.bucket_shared.specs.Passes.{store_of, seen_of, number_of, limit_of, sole_of};
 ghost use Rattle.program_edge.specs.Shelves.{Held};
 ghost use Rattle.program_edge.specs.Clocks.{IsReading};
 ghost use Rattle.reply_model.specs.Windows.{is_refused};
@@ -12,7 +12,7 @@ ghost use Rattle.client_sessions.specs.Blocks.{clients_of};
 ghost use Rattle.client_sessions.specs.Parts.{IsRun as IsPartsRun};
 ghost use Rattle.arctic_cli.specs.CommandLine.{IsTries};
 ghost use Rattle.arctic_cli.specs.Program.{Shelf as Files, run_alone, wants_memory, some_outcome, replies_status, run_of, stop_status, stopped};
-ghost use Rattle.arctic_cli.specs.Endings.{RunEnds, JobEnds, Ends, start_of, IsTranscript, StopsByUsage, StopsByScript, StopsByFetch, StopsByPut, WantsMemory, StopsByFile, IsUnhindered, IsRun};
+ghost use Rattle.arctic_cli.specs.Endings.{RunEnds, JobEnds, Ends, start_of, IsTranscript, StopsByUsage, StopsByScript, StopsByFetch, StopsByPut, WantsMemory, StopsByFile, IsOfOne, IsRunOrFails};
 ghost use Rattle.arctic_cli.specs.Jobs.{AreReady};
 ghost use Rattle.arctic_cli.specs.Preparing.{parts_in, job_in};
 
@@ -157,7 +157,7 @@ fn status_of_stop(stop: &Stop) -> u8
 }
 
 /// Prints why a run stops.
-fn run_stop<S: Sink>(alloc: Global, out: &mut S, stop: &Stop) -> u8
+pub fn run_stop<S: Sink>(alloc: Global, out: &mut S, stop: &Stop) -> u8
     ensures { RunEnds (stopped stop.now) (S.faults out.old) (S.faults out.new) (S.written out.old) (S.written out.new) result }
 {
     let printed = print_stop(alloc, out, stop);
@@ -181,6 +181,7 @@ fn carry_out_parts<R: Threads + Wait + Sync, G: Gate>(
     ensures client { number_of result.0 ≡ number_of pass }
     ensures limit { limit_of result.0 ≡ limit_of pass }
     ensures sole { sole_of result.0 ≡ true }
+    ensures store { store_of result.0 ≡ store_of pass }
 {
     run_parts(
         rt,
@@ -228,6 +229,7 @@ fn run_plan<R: Threads + Wait + Sync, S: Sink, G: Gate>(
     ensures client { number_of result.pass ≡ number_of pass }
     ensures limit { limit_of result.pass ≡ limit_of pass }
     ensures sole { sole_of result.pass ≡ true }
+    ensures store { store_of result.pass ≡ store_of pass }
     ensures ends { (words : List Bytes) (holds : Held) (reading : Option ℤ) → IsReading reading moment → JobEnds (start_of words holds reading pass) (job_in plan.now) (S.faults out.old) (S.faults out.new) (S.written out.old) (S.written out.new) result.status (seen_of result.pass) }
 {
     let Options { cutting, tries } = plan.options;
@@ -257,6 +259,7 @@ fn run_words<R: Threads + Wait + Sync, F: Shelf, S: Sink, G: Gate>(
     ensures client { number_of result.pass ≡ number_of pass }
     ensures limit { limit_of result.pass ≡ limit_of pass }
     ensures sole { sole_of result.pass ≡ true }
+    ensures store { store_of result.pass ≡ store_of pass }
     ensures ends { (reading : Option ℤ) → IsReading reading moment → Ends (start_of (map string_bytes words.now) (F.holds shelf.old) reading pass) (F.faults shelf.old) (F.faults shelf.new) (S.faults out.old) (S.faults out.new) (S.written out.old) (S.written out.new) result.status (seen_of result.pass) }
 {
     match prepare(alloc, words, shelf) {
@@ -305,10 +308,11 @@ pub fn run<R: Threads + Wait + Sync, F: Shelf, S: Sink, C: Clock, G: Gate>(
     ensures client { number_of result.pass ≡ number_of pass }
     ensures limit { limit_of result.pass ≡ limit_of pass }
     ensures sole { sole_of result.pass ≡ true }
+    ensures store { store_of result.pass ≡ store_of pass }
 
-    // Where nothing hinders one client alone, the script has at most one client, and no command is a reclaim, there is no other answer
-    // than this run, or want of memory.
-    ensures complete { (held : Files) (told : Bytes) (moment : ℤ) → IsUnhindered (start_of (map string_bytes words.now) (F.holds shelf.old) (C.reading clock.old) pass) (F.faults shelf.old) (F.faults shelf.new) (S.faults out.old) (S.faults out.new) held told moment (S.written out.old) (seen_of result.pass) → (result.status ≡ 6) ⊎ IsRun (run_alone moment held (map string_bytes words.now)) told (S.written out.new) result.status }
+    // Where one client alone at a time runs on an empty store, there is no other answer than this run, but for want of memory and for
+    // failures of the output and of the shelf.
+    ensures complete { (held : Files) (told : Bytes) (moment : ℤ) → IsOfOne (start_of (map string_bytes words.now) (F.holds shelf.old) (C.reading clock.old) pass) held told moment (S.written out.old) (seen_of result.pass) → IsRunOrFails (run_alone moment held (map string_bytes words.now)) (F.faults shelf.old) (F.faults shelf.new) (S.faults out.old) (S.faults out.new) told (S.written out.new) result.status }
 {
     let moment = clock.now();
     runs_alone_are_sole();

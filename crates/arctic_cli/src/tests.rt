@@ -107,6 +107,19 @@ fn a_read_takes_the_version_that_is_asked(rt: HostRuntime) -> Result<(), Fail> {
 }
 
 #[test]
+fn what_was_buried_is_listed_and_not_read(rt: HostRuntime) -> Result<(), Fail> {
+    let alloc = rt.alloc();
+    let script =
+        "load t t.csv int,int\nfirst\nwrite S t at=50\nwrite S t at=60 prune\nversions S\ndelete S\nread S\nprune S\n";
+    let (status, out) = ran_script(&rt, alloc, &["run", "day.arc"], script, TABLE, ("e", ""))?;
+    assert_eq!(rt; status, 1);
+    let wanted =
+        "first.1 @4 ok v0\nfirst.2 @8 ok v1\nfirst.3 @8 ok versions=2\nv0 at=50 buried holds=0\nv1 at=60 live holds=0\nfirst.4 @10 ok deleted versions=1\nfirst.5 @10 err 4 NoSuchVersion asked=-1\nfirst.6 @10 ok pruned versions=0\nend @10\n";
+    assert_eq!(rt; out.bytes(), wanted.as_bytes());
+    Ok(())
+}
+
+#[test]
 fn small_tiles_change_the_places_and_not_the_rows(rt: HostRuntime) -> Result<(), Fail> {
     let alloc = rt.alloc();
     let script = "load t t.csv int,int,int\nfirst\nwrite S t\nread S\nkeys S\n";

@@ -22,10 +22,10 @@ use Rattle.reply_model.specs.Windows.{Client}
 use Rattle.reply_model.specs.Blocks.{Cutting}
 use Rattle.reply_model.specs.Runs.{Talk, IsLegalTalk, Covers, AreApart}
 use Rattle.reply_model.specs.Standing.{RunsAlone}
-use Rattle.client_sessions.specs.Sessions.{talk_of, AreServed, AreUncut}
-use Rattle.client_sessions.specs.Blocks.{IsSessionOf, AreRun, Knows}
+use Rattle.client_sessions.specs.Sessions.{talk_of, AreNamed, AreUncut}
+use Rattle.client_sessions.specs.Blocks.{IsSessionOf, AreRun, Knows, OneTalkEach}
 use Rattle.client_sessions.proofs.Events.{event_within, event_at_more, others_above, others_at, any_here, any_there}
-use Rattle.client_sessions.proofs.Windows.{stops_within}
+use Rattle.client_sessions.proofs.Windows.{stops_within, calm_windows}
 use Rattle.client_sessions.proofs.OneBlock.{OneSession, head_is, tail_is, sole_kept, session_alone, more_own, ends_there}
 use Rattle.client_sessions.proofs.Passes.{had_at, ended_at, within_at}
 use Rattle.client_sessions.proofs.Talks.{calm, all_map, talk_later, talks_later, apart_before}
@@ -56,12 +56,13 @@ run_none cutting client p = record {
   apart = tt;
   no_fault = tt;
   above = tt;
+  one_each = tt;
   own = λ n e lt at own. absurd (let le : n ≤ length (seen_of p) = event_within (seen_of p) n e at in omega (arith, le, lt));
   joined = λ m l a. inl a;
 }
 
 -- one block on the caller's thread, with the caller's pass, and then the others
-module _ (cutting : Cutting) (client : ℕ → Client) (named : (n : ℕ) → (client n).session.client ≡ n) (one : OneSession client) (block : List Command) (replies : List Reply) (blocks : List (List Command)) (told : List (List Reply)) (p0 p p1 p2 : Pass)
+module _ (cutting : Cutting) (client : ℕ → Client) (named : (n : ℕ) → (client n).session.client ≡ n) (one : OneSession client) (count : ℕ) (block : List Command) (ready : AreNamed count block) (replies : List Reply) (blocks : List (List Command)) (told : List (List Reply)) (p0 p p1 p2 : Pass)
     (store : store_of p ≡ store_of p0) (badge : badge_of p ≡ badge_of p0) (limit : limit_of p ≡ limit_of p0) (looks : Looks IsClaimed (number_of p0) (sole_of p0) (seen_of p0) (seen_of p))
     (s : IsSessionOf cutting client block replies p p1) (r : AreRun cutting client blocks told p1 p2) where
   abbrev here : Talk
@@ -83,17 +84,22 @@ module _ (cutting : Cutting) (client : ℕ → Client) (named : (n : ℕ) → (c
         ]
   ]
 
+  -- the block is of the pass's own client
+  each_here : (talks : List Talk) → AllByRecursion (λ (t : Talk). t.client.session.client ≡ here.client.session.client → here.client.session.client ≡ number_of p0) talks
+  each_here [] = tt
+  each_here (t ∷ talks) = (λ same. named (number_of p) ∙ ap (λ (b : Badge). b.number) badge, each_here talks)
+
   -- one block alone: no others made events before it, and none is behind it
-  alone_here : (b : List Command) (met : List Reply) → block ∷ blocks ≡ b ∷ [] → replies ∷ told ≡ met ∷ [] → sole_of p0 ≡ true → IsLawful (seen_of p0) → AreServed b → AreUncut met
+  alone_here : (b : List Command) (met : List Reply) → block ∷ blocks ≡ b ∷ [] → replies ∷ told ≡ met ∷ [] → sole_of p0 ≡ true → IsLawful (seen_of p0) → AreUncut met
       → (n : ℕ) → RunsAlone cutting (client n).session b met (seen_of p0) (seen_of p2)
-  alone_here b met one_block one_reply sole lawful served uncut n =
+  alone_here b met one_block one_reply sole lawful uncut n =
       let from : seen_of p ≡ seen_of p0 = looks.is ∙ ap (λ (h : History). h ++ seen_of p0) (looks.alone sole) in
       let to : seen_of p1 ≡ seen_of p2 = sym (r.without_blocks (tail_is block b blocks [] one_block)) in
       let same_block = head_is block b blocks [] one_block in
       let same_reply = head_is replies met told [] one_reply in
       subst (λ (z : List Command × List Reply). RunsAlone cutting (client n).session z.0 z.1 (seen_of p0) (seen_of p2)) (λ i. (same_block i, same_reply i))
-      (session_alone cutting client one block replies (seen_of p0) (seen_of p2) p p1 s from to (s.session.own (ap is_sole badge ∙ sole)) lawful
-      (subst (λ (cs : List Command). AreServed cs) (sym same_block) served) (subst (λ (rs : List Reply). AreUncut rs) (sym same_reply) uncut) n)
+      (session_alone cutting client one count block ready replies (seen_of p0) (seen_of p2) p p1 s from to (s.session.own (ap is_sole badge ∙ sole)) lawful
+      (subst (λ (rs : List Reply). AreUncut rs) (sym same_reply) uncut) n)
 
   pub run_here : AreRun cutting client (block ∷ blocks) (replies ∷ told) p0 p2
   run_here =
@@ -119,11 +125,12 @@ module _ (cutting : Cutting) (client : ℕ → Client) (named : (n : ℕ) → (c
           talks_later (seen_of p2) [] (seen_of p2) (length (seen_of p0)) (length (seen_of p1)) r.talks refl (omega (arith, first_le, next_le)) r.legal,
         );
         apart = (apart_before (seen_of p2) (length (seen_of p1)) here r.talks (stops_within (seen_of p1) here.client (length (seen_of p)) block replies s.session.windows s.session.legal) r.legal, r.apart);
-        no_fault = (s.session.no_fault calm, r.no_fault);
+        no_fault = (calm_windows 0 0 s.session.windows calm s.session.faults, r.no_fault);
         above = (
           inl (named (number_of p) ∙ ap (λ (b : Badge). b.number) badge),
           subst (λ (b : Badge). AllByRecursion (λ (t : Talk). (t.client.session.client ≡ b.number) ⊎ ((m : ℕ) → Knows b m → m < t.client.session.client)) r.talks) badge_here r.above,
         );
+        one_each = (each_here r.talks, subst (λ (n : ℕ). OneTalkEach n r.talks) (ap (λ (b : Badge). b.number) badge_here) r.one_each);
         own = own_here;
         joined = λ m l a. ⊎_elim (λ (x : Among (joined_at m l) (badge_of p1).joined). inl (subst (λ (b : Badge). Among (joined_at m l) b.joined) badge_here x))
             (λ (x : (l ≤ length (seen_of p2)) × ((n : ℕ) (e : Event) → n ≤ l → event_at (seen_of p2) n ≡ Some e → author e ≡ m → Any (Covers n e) r.talks)). inr (x.0, λ n e le at own. any_there here r.talks (x.1 n e le at own)))
@@ -131,7 +138,7 @@ module _ (cutting : Cutting) (client : ℕ → Client) (named : (n : ℕ) → (c
       }
 
 -- one block on a thread of its own, with a pass that was split off, beside the others; its pass is joined behind all
-module _ (cutting : Cutting) (client : ℕ → Client) (named : (n : ℕ) → (client n).session.client ≡ n) (one : OneSession client) (block : List Command) (replies : List Reply) (blocks : List (List Command)) (told : List (List Reply)) (p0 p1 o p2 o2 p3 : Pass)
+module _ (cutting : Cutting) (client : ℕ → Client) (named : (n : ℕ) → (client n).session.client ≡ n) (one : OneSession client) (count : ℕ) (block : List Command) (ready : AreNamed count block) (replies : List Reply) (blocks : List (List Command)) (told : List (List Reply)) (p0 p1 o p2 o2 p3 : Pass)
     (store : store_of p1 ≡ store_of p0) (number : number_of p1 ≡ number_of p0) (limit : limit_of p1 ≡ limit_of p0) (looks : Looks IsClaimed (number_of p0) (sole_of p0) (seen_of p0) (seen_of p1)) (split : IsSplit p0 p1 o)
     (r : AreRun cutting client blocks told p1 p2) (s : IsSessionOf cutting client block replies o o2)
     (store3 : store_of p3 ≡ store_of p2) (number3 : number_of p3 ≡ number_of p2) (limit3 : limit_of p3 ≡ limit_of p2) (badge3 : badge_of p3 ≡ joined_badge (badge_of p2) (badge_of o2) (length (seen_of o2)))
@@ -189,15 +196,20 @@ module _ (cutting : Cutting) (client : ℕ → Client) (named : (n : ℕ) → (c
   joined_beside m l (inr (inr a)) = absurd (subst (λ (b : Badge). Among (joined_at m l) b.joined) badge_other a)
 
   -- the others' talks are of other clients
+  gave : Among (number_of o) (badge_of p1).gave
+  gave = subst (λ (b : Badge). Among (number_of o) b.gave) (sym split.gave) (inl refl)
+
+  not_same : (t : Talk) → (t.client.session.client ≡ number_of p1) ⊎ ((m : ℕ) → Knows (badge_of p1) m → m < t.client.session.client) → number_of o ≡ t.client.session.client → ⊥
+  not_same t (inl is) same = let less : number_of p0 < number_of o = split.above (number_of p0) (inl refl) in omega (arith, less, same, is, number)
+  not_same t (inr less) same = let more : number_of o < t.client.session.client = less (number_of o) (inr gave) in omega (arith, more, same)
+
   apart_numbers : (talks : List Talk) → AllByRecursion (λ (t : Talk). (t.client.session.client ≡ number_of p1) ⊎ ((m : ℕ) → Knows (badge_of p1) m → m < t.client.session.client)) talks → AllByRecursion (AreApart beside) talks
   apart_numbers talks all = all_map (λ (t : Talk). (t.client.session.client ≡ number_of p1) ⊎ ((m : ℕ) → Knows (badge_of p1) m → m < t.client.session.client)) (AreApart beside) talks (λ t x. λ same. absurd (not_same t x (sym (named (number_of o)) ∙ same))) all
-    where
-      gave : Among (number_of o) (badge_of p1).gave
-      gave = subst (λ (b : Badge). Among (number_of o) b.gave) (sym split.gave) (inl refl)
 
-      not_same : (t : Talk) → (t.client.session.client ≡ number_of p1) ⊎ ((m : ℕ) → Knows (badge_of p1) m → m < t.client.session.client) → number_of o ≡ t.client.session.client → ⊥
-      not_same t (inl is) same = let less : number_of p0 < number_of o = split.above (number_of p0) (inl refl) in omega (arith, less, same, is, number)
-      not_same t (inr less) same = let more : number_of o < t.client.session.client = less (number_of o) (inr gave) in omega (arith, more, same)
+  each_beside : (talks : List Talk) → AllByRecursion (λ (t : Talk). (t.client.session.client ≡ number_of p1) ⊎ ((m : ℕ) → Knows (badge_of p1) m → m < t.client.session.client)) talks
+      → AllByRecursion (λ (t : Talk). t.client.session.client ≡ beside.client.session.client → beside.client.session.client ≡ number_of p0) talks
+  each_beside talks all = all_map (λ (t : Talk). (t.client.session.client ≡ number_of p1) ⊎ ((m : ℕ) → Knows (badge_of p1) m → m < t.client.session.client))
+      (λ (t : Talk). t.client.session.client ≡ beside.client.session.client → beside.client.session.client ≡ number_of p0) talks (λ t x. λ same. absurd (not_same t x (sym (named (number_of o)) ∙ sym same))) all
 
   -- what the pass knew it knows after the split
   knows : (m : ℕ) → Knows (badge_of p0) m → Knows (badge_of p1) m
@@ -243,20 +255,20 @@ module _ (cutting : Cutting) (client : ℕ → Client) (named : (n : ℕ) → (c
     by_other : (n : ℕ) (e : Event) → length (seen_of p0) < n → event_at (seen_of p3) n ≡ Some e → author e ≡ number_of o
     by_other n e lt at = by_had n e lt at (had_at p3 (sole_kept p0 p3 first_beside awaits_beside sole) n e at)
 
-    pub alone_other : IsLawful (seen_of p0) → AreServed block → AreUncut replies → (n : ℕ) → RunsAlone cutting (client n).session block replies (seen_of p0) (seen_of p3)
+    pub alone_other : IsLawful (seen_of p0) → AreUncut replies → (n : ℕ) → RunsAlone cutting (client n).session block replies (seen_of p0) (seen_of p3)
     alone_other =
         let from : seen_of o ≡ seen_of p0 = split.seen ∙ before in
-        session_alone cutting client one block replies (seen_of p0) (seen_of p3) o o2 s from (ends_there cutting client block replies (seen_of p0) o o2 p3 s other from number_other by_other)
+        session_alone cutting client one count block ready replies (seen_of p0) (seen_of p3) o o2 s from (ends_there cutting client block replies (seen_of p0) o o2 p3 s other from number_other by_other)
         (subst (λ (n : ℕ). AllByRecursion (λ e. author e ≡ n) s.session.more) (sym (named (number_of o))) (more_own cutting client block replies (seen_of p0) o o2 p3 s other from number_other by_other))
 
-  alone_beside : (b : List Command) (met : List Reply) → block ∷ blocks ≡ b ∷ [] → replies ∷ told ≡ met ∷ [] → sole_of p0 ≡ true → IsLawful (seen_of p0) → AreServed b → AreUncut met
+  alone_beside : (b : List Command) (met : List Reply) → block ∷ blocks ≡ b ∷ [] → replies ∷ told ≡ met ∷ [] → sole_of p0 ≡ true → IsLawful (seen_of p0) → AreUncut met
       → (n : ℕ) → RunsAlone cutting (client n).session b met (seen_of p0) (seen_of p3)
-  alone_beside b met one_block one_reply sole lawful served uncut n =
+  alone_beside b met one_block one_reply sole lawful uncut n =
       let same_block = head_is block b blocks [] one_block in
       let same_reply = head_is replies met told [] one_reply in
       subst (λ (z : List Command × List Reply). RunsAlone cutting (client n).session z.0 z.1 (seen_of p0) (seen_of p3)) (λ i. (same_block i, same_reply i))
       (alone_other sole (tail_is block b blocks [] one_block) lawful
-      (subst (λ (cs : List Command). AreServed cs) (sym same_block) served) (subst (λ (rs : List Reply). AreUncut rs) (sym same_reply) uncut) n)
+      (subst (λ (rs : List Reply). AreUncut rs) (sym same_reply) uncut) n)
 
   pub run_beside : AreRun cutting client (block ∷ blocks) (replies ∷ told) p0 p3
   run_beside =
@@ -282,12 +294,13 @@ module _ (cutting : Cutting) (client : ℕ → Client) (named : (n : ℕ) → (c
           talks_later (seen_of p2) looks3.others (seen_of p3) (length (seen_of p0)) (length (seen_of p1)) r.talks looks3.is first_le r.legal,
         );
         apart = (apart_numbers r.talks r.above, r.apart);
-        no_fault = (s.session.no_fault calm, r.no_fault);
+        no_fault = (calm_windows 0 0 s.session.windows calm s.session.faults, r.no_fault);
         above = (
           inr (λ m k. subst (λ (z : ℕ). m < z) (sym (named (number_of o))) (split.above m k)),
           all_map (λ (t : Talk). (t.client.session.client ≡ number_of p1) ⊎ ((m : ℕ) → Knows (badge_of p1) m → m < t.client.session.client)) (λ (t : Talk). (t.client.session.client ≡ number_of p0) ⊎ ((m : ℕ) → Knows (badge_of p0) m → m < t.client.session.client)) r.talks
               (λ t x. ⊎_elim (λ (e : t.client.session.client ≡ number_of p1). inl (e ∙ number)) (λ (f : (m : ℕ) → Knows (badge_of p1) m → m < t.client.session.client). inr (λ m k. f m (knows m k))) x) r.above,
         );
+        one_each = (each_beside r.talks r.above, subst (λ (n : ℕ). OneTalkEach n r.talks) number r.one_each);
         own = own_beside;
         joined = λ m l a. joined_beside m l (among_either (joined_at m l) (badge_of p2).joined (joined_at (number_of o2) (length (seen_of o2)) ∷ (badge_of o2).joined) (subst (λ (b : Badge). Among (joined_at m l) b.joined) badge3 a));
       }

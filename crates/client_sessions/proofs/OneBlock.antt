@@ -1,9 +1,8 @@
 -- One block alone: the other client's events are all that was added, and its replies are those of one client alone.
-use Rattle.std.proofs.Common.{◌≡◌, ◌≢◌, ℕ, suc, ◌<◌, ◌≤◌, true, false, List, [], ◌∷◌, ◌++◌, length, Option, Some, None, refl, sym, ap, ◌∙◌, subst, inl, inr, ⊎_elim, append_assoc, length-append, arith}
+use Rattle.std.proofs.Common.{◌≡◌, ℕ, suc, ◌<◌, true, false, List, [], ◌∷◌, ◌++◌, length, Option, Some, None, refl, sym, ap, ◌∙◌, subst, append_assoc, length-append, arith}
 use Rattle.std.specs.Prelude.{option_map, option_and_then}
 use Rattle.std.specs.List.{AllByRecursion}
 use Rattle.std.proofs.lemmas.Bool.{true≢false}
-use Rattle.turn_cell.specs.declared.badge.Badge.{Badge}
 use Rattle.turn_cell.specs.Badges.{Has, IsSole, Awaits}
 use Rattle.turn_cell.proofs.Sole.{awaits_none, sole_again}
 use Rattle.bucket_core.specs.declared.event.Event.{Event}
@@ -23,8 +22,8 @@ use Rattle.reply_model.specs.Blocks.{Cutting}
 use Rattle.reply_model.specs.Sole.{Alone, step_alone, alone}
 use Rattle.reply_model.specs.Standing.{RunsTo, RunsAlone}
 use Rattle.reply_model.proofs.Covering.{event_at_later, event_at_end}
-use Rattle.library_api.specs.Steps.{is_told_alone}
-use Rattle.client_sessions.specs.Sessions.{IsSession, AreServed, AreUncut}
+use Rattle.library_api.specs.Steps.{is_carried_out}
+use Rattle.client_sessions.specs.Sessions.{AreNamed, AreUncut}
 use Rattle.client_sessions.specs.Blocks.{IsSessionOf}
 use Rattle.client_sessions.proofs.Events.{event_within}
 
@@ -56,8 +55,8 @@ none_of client (e ∷ h) others own = absurd (others.0 own.0)
 
 -- ---- the number of a client
 
--- what a step of one client alone tells goes by its session's frames and moment, where it tells what one client alone gets
-served_step : (c : Cutting) (s : Session) (n : ℕ) (command : Command) (r : Alone) → is_told_alone command ≡ true → step_alone c s command r ≡ step_alone c (record s { client = n }) command r
+-- what a step of one client alone tells goes by its session's frames and moment, for the commands that a library carries out
+served_step : (c : Cutting) (s : Session) (n : ℕ) (command : Command) (r : Alone) → is_carried_out command ≡ true → step_alone c s command r ≡ step_alone c (record s { client = n }) command r
 served_step c s n (commands.Write a frame at prune) r is = refl
 served_step c s n (commands.Append a frame at prune) r is = refl
 served_step c s n (commands.Update a frame range upsert at prune) r is = refl
@@ -69,11 +68,11 @@ served_step c s n (commands.Finalize a append sorted at prune) r is = refl
 served_step c s n command r is = refl
 
 -- and so does a run
-served_alone : (c : Cutting) (s : Session) (n : ℕ) (list : List Command) (r : Alone) → AreServed list → alone c s list r ≡ alone c (record s { client = n }) list r
-served_alone c s n [] r all = refl
-served_alone c s n (command ∷ list) r all =
-    ap (option_and_then {U = List Reply × Alone} (λ (x : Reply × Alone). option_map {U = List Reply × Alone} (λ (y : List Reply × Alone). (x.0 ∷ y.0, y.1)) (alone c s list x.1))) (served_step c s n command r all.0)
-    ∙ of_step (λ x. served_alone c s n list x all.1) (step_alone c (record s { client = n }) command r)
+served_alone : (c : Cutting) (s : Session) (n : ℕ) (count : ℕ) (list : List Command) (r : Alone) → AreNamed count list → alone c s list r ≡ alone c (record s { client = n }) list r
+served_alone c s n count [] r all = refl
+served_alone c s n count (command ∷ list) r all =
+    ap (option_and_then {U = List Reply × Alone} (λ (x : Reply × Alone). option_map {U = List Reply × Alone} (λ (y : List Reply × Alone). (x.0 ∷ y.0, y.1)) (alone c s list x.1))) (served_step c s n command r all.0.0)
+    ∙ of_step (λ x. served_alone c s n count list x all.1) (step_alone c (record s { client = n }) command r)
   where
     of_step : ((x : Alone) → alone c s list x ≡ alone c (record s { client = n }) list x) → (o : Option (Reply × Alone))
         → option_and_then {U = List Reply × Alone} (λ (x : Reply × Alone). option_map {U = List Reply × Alone} (λ (y : List Reply × Alone). (x.0 ∷ y.0, y.1)) (alone c s list x.1)) o
@@ -81,9 +80,9 @@ served_alone c s n (command ∷ list) r all =
     of_step same None = refl
     of_step same (Some x) = ap (option_map {U = List Reply × Alone} (λ (y : List Reply × Alone). (x.0 ∷ y.0, y.1))) (same x.1)
 
--- a run of served commands is that of a client of any number
-pub runs_as : (c : Cutting) (s : Session) (n : ℕ) (list : List Command) (replies : List Reply) (old new : History) → AreServed list → RunsAlone c s list replies old new → RunsAlone c (record s { client = n }) list replies old new
-runs_as c s n list replies old new all runs r stands = subst (λ (o : Option (List Reply × Alone)). RunsTo c o replies new) (served_alone c s n list r all) (runs r stands)
+-- a run of such commands is that of a client of any number
+pub runs_as : (c : Cutting) (s : Session) (n : ℕ) (count : ℕ) (list : List Command) (replies : List Reply) (old new : History) → AreNamed count list → RunsAlone c s list replies old new → RunsAlone c (record s { client = n }) list replies old new
+runs_as c s n count list replies old new all runs r stands = subst (λ (o : Option (List Reply × Alone)). RunsTo c o replies new) (served_alone c s n count list r all) (runs r stands)
 
 -- ---- sole passes
 
@@ -100,14 +99,14 @@ abbrev pub OneSession : (ℕ → Client) → Type 0
 OneSession client = (m n : ℕ) → (client n).session ≡ record (client m).session { client = n }
 
 -- a session over a pass, from the history that one began with to the one that another has seen, is a run of one client alone, if it grew alone
-module _ (cutting : Cutting) (client : ℕ → Client) (one : OneSession client) (block : List Command) (replies : List Reply) (old new : History) (p q : Pass)
+module _ (cutting : Cutting) (client : ℕ → Client) (one : OneSession client) (count : ℕ) (block : List Command) (ready : AreNamed count block) (replies : List Reply) (old new : History) (p q : Pass)
     (s : IsSessionOf cutting client block replies p q) (from : seen_of p ≡ old) (to : seen_of q ≡ new) (own : AllByRecursion (λ e. author e ≡ (client (number_of p)).session.client) s.session.more) where
-  pub session_alone : IsLawful old → AreServed block → AreUncut replies → (n : ℕ) → RunsAlone cutting (client n).session block replies old new
-  session_alone lawful served uncut n =
+  pub session_alone : IsLawful old → AreUncut replies → (n : ℕ) → RunsAlone cutting (client n).session block replies old new
+  session_alone lawful uncut n =
       let was : RunsAlone cutting (client (number_of p)).session block replies (seen_of p) (seen_of q) =
-      s.session.alone (record { more = s.session.more; is = s.session.goes_on; own = own }) (subst IsLawful (sym from) lawful) served uncut in
+      s.session.alone (record { more = s.session.more; is = s.session.goes_on; own = own }) (subst IsLawful (sym from) lawful) uncut in
       subst (λ (x : Session). RunsAlone cutting x block replies old new) (sym (one (number_of p) n))
-      (runs_as cutting (client (number_of p)).session n block replies old new served
+      (runs_as cutting (client (number_of p)).session n count block replies old new ready
       (subst (λ (h : History). RunsAlone cutting (client (number_of p)).session block replies h new) from (subst (λ (h : History). RunsAlone cutting (client (number_of p)).session block replies (seen_of p) h) to was)))
 
 -- where all events behind the history are of the client of a pass that was split off there, its session ends with the last of them

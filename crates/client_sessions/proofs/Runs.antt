@@ -20,13 +20,13 @@ use Rattle.reply_model.specs.Blocks.{Cutting}
 use Rattle.reply_model.specs.Runs.{Talk, IsLegalTalk, IsLegalRun, Covers, AllCovered, end_of, latest_end}
 use Rattle.client_sessions.specs.declared.parts.PartReplies.{PartReplies}
 use Rattle.client_sessions.specs.Sessions.{talk_of, IsSession}
-use Rattle.client_sessions.specs.Blocks.{IsSessionOf, AreTalksOf, AreRun}
+use Rattle.client_sessions.specs.Blocks.{IsSessionOf, AreTalksOf, OneTalkEach, AreRun}
 use Rattle.client_sessions.specs.Parts.{IsRun}
 use Rattle.client_sessions.proofs.BlockRuns.{longer}
 use Rattle.client_sessions.proofs.Events.{event_within, event_at_more, any_here, any_there}
 use Rattle.client_sessions.proofs.Passes.{had_at, ended_at, within_at}
 use Rattle.client_sessions.proofs.Talks.{calm, talk_later, talks_later, apart_before, apart_behind, latest_within}
-use Rattle.client_sessions.proofs.Windows.{ends_within, starts_from, stops_within}
+use Rattle.client_sessions.proofs.Windows.{ends_within, starts_from, stops_within, calm_windows}
 
 -- each talk of the blocks is at one moment
 moments_are : (client : ℕ → Client) (moment : ℤ) (one : (n : ℕ) → (client n).session.moment ≡ moment) (blocks : List (List Command)) (told : List (List Reply)) (talks : List Talk) → AreTalksOf client blocks told talks → AllByRecursion (λ (t : Talk). t.client.session.moment ≡ moment) talks
@@ -141,7 +141,7 @@ module _ (cutting : Cutting) (client : ℕ → Client) (named : (n : ℕ) → (c
           (legal_last (length (seen_of p1)) le2, from_first),
       (apart_behind (seen_of p2) (length (seen_of p1)) end_talk r.talks (starts_from (seen_of p3) (client (number_of p0)) (length (seen_of p2)) (length (seen_of p2)) last replies.last end.windows (omega arith) end.legal) r.legal, r.apart),
     );
-    no_fault = (a.session.no_fault calm, (end.no_fault calm, r.no_fault));
+    no_fault = (calm_windows 0 0 a.session.windows calm a.session.faults, (calm_windows 0 0 end.windows calm end.faults, r.no_fault));
     one_moment = (refl, subst (λ (m : ℤ). AllByRecursion (λ (t : Talk). t.client.session.moment ≡ m) r.talks) (sym (one (number_of p0))) (moments_are client moment one blocks replies.blocks r.talks r.talks_are));
   }
 
@@ -155,10 +155,17 @@ module _ (cutting : Cutting) (client : ℕ → Client) (named : (n : ℕ) → (c
     last = end.windows;
     clients_are = r.talks_are;
     legal = legal;
+    one_each = subst (λ (n : ℕ). OneTalkEach n r.talks) (ap (λ (x : Badge). x.number) a.badge) r.one_each;
     behind_first = seen_of p1;
     before_last = seen_of p2;
+    first_goes_on = record { more = a.session.more; is = a.session.goes_on };
+    blocks_go_on = record { more = r.more; is = r.goes_on };
+    last_goes_on = record { more = end.more; is = end.goes_on };
+    first_within = a.session.legal;
+    clients_within = r.legal;
+    last_within = end.legal;
     without_blocks = r.without_blocks;
-    first_alone = λ l served uncut. a.session.alone (record { more = a.session.more; is = a.session.goes_on; own = a.session.own sole }) l served uncut;
-    block_alone = λ block met one_block one_reply l served uncut n. r.one_alone block met one_block one_reply (ap is_sole a.badge ∙ sole) (a.session.lawful l) served uncut n;
-    last_alone = λ l served uncut. end.alone (record { more = end.more; is = end.goes_on; own = end.own sole_last }) (r.lawful (a.session.lawful l)) served uncut;
+    first_alone = λ l uncut. a.session.alone (record { more = a.session.more; is = a.session.goes_on; own = a.session.own sole }) l uncut;
+    block_alone = λ block met one_block one_reply l uncut n. r.one_alone block met one_block one_reply (ap is_sole a.badge ∙ sole) (a.session.lawful l) uncut n;
+    last_alone = λ l uncut. end.alone (record { more = end.more; is = end.goes_on; own = end.own sole_last }) (r.lawful (a.session.lawful l)) uncut;
   }

@@ -4,6 +4,7 @@ use Rattle.std.specs.Prelude.{◌||◌}
 use Rattle.std.specs.List.{AllByRecursion}
 use Rattle.std.proofs.lemmas.Bool.{le-leb, lt-ltb}
 use Rattle.std.proofs.lemmas.List.Folds.{list_any-append}
+use Rattle.base_types.specs.Faults.{Rose}
 use Rattle.bucket_core.specs.History.{History}
 use Rattle.expr_clause.specs.declared.command.Command.{Command}
 use Rattle.reply_model.specs.declared.reply.Reply.{Reply}
@@ -11,6 +12,7 @@ use Rattle.reply_model.specs.Windows.{Window, Client}
 use Rattle.reply_model.specs.Legal.{IsLegalSeen, IsLegalReply, LegalFrom}
 use Rattle.reply_model.specs.Runs.{is_covered, end_of}
 use Rattle.reply_model.proofs.Later.{history_at_later}
+use Rattle.client_sessions.specs.Sessions.{FaultsAre}
 
 -- replies stay legal for their windows
 pub legal_later : (h more : History) (client : Client) (from : ℕ) (cs : List Command) (rs : List Reply) (ws : List Window) → LegalFrom h client from cs rs ws → LegalFrom (more ++ h) client from cs rs ws
@@ -93,3 +95,26 @@ pub covered_behind : (ws : List Window) (w : Window) (n : ℕ) → w.start < n �
 covered_behind ws w n after before =
     let inside : is_covered (w ∷ []) n ≡ true = rw (lt-ltb w.start n after) (rw (le-leb n w.stop before) refl) in
     list_any-append _ ws (w ∷ []) ∙ or_right (is_covered ws n) (is_covered (w ∷ []) n) inside
+
+-- ---- the counts of faults
+
+-- the count does not fall
+pub faults_rise : (before now : ℕ) (ws : List Window) → FaultsAre before now ws → before ≤ now
+faults_rise before now [] is = omega (arith, is)
+faults_rise before now (w ∷ ws) (behind, up, set, rest) = let more : behind ≤ now = faults_rise behind now ws rest in omega (arith, up, more)
+
+-- where it did not rise, no window is marked as failed
+pub calm_windows : (before now : ℕ) (ws : List Window) → (Rose before now → ⊥) → FaultsAre before now ws → AllByRecursion (λ (w : Window). w.faulted ≡ false) ws
+calm_windows before now [] calm is = tt
+calm_windows before now (w ∷ ws) calm (behind, up, set, rest) =
+    let more : behind ≤ now = faults_rise behind now ws rest in
+    (of w.faulted refl more, calm_windows behind now ws (λ (rose : Rose behind now). let later : Rose before now = omega (arith, rose, up) in calm later) rest)
+  where
+    of : (b : Bool) → w.faulted ≡ b → behind ≤ now → w.faulted ≡ false
+    of true is more = absurd (let rose : Rose before behind = set is in let later : Rose before now = omega (arith, rose, more) in calm later)
+    of false is more = is
+
+-- one window more, in which the count went on
+pub faults_push : (before now later : ℕ) (ws : List Window) (w : Window) → now ≤ later → (w.faulted ≡ true → Rose now later) → FaultsAre before now ws → FaultsAre before later (ws ++ w ∷ [])
+faults_push before now later [] w up set is = (later, omega (arith, is, up), λ t. let rose : Rose now later = set t in omega (arith, is, rose), refl)
+faults_push before now later (v ∷ ws) w up set (behind, first, marked, rest) = (behind, first, marked, faults_push behind now later ws w up set rest)

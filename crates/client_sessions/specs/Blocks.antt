@@ -3,6 +3,7 @@
 --     IsSessionOf         a client's commands over a pass
 --     AreTalksOf          a talk for each block
 --     Knows               the numbers that a pass has or gave out itself
+--     OneTalkEach         only one client may have several talks
 --     AreRun              blocks that were carried out between two states of a pass
 use Rattle.std.specs.Prelude.{◌≡◌, ◌⊎◌, ◌<◌, ◌≤◌, ℕ, true, List, [], ◌∷◌, ◌++◌, length, Some, Any, ⊤}
 use Rattle.std.specs.List.{AllByRecursion}
@@ -22,7 +23,7 @@ use Rattle.reply_model.specs.Runs.{Talk, IsLegalTalk, HasNoFault, Covers, AllApa
 use Rattle.reply_model.specs.Standing.{RunsAlone}
 use Rattle.library_api.specs.declared.settings.Settings.{Settings}
 use Rattle.library_api.specs.Steps.{client_of}
-use Rattle.client_sessions.specs.Sessions.{talk_of, AreServed, AreUncut, IsSession}
+use Rattle.client_sessions.specs.Sessions.{talk_of, AreUncut, IsSession}
 
 -- what the replies of a client of this number are judged by: its session has these frames and settings, and its bucket this limit
 abbrev pub clients_of : List RawFrame → Settings → ℕ → ℕ → Client
@@ -46,8 +47,13 @@ AreTalksOf client _ _ _ = ⊥
 abbrev pub Knows : Badge → ℕ → Type 0
 Knows badge n = (n ≡ badge.number) ⊎ Among n badge.gave
 
+-- each client has at most one talk, but for the client of this number
+abbrev pub OneTalkEach : ℕ → List Talk → Type 0
+OneTalkEach own [] = ⊤
+OneTalkEach own (t ∷ talks) = AllByRecursion (λ (s : Talk). s.client.session.client ≡ t.client.session.client → t.client.session.client ≡ own) talks × OneTalkEach own talks
+
 -- blocks were carried out between two states of a pass: the history goes on lawfully; each block's replies are legal in it, and no talks of one
--- client overlap; and each event of the pass's client since, and each event of a client whose pass was joined since, lies in a window of its own
+-- client overlap, of which only the pass's own may have several; and each event of the pass's client since, and each event of a client whose pass was joined since, lies in a window of its own
 pub record AreRun (cutting : Cutting) (client : ℕ → Client) (blocks : List (List Command)) (replies : List (List Reply)) (old new : Pass) : Type 0 where
   pub store : store_of new ≡ store_of old
   pub number : number_of new ≡ number_of old
@@ -59,9 +65,9 @@ pub record AreRun (cutting : Cutting) (client : ℕ → Client) (blocks : List (
   pub goes_on : seen_of new ≡ more ++ seen_of old
   pub lawful : IsLawful (seen_of old) → IsLawful (seen_of new)
   pub without_blocks : blocks ≡ [] → seen_of new ≡ seen_of old
-  -- a sole pass that has one block to carry out leaves what one client alone would leave, whatever that client's number is: where all commands of
-  -- the block are served and none of its replies is cut
-  pub one_alone : (block : List Command) (met : List Reply) → blocks ≡ block ∷ [] → replies ≡ met ∷ [] → sole_of old ≡ true → IsLawful (seen_of old) → AreServed block → AreUncut met
+  -- a sole pass that has one block to carry out leaves what one client alone would leave, whatever that client's number is: where none of the
+  -- block's replies is cut
+  pub one_alone : (block : List Command) (met : List Reply) → blocks ≡ block ∷ [] → replies ≡ met ∷ [] → sole_of old ≡ true → IsLawful (seen_of old) → AreUncut met
       → (n : ℕ) → RunsAlone cutting (client n).session block met (seen_of old) (seen_of new)
   pub talks : List Talk
   pub talks_are : AreTalksOf client blocks replies talks
@@ -70,6 +76,7 @@ pub record AreRun (cutting : Cutting) (client : ℕ → Client) (blocks : List (
   pub no_fault : AllByRecursion HasNoFault talks
   -- each client is the pass's own, or has a number above all that the pass knew
   pub above : AllByRecursion (λ (t : Talk). (t.client.session.client ≡ number_of old) ⊎ ((m : ℕ) → Knows (badge_of old) m → m < t.client.session.client)) talks
+  pub one_each : OneTalkEach (number_of old) talks
   pub own : (n : ℕ) (e : Event) → length (seen_of old) < n → event_at (seen_of new) n ≡ Some e → author e ≡ number_of old → Any (Covers n e) talks
   pub joined : (m l : ℕ) → Among (joined_at m l) (badge_of new).joined
       → Among (joined_at m l) (badge_of old).joined ⊎ ((l ≤ length (seen_of new)) × ((n : ℕ) (e : Event) → n ≤ l → event_at (seen_of new) n ≡ Some e → author e ≡ m → Any (Covers n e) talks))

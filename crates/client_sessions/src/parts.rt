@@ -1,5 +1,6 @@
 ghost use Rattle.std.specs.Prelude.{◌≡◌, true, length, reverse, IfOk, OnErr};
 ghost use Rattle.std.specs.List.{AllByRecursion};
+ghost use Rattle.bucket_shared.specs.Passes.{store_of};
 ghost use Rattle.library_api.specs.Libraries.{AreSettings};
 ghost use Rattle.reply_model.specs.Blocks.{run_cutting};
 ghost use Rattle.client_sessions.specs.Blocks.{clients_of};
@@ -75,6 +76,7 @@ pub fn run_parts<R: Threads + Wait + Sync, G: Gate>(
     ensures client { ⟦<Pass as Bucket<StoreLaw>>⟧.number result.0 ≡ ⟦<Pass as Bucket<StoreLaw>>⟧.number pass }
     ensures limit { ⟦<Pass as Bucket<StoreLaw>>⟧.limit result.0 ≡ ⟦<Pass as Bucket<StoreLaw>>⟧.limit pass }
     ensures sole { ⟦<Pass as Bucket<StoreLaw>>⟧.sole result.0 ≡ true }
+    ensures store { store_of result.0 ≡ store_of pass }
 {
     let Ok(first_room) = Room::make(alloc, first.len()) else {
         return (pass, Err(NoMemory));

@@ -1,7 +1,8 @@
 use Rattle.std.proofs.Common.{◌≤◌, ◌≡◌, ◌++◌, ◌∙◌, Bool, map, length, subst, ap, arith}
 use Rattle.frame_core.specs.Frames.{cell_of}
 use Rattle.frame_core.specs.Schemas.{Schema}
-use Rattle.arctic_cli.specs.FrameText.{cell_text, further_fields}
+use Rattle.arctic_cli.specs.Commas.{further_fields}
+use Rattle.arctic_cli.specs.FrameText.{cell_text}
 use Rattle.arctic_cli.proofs.Commas.{further-more, further-all, cell-field, row-width}
 use Rattle.arctic_cli.proofs.frame_lines.push_cells.Goals as goal
 

@@ -1,7 +1,8 @@
 use Rattle.std.proofs.Common.{◌≡◌, ◌++◌, take, map, Some}
 use Rattle.std.specs.Prelude.{slice_get}
 use Rattle.frame_core.specs.Frames.{Row}
-use Rattle.arctic_cli.specs.FrameText.{further_fields, cell_text}
+use Rattle.arctic_cli.specs.Commas.{further_fields}
+use Rattle.arctic_cli.specs.FrameText.{cell_text}
 use Rattle.arctic_cli.proofs.frame_lines.push_cells.Given as goal
 
 -- the cells so far stand in the line

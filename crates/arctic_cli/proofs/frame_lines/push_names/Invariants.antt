@@ -1,6 +1,6 @@
 use Rattle.std.proofs.Common.{◌≡◌, ◌++◌, take, map}
 use Rattle.frame_core.specs.Schemas.{Head}
-use Rattle.arctic_cli.specs.FrameText.{further_fields}
+use Rattle.arctic_cli.specs.Commas.{further_fields}
 use Rattle.arctic_cli.proofs.frame_lines.push_names.Given as goal
 
 -- the names so far stand in the line

@@ -1,5 +1,5 @@
 use Rattle.std.proofs.Common.{◌≡◌, ◌++◌, take, false}
-use Rattle.arctic_cli.specs.FrameText.{further_fields}
+use Rattle.arctic_cli.specs.Commas.{further_fields}
 use Rattle.arctic_cli.proofs.reply_line.push_symbols.Given as goal
 
 -- the symbols so far stand in the line

@@ -1,9 +1,11 @@
 use Rattle.std.proofs.Common.{rules, ◌≡◌, ◌∙◌, ℕ, List, [], ◌∷◌, length, reverse, refl, sym, ap, subst, arith}
+use Rattle.std.specs.List.{AllByRecursion}
 use Rattle.std.proofs.lemmas.List.{reverse-append}
 use Rattle.bucket_shared.specs.Passes.{limit_of}
 use Rattle.expr_clause.specs.declared.command.Command.{Command}
 use Rattle.reply_model.specs.declared.reply.Reply.{Reply}
 use Rattle.reply_model.specs.Blocks.{run_cutting}
+use Rattle.client_sessions.specs.Sessions.{AreNamed}
 use Rattle.client_sessions.specs.Blocks.{clients_of, IsSessionOf, AreRun}
 use Rattle.client_sessions.proofs.BlockRuns.{run_none, run_here, run_beside}
 use Rattle.client_sessions.proofs.blocks.+fn-run_blocks-join+arg2+run_blocks.Goals as goal
@@ -29,11 +31,12 @@ returns-in_default-split-clause-run g t c =
     let replies = c.session-pass.result.1 in
     let told = c.run_blocks-pass.result.1.items in
     let blocks : c.items-commands.result.now ∷ c.in-Some.rest.now ≡ c.args.blocks.now = search rules in
+    let ready : AllByRecursion (AreNamed (length c.args.frames.now)) (c.items-commands.result.now ∷ c.in-Some.rest.now) = subst (λ (bs : List (List Command)). AllByRecursion (AreNamed (length c.args.frames.now)) bs) (sym blocks) c.requires.named in
     let again : reverse c.noted.result.items ≡ replies ∷ reverse told = ap reverse c.noted.ensures.items ∙ reverse-append told (replies ∷ []) in
     let s = subst (λ (n : ℕ). IsSessionOf cutting (clients_of c.args.frames.now c.args.settings n) c.items-commands.result.now replies c.split.new.self c.session-pass.result.0) c.split.ensures.limit c.session-pass.ensures in
     let r = subst (λ (n : ℕ). AreRun (run_cutting c.args.settings.cutting) (clients_of c.args.frames.now c.args.settings n) c.in-Some.rest.now (reverse told) c.session-pass.result.0 c.run_blocks-pass.result.0) (s.limit ∙ c.split.ensures.limit) c.run_blocks-pass.ensures.run in
     subst (λ (z : List (List Command) × List (List Reply)). AreRun (run_cutting c.args.settings.cutting) client z.0 z.1 c.args.pass c.run_blocks-pass.result.0) (λ i. (blocks i, sym again i))
-    (run_here cutting client (λ n. refl) (λ m n. refl) c.items-commands.result.now replies c.in-Some.rest.now (reverse told) c.args.pass c.split.new.self c.session-pass.result.0 c.run_blocks-pass.result.0
+    (run_here cutting client (λ n. refl) (λ m n. refl) (length c.args.frames.now) c.items-commands.result.now ready.0 replies c.in-Some.rest.now (reverse told) c.args.pass c.split.new.self c.session-pass.result.0 c.run_blocks-pass.result.0
     c.split.ensures.store c.in_default-split.ensures.badge c.split.ensures.limit c.split.ensures.looks s r)
 
 -- the block with a pass of its own, beside the others
@@ -44,11 +47,12 @@ returns-clause-run g t c =
     let replies = c.join-pass.result.1.1 in
     let told = c.join-pass.result.0.1.items in
     let blocks : c.items-commands.result.now ∷ c.in-Some.rest.now ≡ c.args.blocks.now = search rules in
+    let ready : AllByRecursion (AreNamed (length c.args.frames.now)) (c.items-commands.result.now ∷ c.in-Some.rest.now) = subst (λ (bs : List (List Command)). AllByRecursion (AreNamed (length c.args.frames.now)) bs) (sym blocks) c.requires.named in
     let again : reverse c.noted-2.result.items ≡ replies ∷ reverse told = ap reverse c.noted-2.ensures.items ∙ reverse-append told (replies ∷ []) in
     let split = c.in-Ok.ensures.split in
     let r = subst (λ (n : ℕ). AreRun (run_cutting c.args.settings.cutting) (clients_of c.args.frames.now c.args.settings n) c.in-Some.rest.now (reverse told) c.split.new.self c.join-pass.result.0.0) c.split.ensures.limit c.join-pass.ensures.first.0 in
     let s = subst (λ (n : ℕ). IsSessionOf cutting (clients_of c.args.frames.now c.args.settings n) c.items-commands.result.now replies c.in-Ok.other c.join-pass.result.1.0) split.limit c.join-pass.ensures.second in
     subst (λ (z : List (List Command) × List (List Reply)). AreRun (run_cutting c.args.settings.cutting) client z.0 z.1 c.args.pass c.join.new.self) (λ i. (blocks i, sym again i))
-    (run_beside cutting client (λ n. refl) (λ m n. refl) c.items-commands.result.now replies c.in-Some.rest.now (reverse told) c.args.pass c.split.new.self c.in-Ok.other c.join-pass.result.0.0 c.join-pass.result.1.0 c.join.new.self
+    (run_beside cutting client (λ n. refl) (λ m n. refl) (length c.args.frames.now) c.items-commands.result.now ready.0 replies c.in-Some.rest.now (reverse told) c.args.pass c.split.new.self c.in-Ok.other c.join-pass.result.0.0 c.join-pass.result.1.0 c.join.new.self
     c.split.ensures.store c.split.ensures.client c.split.ensures.limit c.split.ensures.looks split r s
     c.join.ensures.store c.join.ensures.client c.join.ensures.limit c.join.ensures.badge c.join.ensures.looks c.join.ensures.other_looks c.join.ensures.awaits)

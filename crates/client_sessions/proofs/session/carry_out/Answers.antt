@@ -32,7 +32,7 @@ loop-command-preserved g c =
           (session_at (run_cutting was.settings.cutting) c.runs_alone_are_sole.ensures.grow now c.args.commands.now c.loop-command.command-index c.loop-command.replies.items c.command-item.result c.step-reply.result
           (g.B.Bucket.seen was.bucket) (g.B.Bucket.seen mid.bucket) (g.B.Bucket.seen new.bucket)
           (g.B.Bucket.faults was.bucket) (g.B.Bucket.faults mid.bucket) (g.B.Bucket.faults new.bucket) (g.B.Bucket.sole was.bucket) (g.B.Bucket.sole mid.bucket)
-          c.loop-command-test.true c.command-item.is c.loop-command.invariant.steady.faults_rise c.step-reply.ensures.steady.faults_rise c.loop-command.invariant.steady.stays_sole c.loop-command.invariant.session
+          c.loop-command-test.true c.command-item.is c.step-reply.ensures.steady.faults_rise c.loop-command.invariant.steady.stays_sole c.loop-command.invariant.session
           (subst (λ (n : ℕ). GoesOn n (g.B.Bucket.sole mid.bucket) (g.B.Bucket.seen mid.bucket) (g.B.Bucket.seen new.bucket)) c.loop-command.invariant.steady.same_number c.step-reply.ensures.grown)
           (subst (λ (x : Client). IsLegalIn x (g.B.Bucket.faults mid.bucket) (g.B.Bucket.faults new.bucket) (g.B.Bucket.seen mid.bucket) (g.B.Bucket.seen new.bucket) c.command-item.result c.step-reply.result) same c.step-reply.ensures.legal)
           (subst (λ (x : Settings). IsStepAlone x now (g.B.Bucket.seen mid.bucket) (g.B.Bucket.seen new.bucket) c.command-item.result c.step-reply.result) c.loop-command.invariant.settings
