@@ -11,7 +11,7 @@ use Rattle.arctic_cli.specs.declared.stop.Stop.{Stop}
 use Rattle.arctic_cli.specs.declared.stop.Stop.TheVariants as stops
 use Rattle.arctic_cli.specs.CommandLine.{Words, plain_words_of, first_set}
 use Rattle.arctic_cli.specs.Program.{Job, job_of, Shelf, ◌then◌, or_stop, table_in_file, fetched, loaded, all_loaded, prepared}
-use Rattle.arctic_cli.specs.Causes.{NotFetched, FindsScript, GivesTable, ReachesLoad, NamesScript, NamesLoad, IsUnreadable, IsBadFile, Prepares}
+use Rattle.arctic_cli.specs.Causes.{NotFetched, FindsScript, GivesTable, ReachesLoad, NamesScript, NamesLoad, IsBadFile, Prepares}
 
 -- one step that gives a value, and one that stops
 step : {A B : Type 0} (r : Result A Stop) (a : A) (f : A → Result B Stop) → r ≡ Ok a → (r then f) ≡ f a
