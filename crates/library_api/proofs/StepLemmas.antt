@@ -142,10 +142,10 @@ step_alone theorem reclaims client settings before now sole old new command repl
         (subst (λ (c : Command). IsLegalReply new client c reply window) found.1 (legal true (λ rose. refl))) whole (looked found.0 found.1 own))
 
 -- a legal step is isolated
-pub step_isolated : LegalIsIsolated → (client : Client) (before now : ℕ) (old new : History) (command : Command) (reply : Reply) → IsLegalIn client before now old new command reply → IsIsolatedIn client before now old new command reply
-step_isolated theorem client before now old new command reply legal faulted rose =
-    let window : Window = record { start = length old; stop = length new; faulted = faulted } in
-    subst (λ (h : History). IsIsolated h client command reply window) (history_at_end new) (theorem new client command reply window (legal faulted rose))
+pub step_isolated : LegalIsIsolated → (client : Client) (before now : ℕ) (old new : History) (command : Command) (reply : Reply) → IsLegalIn client before now old new command reply → IsIsolatedIn client old new command reply
+step_isolated theorem client before now old new command reply legal =
+    let window : Window = record { start = length old; stop = length new; faulted = true } in
+    subst (λ (h : History). IsIsolated h client command reply window) (history_at_end new) (theorem new client command reply window (legal true (λ rose. refl)))
 
 -- what is said of the one command is said of the other
 lays_as : (settings : Settings) (s : Session) (old new : History) (command c : Command) (reply : Reply) → command ≡ c → LaysOut (run_cutting settings.cutting) s c reply old new → LaysOut (run_cutting settings.cutting) s command reply old new

@@ -6,7 +6,7 @@
 --     IsLegalIn           a reply is legal for the window that a step added
 --     IsLegalForAll       it is legal whatever else the client's session brings
 --     IsLegalWithTries    it is legal whatever the session brings beside its tries
---     IsIsolatedIn        alone on its symbol, a step answers what the one-thread library answers where its window begins
+--     IsIsolatedIn        alone on its symbol, a step answers what it would answer where its window begins
 --     LooksFirst, IsStepAlone      where nobody else makes events, a reclaim looked where it began, and a step is that of one client alone
 use Rattle.std.specs.Prelude.{◌≡◌, ℕ, ◌<◌, Bool, true, false, List, [], map, length, Option, Some, None, IfSome}
 use Rattle.base_types.specs.Faults.{Rose}
@@ -92,10 +92,9 @@ IsLegalWithTries limit number tries before now old new command reply =
 
 -- ---- alone
 
--- alone on its symbol, the command answers what the one-thread library answers where the window that the step added begins
-abbrev pub IsIsolatedIn : Client → ℕ → ℕ → History → History → Command → Reply → Type 0
-IsIsolatedIn client before now old new command reply =
-    (faulted : Bool) → (Rose before now → faulted ≡ true) → IsIsolated new client command reply (record { start = length old; stop = length new; faulted = faulted })
+-- alone on its symbol, the command answers what it would answer where the window that the step added begins
+abbrev pub IsIsolatedIn : Client → History → History → Command → Reply → Type 0
+IsIsolatedIn client old new command reply = IsIsolated new client command reply (record { start = length old; stop = length new; faulted = false })
 
 -- where nobody else makes events, a reclaim that is not refused looked at the reference where it began
 abbrev pub LooksFirst : ℕ → History → History → Reply → Type 0

@@ -71,8 +71,8 @@ impl<B> Library<B> {
         ensures steady { IsSteady B.number B.limit B.faults B.sole self.old.bucket self.new.bucket }
         ensures grown { GoesOn (B.number self.old.bucket) (B.sole self.old.bucket) (B.seen self.old.bucket) (B.seen self.new.bucket) }
         ensures legal { IsLegalIn (client_of frames.now self.old.settings (B.number self.old.bucket) (B.limit self.old.bucket)) (B.faults self.old.bucket) (B.faults self.new.bucket) (B.seen self.old.bucket) (B.seen self.new.bucket) command.now result }
-        // Alone on its symbol a command answers what the library answers where it began.
-        ensures isolated { IsIsolatedIn (client_of frames.now self.old.settings (B.number self.old.bucket) (B.limit self.old.bucket)) (B.faults self.old.bucket) (B.faults self.new.bucket) (B.seen self.old.bucket) (B.seen self.new.bucket) command.now result }
+        // Alone on its symbol a command answers what it would answer where it began.
+        ensures isolated { IsIsolatedIn (client_of frames.now self.old.settings (B.number self.old.bucket) (B.limit self.old.bucket)) (B.seen self.old.bucket) (B.seen self.new.bucket) command.now result }
         // Where nobody else makes events a step is that of one client alone.
         ensures alone { IsStepAlone self.old.settings (client_of frames.now self.old.settings (B.number self.old.bucket) (B.limit self.old.bucket)) (B.seen self.old.bucket) (B.seen self.new.bucket) command.now result }
     {

@@ -14,7 +14,7 @@ returns-clause-isolated g c =
     let new = c.perform-reply.new.bucket in
     let bucket = c.self.inside.bucket in
     let settings = c.self.inside.settings in
-    subst (λ l. IsIsolatedIn (client_of c.args.frames.now l.settings (g.B.Bucket.number l.bucket) (g.B.Bucket.limit l.bucket)) (g.B.Bucket.faults l.bucket) (g.B.Bucket.faults new) (g.B.Bucket.seen l.bucket) (g.B.Bucket.seen new) c.args.command.now c.perform-reply.result)
+    subst (λ l. IsIsolatedIn (client_of c.args.frames.now l.settings (g.B.Bucket.number l.bucket) (g.B.Bucket.limit l.bucket)) (g.B.Bucket.seen l.bucket) (g.B.Bucket.seen new) c.args.command.now c.perform-reply.result)
     c.self.view_is
     (step_isolated c.commands_are_isolated.ensures (client_of c.args.frames.now settings (g.B.Bucket.number bucket) (g.B.Bucket.limit bucket)) (g.B.Bucket.faults bucket) (g.B.Bucket.faults new)
     (g.B.Bucket.seen bucket) (g.B.Bucket.seen new) c.args.command.now c.perform-reply.result c.perform-reply.ensures.legal)
