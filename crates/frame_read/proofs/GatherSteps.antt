@@ -1,16 +1,15 @@
 -- The steps of gathering the cells of a tile.
-use Rattle.std.proofs.Common.{◌≡◌, ℕ, zero, suc, ◌+◌, ◌≤◌, ◌<◌, List, [], ◌∷◌, ◌++◌, length, get_or, take, drop, Some, sym, ap, ◌∙◌, subst, arith}
+use Rattle.std.proofs.Common.{◌≡◌, ℕ, zero, suc, ◌+◌, ◌<◌, List, [], ◌∷◌, ◌++◌, length, get_or, take, drop, Some, sym, ap, ◌∙◌, subst, arith}
 use Rattle.std.specs.Prelude.{slice_get, slice_range, option_map, ℤ}
 use Rattle.std.specs.List.{AllZip, AllByRecursion}
 use Rattle.std.proofs.lemmas.List.{append_assoc}
 use Rattle.frame_core.specs.declared.cell.ColType.{ColType}
 use Rattle.frame_core.specs.declared.cell.Cell.{Cell}
 use Rattle.frame_core.specs.Ranges.{Range}
-use Rattle.frame_core.specs.Schemas.{Head, Schema}
+use Rattle.frame_core.specs.Schemas.{Head}
 use Rattle.frame_core.specs.Selecting.{place_of}
-use Rattle.frame_core.specs.Frames.{Row, Frame, IsFrame, type_at, stamps_of}
+use Rattle.frame_core.specs.Frames.{Row, IsFrame, type_at, stamps_of}
 use Rattle.frame_core.specs.Columns.{cells_of}
-use Rattle.frame_core.proofs.Rows.{length-cells_of}
 use Rattle.frame_core.proofs.ColumnParts.{slice-map}
 use Rattle.segment_cut.specs.Tiles.{Tile}
 use Rattle.segment_cut.proofs.Wholes.{widths}
@@ -22,9 +21,6 @@ pub type_below : (heads : List Head) (k : ℕ) (kind : ColType) → option_map (
 type_below [] k kind e = absurd cc
 type_below (h ∷ heads) zero kind e = omega arith
 type_below (h ∷ heads) (suc k) kind e = let rest : k < length heads = type_below heads k kind e in omega (arith, rest)
-
-pub part-within : (f : Frame) (k b : ℕ) (kind : ColType) (cells : List Cell) → IsFrame f → type_at f k ≡ Some kind → cells ≡ cells_of k f.rows → b ≤ length f.rows → b ≤ length cells
-part-within f k b kind cells is at are le = omega (arith, le, ap length are, length-cells_of (length f.schema.columns) k f.rows (type_below f.schema.columns k kind at) (widths f is))
 
 pub part-cells : (t : Tile) (k a b : ℕ) (kind : ColType) (range : Range) (reached : ℕ) (lent part old new : List Cell) → IsFrame t.1 → type_at t.1 k ≡ Some kind → lent ≡ cells_of k t.1.rows → part ≡ slice_range lent a b → slice_range t.1.rows a b ≡ fresh range reached t
     → new ≡ old ++ part → new ≡ old ++ cells_of k (fresh range reached t)
@@ -44,17 +40,16 @@ all-at P [] x i all lt at = absurd (omega arith)
 all-at P (y ∷ xs) x zero all lt at = subst P (sym at) all.0
 all-at P (y ∷ xs) x (suc i) all lt at = all-at P xs x i all.1 (omega arith) at
 
-pub type-there : (head : Head) (ts : List Tile) (t : Tile) (i place : ℕ) (lent : List Head) (s : Schema) (kind : ColType) → AllByRecursion (HasType head) ts → i < length ts → t ≡ get_or ts i t → lent ≡ s.columns → s ≡ t.1.schema → Some place ≡ place_of head.0 lent → kind ≡ head.1 → type_at t.1 place ≡ Some kind
-type-there head ts t i place lent s kind all lt at lends same there is =
-    all-at (HasType head) ts t i all lt at place (ap (place_of head.0) (sym (lends ∙ ap (λ (x : Schema). x.columns) same)) ∙ sym there) ∙ ap (λ k. Some k) (sym is)
+pub type-there : (head : Head) (ts : List Tile) (t : Tile) (i place : ℕ) (kind : ColType) → AllByRecursion (HasType head) ts → i < length ts → t ≡ get_or ts i t → Some place ≡ place_of head.0 t.1.schema.columns → kind ≡ head.1 → type_at t.1 place ≡ Some kind
+type-there head ts t i place kind all lt at there is = all-at (HasType head) ts t i all lt at place (sym there) ∙ ap (λ k. Some k) (sym is)
 
-pub stamps-step : (ts : List Tile) (t : Tile) (i : ℕ) (range : Range) (reached onward a b : ℕ) (old new lent total : List ℤ) → i < length ts → t ≡ get_or ts i t → lent ≡ stamps_of t.1.rows → slice_range t.1.rows a b ≡ fresh range reached t → new ≡ old ++ slice_range lent a b → onward ≡ reach reached t
+pub stamps-step : (ts : List Tile) (t : Tile) (i : ℕ) (range : Range) (reached onward a b : ℕ) (old new more total : List ℤ) → i < length ts → t ≡ get_or ts i t → more ≡ slice_range (stamps_of t.1.rows) a b → slice_range t.1.rows a b ≡ fresh range reached t → new ≡ old ++ more → onward ≡ reach reached t
     → old ++ stamps_gathered range reached (drop i ts) ≡ total → new ++ stamps_gathered range onward (drop (i + 1) ts) ≡ total
-stamps-step ts t i range reached onward a b old new lent total lt at lends rows grown far left =
+stamps-step ts t i range reached onward a b old new more total lt at part rows grown far left =
     let behind = drop (i + 1) ts in
-    let more : slice_range lent a b ≡ stamps_of (fresh range reached t) = ap (λ (xs : List ℤ). slice_range xs a b) lends ∙ sym (slice-map (λ (r : Row). r.stamp) a b t.1.rows) ∙ ap stamps_of rows in
+    let got : more ≡ stamps_of (fresh range reached t) = part ∙ sym (slice-map (λ (r : Row). r.stamp) a b t.1.rows) ∙ ap stamps_of rows in
     ap (λ n. new ++ stamps_gathered range n behind) far
-    ∙ ap (λ (xs : List ℤ). xs ++ stamps_gathered range (reach reached t) behind) (grown ∙ ap (λ (xs : List ℤ). old ++ xs) more)
+    ∙ ap (λ (xs : List ℤ). xs ++ stamps_gathered range (reach reached t) behind) (grown ∙ ap (λ (xs : List ℤ). old ++ xs) got)
     ∙ append_assoc old (stamps_of (fresh range reached t)) (stamps_gathered range (reach reached t) behind)
     ∙ ap (λ (us : List Tile). old ++ stamps_gathered range reached us) (sym (next ts t i lt at))
     ∙ left

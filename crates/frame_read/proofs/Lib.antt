@@ -4,6 +4,8 @@ pub mod FetchLemmas
 pub mod PlaceLemmas
 pub mod LoopLemmas
 pub mod StampLemmas
+pub mod SearchLemmas
+pub mod CopyLemmas
 pub mod RangeLemmas
 pub mod GatherSteps
 pub mod GatherLemmas

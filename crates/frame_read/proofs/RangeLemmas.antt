@@ -1,9 +1,9 @@
 -- Rows in a range stand together, between those below it and those above it.
-use Rattle.std.proofs.Common.{◌≡◌, ℕ, zero, suc, ◌+◌, ◌-◌, ℤ, ◌≤ℤ◌, Bool, true, false, not, min, List, [], ◌∷◌, length, take, drop, Option, Some, None, refl, sym, ap, ◌∙◌, subst, arith}
+use Rattle.std.proofs.Common.{◌≡◌, ℕ, zero, suc, ◌+◌, ◌-◌, ℤ, ◌≤ℤ◌, Bool, true, false, not, min, List, [], ◌∷◌, length, take, drop, Option, Some, None, refl, sym, ap, ◌∙◌, arith}
 use Rattle.std.specs.Prelude.{count_by, slice_range, int_lt}
 use Rattle.std.specs.Option.{option_map_or}
 use Rattle.std.proofs.lemmas.Int.{ints}
-use Rattle.std.proofs.lemmas.List.{take_all, drop-drop, length-map, length-drop}
+use Rattle.std.proofs.lemmas.List.{drop-drop}
 use Rattle.frame_core.specs.Ranges.{Range, InOrder, IsRange, is_below, is_above}
 use Rattle.frame_core.specs.Frames.{Row, NeverFall, stamps_of, rows_within}
 use Rattle.segment_cut.proofs.Lists.{count_by-no, count_by-yes}
@@ -96,24 +96,22 @@ drop-min zero rows = let none : min 0 (length rows) ≡ 0 = omega arith in rw no
 drop-min (suc n) [] = let none : min (suc n) 0 ≡ 0 = omega arith in rw none refl
 drop-min (suc n) (r ∷ rows) = let step : min (suc n) (suc (length rows)) ≡ suc (min n (length rows)) = omega arith in rw step (drop-min n rows)
 
--- the slice of stamps that is searched
-searched : (skip : ℕ) (ts : List ℤ) (rows : List Row) → ts ≡ stamps_of rows → take (length ts - skip) (drop skip ts) ≡ stamps_of (drop skip rows)
-searched skip ts rows is = take_all (length ts - skip) (drop skip ts) (omega (arith, length-drop skip ts)) ∙ ap (drop skip) is ∙ sym (stamps-drop skip rows)
+pub rising-behind : (skip : ℕ) (rows : List Row) → NeverFall (stamps_of rows) → NeverFall (stamps_of (drop skip rows))
+rising-behind zero rows rising = rising
+rising-behind (suc n) [] rising = tt
+rising-behind (suc n) (r ∷ rows) rising = rising-behind n rows (rising-tail r.stamp (stamps_of rows) rising)
 
-pub fresh-slice : (range : Range) (reached : ℕ) (t : Tile) (ts : List ℤ) (skip b u last : ℕ) → IsRange range → NeverFall (stamps_of (drop skip t.1.rows)) → ts ≡ stamps_of t.1.rows
-    → skip ≡ min (reached - t.0.first_row) (length ts) → b ≡ count_by (is_below range) (take (length ts - skip) (drop skip ts)) → u ≡ count_by (λ x. not (is_above range x)) (take (length ts - skip) (drop skip ts)) → last - (skip + b) ≡ u - b
-    → slice_range t.1.rows (skip + b) last ≡ fresh range reached t
-fresh-slice range reached t ts skip b u last order rising is skip_is b_is u_is last_is =
+pub fresh-slice : (range : Range) (reached : ℕ) (t : Tile) (skip first to last : ℕ) → IsRange range → NeverFall (stamps_of t.1.rows) → skip ≡ min (reached - t.0.first_row) (length t.1.rows)
+    → first ≡ skip + count_by (is_below range) (drop skip (stamps_of t.1.rows)) → to ≡ skip + count_by (λ x. not (is_above range x)) (drop skip (stamps_of t.1.rows)) → last - first ≡ to - first
+    → slice_range t.1.rows first last ≡ fresh range reached t
+fresh-slice range reached t skip first to last order rising skip_is first_is to_is last_is =
     let rows = drop skip t.1.rows in
-    let first : b ≡ low range rows = b_is ∙ ap (count_by (is_below range)) (searched skip ts t.1.rows is) in
-    let up : u ≡ high range rows = u_is ∙ ap (count_by (λ x. not (is_above range x))) (searched skip ts t.1.rows is) in
-    let long : length ts ≡ length t.1.rows = ap length is ∙ length-map t.1.rows (λ (r : Row). r.stamp) in
-    let start : drop skip t.1.rows ≡ drop (reached - t.0.first_row) t.1.rows = ap (λ n. drop n t.1.rows) (skip_is ∙ ap (min (reached - t.0.first_row)) long) ∙ drop-min (reached - t.0.first_row) t.1.rows in
-    ap (λ n. take n (drop (skip + b) t.1.rows)) last_is
-    ∙ ap (take (u - b)) (sym (drop-drop b skip t.1.rows))
-    ∙ ap (λ n. take (u - n) (drop n rows)) first ∙ ap (λ n. take (n - low range rows) (drop (low range rows) rows)) up
-    ∙ sym (within_slice range rows order rising)
+    let a : first ≡ skip + low range rows = first_is ∙ ap (λ (ts : List ℤ). skip + count_by (is_below range) ts) (sym (stamps-drop skip t.1.rows)) in
+    let b : to ≡ skip + high range rows = to_is ∙ ap (λ (ts : List ℤ). skip + count_by (λ x. not (is_above range x)) ts) (sym (stamps-drop skip t.1.rows)) in
+    let count : last - first ≡ high range rows - low range rows = omega (arith, last_is, a, b) in
+    let start : drop skip t.1.rows ≡ drop (reached - t.0.first_row) t.1.rows = ap (λ n. drop n t.1.rows) skip_is ∙ drop-min (reached - t.0.first_row) t.1.rows in
+    ap (λ n. take n (drop first t.1.rows)) count
+    ∙ ap (λ n. take (high range rows - low range rows) (drop n t.1.rows)) a
+    ∙ ap (take (high range rows - low range rows)) (sym (drop-drop (low range rows) skip t.1.rows))
+    ∙ sym (within_slice range rows order (rising-behind skip t.1.rows rising))
     ∙ ap (rows_within range) start
-
-pub rising-dropped : (skip : ℕ) (ts : List ℤ) (rows : List Row) → ts ≡ stamps_of rows → NeverFall (take (length ts - skip) (drop skip ts)) → NeverFall (stamps_of (drop skip rows))
-rising-dropped skip ts rows is rising = subst NeverFall (searched skip ts rows is) rising

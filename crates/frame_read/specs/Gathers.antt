@@ -1,13 +1,14 @@
 -- How tiles in memory make the columns and the stamps of a frame.
+--     passes              the stamps before an edge of the range
 --     fresh, reach        the rows of a tile in the range that lie beyond a row, and how far the tile reaches
 --     cells_gathered, stamps_gathered     the cells of a column, and the stamps, of tiles in turn
 --     HasType             a tile's column of a name is of a type
 --     IsOpened            a tile in memory is the one that was fetched
 --     AreOfFrame          tiles of some frame
-use Rattle.std.specs.Prelude.{◌≡◌, ℕ, ◌+◌, ◌-◌, max, ℤ, List, [], ◌∷◌, ◌++◌, length, drop, Option, Some, None, Ok}
+use Rattle.std.specs.Prelude.{◌≡◌, Bool, not, ℕ, ◌+◌, ◌-◌, max, ℤ, List, [], ◌∷◌, ◌++◌, length, drop, Option, Some, None, Ok}
 use Rattle.std.specs.Arc.{arc_value}
 use Rattle.frame_core.specs.declared.cell.Cell.{Cell}
-use Rattle.frame_core.specs.Ranges.{Range}
+use Rattle.frame_core.specs.Ranges.{Range, is_below, is_above}
 use Rattle.frame_core.specs.Texts.{Text}
 use Rattle.frame_core.specs.Schemas.{Head}
 use Rattle.frame_core.specs.Frames.{Row, Frame, IsFrame, stamps_of, rows_within, type_at}
@@ -15,9 +16,16 @@ use Rattle.frame_core.specs.Columns.{cells_of}
 use Rattle.frame_core.specs.Selecting.{place_of}
 use Rattle.segment_bytes.specs.Segments.{segment_of}
 use Rattle.segment_cut.specs.Tiles.{Tile}
+use Rattle.frame_read.specs.declared.searching.Edge.{Edge}
+use Rattle.frame_read.specs.declared.searching.Edge.TheVariants as edges
 use Rattle.frame_read.specs.declared.tiles.FetchedTile.{FetchedTile}
 use Rattle.frame_read.specs.declared.tiles.Tiles.{Tiles}
 use Rattle.frame_read.specs.Wholes.{AreTilesOf}
+
+-- whether a stamp lies before where the rows in the range begin, or before where they end
+abbrev pub passes : Edge → Range → ℤ → Bool
+passes edges.Begin range t = is_below range t
+passes edges.End range t = not (is_above range t)
 
 -- the rows of the tile in the range, from this row of the frame on
 abbrev pub fresh : Range → ℕ → Tile → List Row

@@ -2,12 +2,14 @@
 #![tactic(auto)]
 
 mod choosing;
+mod copying;
 mod counts;
 mod fetching;
 mod gathering;
 mod laws;
 mod objects;
 mod resolving;
+mod searching;
 mod target;
 mod tiles;
 mod versions;

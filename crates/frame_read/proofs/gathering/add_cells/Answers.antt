@@ -1,9 +1,9 @@
 use Rattle.std.proofs.lemmas.Result.{on_ok_weaker}
-use Rattle.frame_read.proofs.GatherSteps.{part-within, part-cells}
+use Rattle.frame_read.proofs.GatherSteps.{type_below, part-cells}
 use Rattle.frame_read.proofs.gathering.add_cells.Goals as goal
 
-pub part-requires-clause-within : goal.part-requires-clause-within
-part-requires-clause-within c = part-within c.args.tile.now.1 c.args.place _ _ _ c.fresh_rows-from.ensures.frame c.requires c.column.ensures.cells c.fresh_rows-from.ensures.within
+pub column-requires : goal.column-requires
+column-requires c = type_below c.args.tile.now.1.schema.columns c.args.place _ c.requires
 
 pub returns-clause-cells : goal.returns-clause-cells
 returns-clause-cells c = on_ok_weaker c.append.result

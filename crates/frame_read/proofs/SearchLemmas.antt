@@ -1,0 +1,91 @@
+-- A search by halves ends where the rows that it passes end.
+use Rattle.std.proofs.Common.{◌≡◌, ℕ, zero, suc, ◌+◌, ◌-◌, ◌≤◌, ◌<◌, ℤ, ◌≤ℤ◌, Bool, true, false, not, List, [], ◌∷◌, length, drop, get_or, Option, Some, None, refl, sym, ap, ◌∙◌, subst, arith}
+use Rattle.std.specs.Prelude.{slice_get, option_map, int_lt, count_by}
+use Rattle.std.specs.Option.{option_map_or}
+use Rattle.std.specs.List.{position_from}
+use Rattle.std.proofs.lemmas.Bool.{true≢false}
+use Rattle.std.proofs.lemmas.Int.{ints}
+use Rattle.std.proofs.lemmas.List.{length-drop}
+use Rattle.std.proofs.lemmas.Option.{get_or_from_slice_get, slice_get_within}
+use Rattle.frame_core.specs.Texts.{Text, same_text}
+use Rattle.frame_core.specs.Ranges.{Range}
+use Rattle.frame_core.specs.Schemas.{Head}
+use Rattle.frame_core.specs.Frames.{NeverFall}
+use Rattle.frame_core.proofs.Counts.{far, count_at_point}
+use Rattle.frame_read.specs.declared.searching.Edge.{Edge}
+use Rattle.frame_read.specs.declared.searching.Edge.TheVariants as edges
+use Rattle.frame_read.specs.Gathers.{passes}
+
+below_too : (from : Option ℤ) (t u : ℤ) → t ≤ℤ u → option_map_or (λ x. int_lt u x) from false ≡ true → option_map_or (λ x. int_lt t x) from false ≡ true
+below_too None t u le e = absurd cc
+below_too (Some from) t u le e = grind (arith, ints)
+
+up_to_too : (to : Option ℤ) (t u : ℤ) → t ≤ℤ u → not (option_map_or (λ x. int_lt x u) to false) ≡ true → not (option_map_or (λ x. int_lt x t) to false) ≡ true
+up_to_too None t u le e = refl
+up_to_too (Some to) t u le e = grind (arith, ints)
+
+-- before a stamp that is passed each is
+passed_too : (edge : Edge) (range : Range) (t u : ℤ) → t ≤ℤ u → passes edge range u ≡ true → passes edge range t ≡ true
+passed_too edges.Begin range t u le e = below_too range.from t u le e
+passed_too edges.End range t u le e = up_to_too range.to t u le e
+
+-- behind a stamp that is not passed none is
+left_too : (edge : Edge) (range : Range) (t u : ℤ) → t ≤ℤ u → passes edge range t ≡ false → passes edge range u ≡ false
+left_too edge range t u le out = by (passes edge range u) refl
+  where
+    by : (b : Bool) → passes edge range u ≡ b → passes edge range u ≡ false
+    by true e = absurd (true≢false (sym (passed_too edge range t u le e) ∙ out))
+    by false e = e
+
+pub passed_before : (edge : Edge) (range : Range) (ts : List ℤ) (m : ℕ) (t : ℤ) → NeverFall ts → slice_get ts m ≡ Some t → passes edge range t ≡ true → (k : ℕ) (d : ℤ) → k < m + 1 → passes edge range (get_or ts k d) ≡ true
+passed_before edge range ts m t rising at is k d lt =
+    passed_too edge range (get_or ts k d) t (subst (λ (z : ℤ). get_or ts k d ≤ℤ z) (get_or_from_slice_get ts m t d at) (far ts k m d rising (omega (arith, lt)) (slice_get_within ts m t at))) is
+
+pub left_behind : (edge : Edge) (range : Range) (ts : List ℤ) (m : ℕ) (t : ℤ) → NeverFall ts → slice_get ts m ≡ Some t → passes edge range t ≡ false → (k : ℕ) (d : ℤ) → m ≤ k → k < length ts → passes edge range (get_or ts k d) ≡ false
+left_behind edge range ts m t rising at out k d le lt =
+    left_too edge range t (get_or ts k d) (subst (λ (z : ℤ). z ≤ℤ get_or ts k d) (get_or_from_slice_get ts m t d at) (far ts m k d rising le lt)) out
+
+got_behind : (ts : List ℤ) (a k : ℕ) (d : ℤ) → get_or (drop a ts) k d ≡ get_or ts (a + k) d
+got_behind ts zero k d = let none : 0 + k ≡ k = omega arith in ap (λ (n : ℕ). get_or ts n d) (sym none)
+got_behind [] (suc a) k d = refl
+got_behind (t ∷ ts) (suc a) k d = let step : suc a + k ≡ suc (a + k) = omega arith in got_behind ts a k d ∙ ap (λ (n : ℕ). get_or (t ∷ ts) n d) (sym step)
+
+-- the place where the passed stamps end, by their count
+pub edge_count : (edge : Edge) (range : Range) (ts : List ℤ) (first low : ℕ) → first ≤ low → low ≤ length ts → ((k : ℕ) (d : ℤ) → first ≤ k → k < low → passes edge range (get_or ts k d) ≡ true) → ((k : ℕ) (d : ℤ) → low ≤ k → k < length ts → passes edge range (get_or ts k d) ≡ false)
+    → low ≡ first + count_by (passes edge range) (drop first ts)
+edge_count edge range ts first low le most passed left =
+    let count = count_at_point (passes edge range) (drop first ts) (low - first) (omega (arith, le, most, length-drop first ts)) (
+      (λ k d lo hi. subst (λ (z : ℤ). passes edge range z ≡ true) (sym (got_behind ts first k d)) (passed (first + k) d (omega arith) (omega (arith, hi)))),
+      (λ k d lo hi. subst (λ (z : ℤ). passes edge range z ≡ false) (sym (got_behind ts first k d)) (left (first + k) d (omega (arith, lo)) (omega (arith, hi, length-drop first ts)))),
+    ) in
+    omega (arith, count, le)
+
+-- ---- the place of a name
+
+-- the column at a place, which has this name
+named : (cols : List Head) (i : ℕ) (n : Text) → option_map (λ (h : Head). h.0) (slice_get cols i) ≡ Some n → (h : Head) × (drop i cols ≡ h ∷ drop (i + 1) cols) × (h.0 ≡ n)
+named [] i n e = absurd cc
+named (h ∷ cols) zero n e = (h, refl, some_same e)
+  where
+    some_same : {u v : Text} → Some u ≡ Some v → u ≡ v
+    some_same e = cc
+named (h ∷ cols) (suc i) n e =
+    let r = named cols i n e in
+    let one : suc i + 1 ≡ suc (i + 1) = omega arith in
+    (r.0, r.1 ∙ ap (λ (m : ℕ). r.0 ∷ drop m (h ∷ cols)) (sym one), r.2)
+
+found_head : (name : Text) (h : Head) (i : ℕ) (more : List Head) → same_text name h.0 ≡ true → position_from (λ (c : Head). same_text name c.0) i (h ∷ more) ≡ Some i
+found_head name h i more e = rw e refl
+
+next_head : (name : Text) (h : Head) (i : ℕ) (more : List Head) → same_text name h.0 ≡ false → position_from (λ (c : Head). same_text name c.0) i (h ∷ more) ≡ position_from (λ (c : Head). same_text name c.0) (i + 1) more
+next_head name h i more e = rw e refl
+
+pub name_found : (name n : Text) (cols : List Head) (i : ℕ) → option_map (λ (h : Head). h.0) (slice_get cols i) ≡ Some n → same_text name n ≡ true → position_from (λ (c : Head). same_text name c.0) i (drop i cols) ≡ Some i
+name_found name n cols i at e =
+    let r = named cols i n at in
+    ap (position_from (λ (c : Head). same_text name c.0) i) r.1 ∙ found_head name r.0 i (drop (i + 1) cols) (ap (same_text name) r.2 ∙ e)
+
+pub name_next : (name n : Text) (cols : List Head) (i : ℕ) → option_map (λ (h : Head). h.0) (slice_get cols i) ≡ Some n → same_text name n ≡ false → position_from (λ (c : Head). same_text name c.0) i (drop i cols) ≡ position_from (λ (c : Head). same_text name c.0) (i + 1) (drop (i + 1) cols)
+name_next name n cols i at e =
+    let r = named cols i n at in
+    ap (position_from (λ (c : Head). same_text name c.0) i) r.1 ∙ next_head name r.0 i (drop (i + 1) cols) (ap (same_text name) r.2 ∙ e)
