@@ -1,15 +1,13 @@
 -- A search by halves ends where the rows that it passes end.
-use Rattle.std.proofs.Common.{◌≡◌, ℕ, zero, suc, ◌+◌, ◌-◌, ◌≤◌, ◌<◌, ℤ, ◌≤ℤ◌, Bool, true, false, not, List, [], ◌∷◌, length, drop, get_or, Option, Some, None, refl, sym, ap, ◌∙◌, subst, arith}
-use Rattle.std.specs.Prelude.{slice_get, option_map, int_lt, count_by}
+use Rattle.std.proofs.Common.{◌≡◌, ℕ, zero, suc, ◌+◌, ◌-◌, ◌≤◌, ◌<◌, ℤ, ◌≤ℤ◌, Bool, true, false, not, List, [], ◌∷◌, length, drop, get_or, map, Option, Some, None, refl, sym, ap, ◌∙◌, subst, arith}
+use Rattle.std.specs.Prelude.{slice_get, int_lt, count_by}
 use Rattle.std.specs.Option.{option_map_or}
 use Rattle.std.specs.List.{position_from}
 use Rattle.std.proofs.lemmas.Bool.{true≢false}
 use Rattle.std.proofs.lemmas.Int.{ints}
 use Rattle.std.proofs.lemmas.List.{length-drop}
 use Rattle.std.proofs.lemmas.Option.{get_or_from_slice_get, slice_get_within}
-use Rattle.frame_core.specs.Texts.{Text, same_text}
 use Rattle.frame_core.specs.Ranges.{Range}
-use Rattle.frame_core.specs.Schemas.{Head}
 use Rattle.frame_core.specs.Frames.{NeverFall}
 use Rattle.frame_core.proofs.Counts.{far, count_at_point}
 use Rattle.frame_read.specs.declared.searching.Edge.{Edge}
@@ -62,30 +60,11 @@ edge_count edge range ts first low le most passed left =
 
 -- ---- the place of a name
 
--- the column at a place, which has this name
-named : (cols : List Head) (i : ℕ) (n : Text) → option_map (λ (h : Head). h.0) (slice_get cols i) ≡ Some n → (h : Head) × (drop i cols ≡ h ∷ drop (i + 1) cols) × (h.0 ≡ n)
-named [] i n e = absurd cc
-named (h ∷ cols) zero n e = (h, refl, some_same e)
+-- the place of a name among columns is that among their names
+pub position_map : {X Y : Type 0} (p : Y → Bool) (f : X → Y) (n : ℕ) (xs : List X) → position_from p n (map f xs) ≡ position_from (λ (x : X). p (f x)) n xs
+position_map p f n [] = refl
+position_map {X = X} p f n (x ∷ xs) = by (p (f x)) refl (position_map p f (n + 1) xs)
   where
-    some_same : {u v : Text} → Some u ≡ Some v → u ≡ v
-    some_same e = cc
-named (h ∷ cols) (suc i) n e =
-    let r = named cols i n e in
-    let one : suc i + 1 ≡ suc (i + 1) = omega arith in
-    (r.0, r.1 ∙ ap (λ (m : ℕ). r.0 ∷ drop m (h ∷ cols)) (sym one), r.2)
-
-found_head : (name : Text) (h : Head) (i : ℕ) (more : List Head) → same_text name h.0 ≡ true → position_from (λ (c : Head). same_text name c.0) i (h ∷ more) ≡ Some i
-found_head name h i more e = rw e refl
-
-next_head : (name : Text) (h : Head) (i : ℕ) (more : List Head) → same_text name h.0 ≡ false → position_from (λ (c : Head). same_text name c.0) i (h ∷ more) ≡ position_from (λ (c : Head). same_text name c.0) (i + 1) more
-next_head name h i more e = rw e refl
-
-pub name_found : (name n : Text) (cols : List Head) (i : ℕ) → option_map (λ (h : Head). h.0) (slice_get cols i) ≡ Some n → same_text name n ≡ true → position_from (λ (c : Head). same_text name c.0) i (drop i cols) ≡ Some i
-name_found name n cols i at e =
-    let r = named cols i n at in
-    ap (position_from (λ (c : Head). same_text name c.0) i) r.1 ∙ found_head name r.0 i (drop (i + 1) cols) (ap (same_text name) r.2 ∙ e)
-
-pub name_next : (name n : Text) (cols : List Head) (i : ℕ) → option_map (λ (h : Head). h.0) (slice_get cols i) ≡ Some n → same_text name n ≡ false → position_from (λ (c : Head). same_text name c.0) i (drop i cols) ≡ position_from (λ (c : Head). same_text name c.0) (i + 1) (drop (i + 1) cols)
-name_next name n cols i at e =
-    let r = named cols i n at in
-    ap (position_from (λ (c : Head). same_text name c.0) i) r.1 ∙ next_head name r.0 i (drop (i + 1) cols) (ap (same_text name) r.2 ∙ e)
+    by : (b : Bool) → p (f x) ≡ b → position_from p (n + 1) (map f xs) ≡ position_from (λ (x : X). p (f x)) (n + 1) xs → position_from p n (map f (x ∷ xs)) ≡ position_from (λ (x : X). p (f x)) n (x ∷ xs)
+    by true e more = rw e refl
+    by false e more = rw e more

@@ -5,15 +5,16 @@ ghost use Rattle.frame_core.specs.Frames.{stamps_of};
 ghost use Rattle.frame_core.specs.Columns.{column_type, column_cells};
 ghost use Rattle.frame_core.specs.declared.cell.Cell.TheVariants.{Int as int_cell, Flag as flag_cell, Text as text_cell, Stamp as stamp_cell};
 
+use crate::tile_view::TileView;
 use base_types::{Items, NoMemory};
 use frame_core::{ColType, Column, TextList};
-use segment_bytes::{ColumnView, SegView};
+use segment_bytes::ColumnView;
 use std::alloc::Global;
 
 /// The stamps of a tile from one row up to before another, in memory.
 pub(crate) fn stamps_between(
     alloc: Global,
-    view: &SegView<'_>,
+    view: &TileView<'_>,
     from: u64,
     to: u64,
 ) -> Result<Items<i64>, NoMemory>

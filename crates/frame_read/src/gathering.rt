@@ -6,45 +6,45 @@ ghost use Rattle.std.specs.List.Sorted.{IsPermutation, IsNonDecreasingBy};
 ghost use Rattle.frame_core.specs.Schemas.{Head};
 ghost use Rattle.frame_core.specs.Frames.{IsFrame, type_at};
 ghost use Rattle.frame_core.specs.Columns.{column_type, column_cells, cells_of};
-ghost use Rattle.frame_core.specs.Selecting.{place_of};
 ghost use Rattle.segment_cut.specs.Tiles.{Tile};
 ghost use Rattle.frame_read.specs.Gathers.{fresh, reach, cells_gathered, stamps_gathered, HasType, IsOpened};
 
 use crate::copying::{cells_between, stamps_between};
 use crate::searching::{Edge, edge_row};
+use crate::tile_view::TileView;
 use crate::tiles::FetchedTile;
 use base_types::{Items, NoMemory};
 use frame_core::{ColName, ColType, Column, Part, Range};
-use segment_bytes::{SegView, view};
+use segment_bytes::view;
 use std::alloc::Global;
 
 /// The tiles, each viewed once where its bytes lie.
 pub(crate) fn opened<'a>(
     alloc: Global,
     tiles: &'a [FetchedTile],
-) -> Result<Vec<(Part, SegView<'a>)>, NoMemory>
+) -> Result<Vec<(Part, TileView<'a>)>, NoMemory>
     ensures { IfOk result (λ made. AllZip IsOpened tiles.now made.items) }
 {
     let mut made = Vec::with_capacity(alloc, tiles.len())?;
     for tile in tiles {
-        let frame = opened_frame(tile)?;
+        let frame = opened_frame(alloc, tile)?;
         made.push((tile.part, frame))?;
     }
     Ok(made)
 }
 
-/// The view of a tile's segment. What was put as a tile is always read.
-fn opened_frame(tile: &FetchedTile) -> Result<SegView<'_>, NoMemory>
+/// The view of a tile's segment. What was put as a tile is always read, so only memory can be wanting.
+fn opened_frame(alloc: Global, tile: &FetchedTile) -> Result<TileView<'_>, NoMemory>
     ensures { IfOk result (λ frame. IsOpened tile.now (tile.now.part, frame)) }
 {
     match view(tile.body.bytes()) {
-        Ok(segment) => Ok(segment),
+        Ok(segment) => TileView::make(alloc, segment),
         Err(_) => Err(NoMemory),
     }
 }
 
 /// Puts the tiles in the order of their first rows.
-pub(crate) fn sort(tiles: &mut Vec<(Part, SegView<'_>)>)
+pub(crate) fn sort(tiles: &mut Vec<(Part, TileView<'_>)>)
     ensures same { IsPermutation tiles.old.items tiles.new.items }
     ensures rising { IsNonDecreasingBy (λ (t : Tile). t.0.first_row) tiles.new.items }
 {
@@ -55,7 +55,7 @@ pub(crate) fn sort(tiles: &mut Vec<(Part, SegView<'_>)>)
 pub(crate) fn gathered_stamps(
     alloc: Global,
     range: Range,
-    tiles: &[(Part, SegView<'_>)],
+    tiles: &[(Part, TileView<'_>)],
 ) -> Result<Items<i64>, NoMemory>
     ensures { IfOk result (λ stamps. stamps ≡ stamps_gathered range 0 tiles.now) }
 {
@@ -75,7 +75,7 @@ pub(crate) fn gathered_columns(
     alloc: Global,
     heads: &[(ColName, ColType)],
     range: Range,
-    tiles: &[(Part, SegView<'_>)],
+    tiles: &[(Part, TileView<'_>)],
 ) -> Result<Items<Column>, NoMemory>
     requires { AllByRecursion (λ head. AllByRecursion (HasType head) tiles.now) heads.now }
     ensures kinds { IfOk result (λ columns. map column_type columns ≡ map (λ (h : Head). h.1) heads.now) }
@@ -93,7 +93,7 @@ fn gathered_column(
     alloc: Global,
     head: &(ColName, ColType),
     range: Range,
-    tiles: &[(Part, SegView<'_>)],
+    tiles: &[(Part, TileView<'_>)],
 ) -> Result<Column, NoMemory>
     requires { AllByRecursion (HasType head.now) tiles.now }
     ensures kind { IfOk result (λ column. column_type column ≡ head.now.1) }
@@ -102,7 +102,7 @@ fn gathered_column(
     let mut column = Column::empty(alloc, head.1);
     let mut reached = 0;
     for tile in tiles {
-        if let Some(place) = place_in(&head.0, &tile.1) {
+        if let Some(place) = tile.1.place(&head.0) {
             add_cells(alloc, &mut column, range, reached, tile, place)?;
             reached = reach_of(reached, tile)?;
         }
@@ -116,7 +116,7 @@ fn add_cells(
     column: &mut Column,
     range: Range,
     reached: u64,
-    tile: &(Part, SegView<'_>),
+    tile: &(Part, TileView<'_>),
     place: u64,
 ) -> Result<(), NoMemory>
     requires { type_at tile.now.1 place ≡ Some (column_type column.old) }
@@ -128,20 +128,8 @@ fn add_cells(
     column.append(&more)
 }
 
-/// The place of a name among the columns of a tile, counted from 0.
-fn place_in(name: &ColName, view: &SegView<'_>) -> Option<u64>
-    ensures { result ≡ place_of name.now view.now.schema.columns }
-{
-    for place in 0..view.cols() {
-        if name.text() == view.name(place) {
-            return Some(place);
-        }
-    }
-    None
-}
-
 /// Where the rows of a tile in the range begin and end that lie beyond what is reached, counted from 0 in the tile.
-fn fresh_rows(range: Range, reached: u64, tile: &(Part, SegView<'_>)) -> (u64, u64)
+fn fresh_rows(range: Range, reached: u64, tile: &(Part, TileView<'_>)) -> (u64, u64)
     ensures ordered { result.0 ≤ result.1 }
     ensures within { result.1 ≤ length tile.now.1.rows }
     ensures frame { IsFrame tile.now.1 }
@@ -158,7 +146,7 @@ fn fresh_rows(range: Range, reached: u64, tile: &(Part, SegView<'_>)) -> (u64, u
 }
 
 /// The row behind the last of the tile, unless a later one is reached. A frame that is so long is not in memory.
-fn reach_of(reached: u64, tile: &(Part, SegView<'_>)) -> Result<u64, NoMemory>
+fn reach_of(reached: u64, tile: &(Part, TileView<'_>)) -> Result<u64, NoMemory>
     ensures { IfOk result (λ end. end ≡ reach reached tile.now) }
 {
     match tile.0.first_row.checked_add(tile.1.rows()) {

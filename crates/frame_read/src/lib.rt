@@ -11,6 +11,7 @@ mod objects;
 mod resolving;
 mod searching;
 mod target;
+mod tile_view;
 mod tiles;
 mod versions;
 

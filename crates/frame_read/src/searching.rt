@@ -5,8 +5,8 @@ ghost use Rattle.std.specs.Option.{option_map_or};
 ghost use Rattle.frame_core.specs.Frames.{stamps_of};
 ghost use Rattle.frame_read.specs.Gathers.{passes};
 
+use crate::tile_view::TileView;
 use frame_core::Range;
-use segment_bytes::SegView;
 
 /// Where the rows in a range begin, or where they end.
 #[derive(Clone, Copy, Debug)]
@@ -16,7 +16,7 @@ pub(crate) enum Edge {
 }
 
 /// The row behind the last one, from the first row on, that lies before this edge of the range.
-pub(crate) fn edge_row(view: &SegView<'_>, first: u64, range: Range, edge: Edge) -> u64
+pub(crate) fn edge_row(view: &TileView<'_>, first: u64, range: Range, edge: Edge) -> u64
     requires { first ≤ length view.now.rows }
     ensures least { first ≤ result }
     ensures most { result ≤ length view.now.rows }
