@@ -1,9 +1,10 @@
 -- What a pass learns of rows without waiting.
 --     view_of, notes_of, log_of      what a pass knows; the rows that it found changed; the events that it has seen, the oldest first
+--     NoneAfter             no event of a row above a place
 --     HasNoted              a pass found a row changed after a place
 --     AreTrue               each note is of an event that is there
 --     KeepsNotes            what each later call says of the notes
-use Rattle.std.specs.Prelude.{◌≡◌, ◌<◌, ◌∷◌, ℕ, List}
+use Rattle.std.specs.Prelude.{◌≡◌, ◌≢◌, ◌<◌, ◌∷◌, ℕ, List, Some, drop, All}
 use Rattle.turn_cell.specs.declared.view.Note.{Note}
 use Rattle.turn_cell.specs.declared.view.View.{View}
 use Rattle.turn_cell.specs.Badges.{Among}
@@ -24,6 +25,10 @@ notes_of p = p.seat.me.0.notes
 -- the events that the pass has seen, the oldest first
 abbrev pub log_of : Pass → List Event
 log_of p = p.seat.me.0.seen
+
+-- among these events, the oldest first, none above the place is of the row, of whichever of its symbols
+abbrev pub NoneAfter : ℕ → ℕ → List Event → Type 0
+NoneAfter row place log = All (λ e. event_row e ≢ Some row) (drop place log)
 
 -- the pass found the row changed after the place, and noted where: at a place that the row's word told
 pub record HasNoted (row place : ℕ) (old new : Pass) : Type 0 where

@@ -9,7 +9,7 @@ ghost use Rattle.bucket_core.specs.Calls.{RefusesLook, RefusesPut, RefusesRefer,
 ghost use Rattle.bucket_core.specs.Calls.{put_event, refer_event, name_event, unname_event};
 ghost use Rattle.bucket_core.specs.Laws.{Looks};
 ghost use Rattle.store_model.specs.Law.{IsClaimed};
-ghost use Rattle.bucket_shared.specs.Notes.{HasNoted, KeepsNotes, view_of, notes_of};
+ghost use Rattle.bucket_shared.specs.Notes.{HasNoted, KeepsNotes, NoneAfter, view_of, notes_of, log_of};
 ghost use Rattle.bucket_shared.specs.Rows.{row};
 ghost use Rattle.bucket_shared.specs.Stories.{event_row};
 ghost use Rattle.bucket_shared.specs.Passes.{store_of, badge_of, seen_of, number_of, limit_of, sole_of, no_faults};
@@ -237,13 +237,14 @@ impl Bucket<StoreLaw> for Pass {
         answer
     }
 
-    /// One look at the word of the symbol's row.
+    /// One look at the word of the symbol's row. True speaks of the whole row: also of its other symbols.
     fn unchanged(&mut self, symbol: &Symbol, place: u64) -> bool
         requires seen { place ≤ length (seen_of self.old) }
         ensures same { seen_of self.new ≡ seen_of self.old }
         ensures steady { IsSteady number_of limit_of no_faults sole_of self.old self.new }
         ensures told { result ≡ true → refers_after (seen_of self.old) symbol.now place ≡ false }
         ensures unchanged { result ≡ true → refers_after (seen_of self.old) symbol.now place ≡ false }
+        ensures none_after { OnTrue result (NoneAfter (row symbol.now) place (log_of self.old)) }
         ensures same_notes { OnTrue result (notes_of self.new ≡ notes_of self.old) }
         ensures changed { OnFalse result (HasNoted (row symbol.now) place self.old self.new) }
         ensures confirmed { Confirmed event_row (view_of self.new) }

@@ -1,11 +1,11 @@
 // A pass whose store and numbers are in its type.
 ghost use Rattle.std.specs.Prelude.{◌≡◌, ◌≤◌, true, false, [], length};
-ghost use Rattle.std.specs.Bool.{OnFalse};
+ghost use Rattle.std.specs.Bool.{OnTrue, OnFalse};
 ghost use Rattle.atomic_table.specs.Seated.{TableId};
 ghost use Rattle.turn_cell.specs.declared.badge.Badge.{Badge};
 ghost use Rattle.turn_cell.specs.Badges.{spent_badge};
 ghost use Rattle.bucket_core.specs.Calls.{IsSteady, refers_after};
-ghost use Rattle.bucket_shared.specs.Notes.{HasNoted};
+ghost use Rattle.bucket_shared.specs.Notes.{HasNoted, NoneAfter, log_of};
 ghost use Rattle.bucket_shared.specs.Passes.{store_of, badge_of, seen_of, number_of, limit_of, sole_of, no_faults};
 ghost use Rattle.bucket_shared.specs.Rows.{row};
 
@@ -138,6 +138,7 @@ impl<K: PassName> Bucket<StoreLaw> for Kept<K> {
         ensures steady { IsSteady (λ k. number_of k.pass) (λ k. limit_of k.pass) (λ k. 0) (λ k. sole_of k.pass) self.old self.new }
         ensures told { result ≡ true → refers_after (seen_of self.old.pass) symbol.now place ≡ false }
         ensures unchanged { result ≡ true → refers_after (seen_of self.old.pass) symbol.now place ≡ false }
+        ensures none_after { OnTrue result (NoneAfter (row symbol.now) place (log_of self.old.pass)) }
         ensures changed { OnFalse result (HasNoted (row symbol.now) place self.old.pass self.new.pass) }
     {
         self.pass.unchanged(symbol, place)

@@ -4,7 +4,7 @@ ghost use Rattle.std.specs.Bool.{OnTrue, OnFalse};
 ghost use Rattle.turn_cell.specs.Views.{Confirmed};
 ghost use Rattle.bucket_core.specs.Calls.{IsSteady, refers_after};
 ghost use Rattle.bucket_shared.specs.Passes.{store_of, badge_of, seen_of, number_of, limit_of, sole_of, no_faults};
-ghost use Rattle.bucket_shared.specs.Notes.{HasNoted, view_of, notes_of};
+ghost use Rattle.bucket_shared.specs.Notes.{HasNoted, NoneAfter, view_of, notes_of, log_of};
 ghost use Rattle.bucket_shared.specs.Rows.{row};
 ghost use Rattle.bucket_shared.specs.Stories.{event_row};
 
@@ -27,9 +27,10 @@ impl Pass {
     /// Whether the symbol's row has no event after a place. It is one look at the word of the row, takes no turn and waits for
     /// nobody; a row that changed it notes, and the next
     /// call that takes the turn confirms the note.
-    pub fn row_unchanged(&mut self, symbol: &Symbol, place: u64) -> bool
+    pub(crate) fn row_unchanged(&mut self, symbol: &Symbol, place: u64) -> bool
         requires seen { place ≤ length (seen_of self.old) }
         ensures unchanged { OnTrue result (refers_after (seen_of self.old) symbol.now place ≡ false) }
+        ensures none_after { OnTrue result (NoneAfter (row symbol.now) place (log_of self.old)) }
         ensures changed { OnFalse result (HasNoted (row symbol.now) place self.old self.new) }
         ensures same_notes { OnTrue result (notes_of self.new ≡ notes_of self.old) }
 

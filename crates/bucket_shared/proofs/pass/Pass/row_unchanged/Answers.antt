@@ -1,9 +1,10 @@
-use Rattle.std.proofs.Common.{◌≡◌, ◌∙◌, ◌∷◌, ℕ, ap}
+use Rattle.std.proofs.Common.{◌≡◌, ◌∙◌, ◌∷◌, ℕ, ap, subst}
 use Rattle.std.proofs.lemmas.Bool.{OnTrue_at, OnTrue_from, OnFalse_at, OnFalse_from}
 use Rattle.key_kind.specs.Names.{Name}
 use Rattle.turn_cell.specs.declared.view.View.{View}
 use Rattle.turn_cell.specs.Views.{note_at}
 use Rattle.bucket_core.specs.declared.event.Event.{Event}
+use Rattle.bucket_shared.specs.Notes.{NoneAfter}
 use Rattle.bucket_shared.specs.Rows.{row}
 use Rattle.bucket_shared.proofs.Unreferred.{refers_after-row}
 use Rattle.bucket_shared.proofs.pass.Pass.row_unchanged.Goals as goal
@@ -11,6 +12,13 @@ use Rattle.bucket_shared.proofs.pass.Pass.row_unchanged.Goals as goal
 pub returns-clause-unchanged : goal.returns-clause-unchanged
 returns-clause-unchanged c = OnTrue_from c.unchanged.result _ (λ yes.
     refers_after-row c.args.self.now.seat.me.0.seen c.args.symbol.now c.row_of-row.result c.args.place
+    (c.row_of-row.ensures.row ∙ ap (λ (n : Name). row n) c.name.ensures.same)
+    (OnTrue_at yes c.unchanged.ensures.none_after))
+
+-- what the cell tells of the number of the row holds of the symbol's row
+pub returns-clause-none_after : goal.returns-clause-none_after
+returns-clause-none_after c = OnTrue_from c.unchanged.result _ (λ yes.
+    subst (λ (q : ℕ). NoneAfter q c.args.place c.args.self.now.seat.me.0.seen)
     (c.row_of-row.ensures.row ∙ ap (λ (n : Name). row n) c.name.ensures.same)
     (OnTrue_at yes c.unchanged.ensures.none_after))
 
