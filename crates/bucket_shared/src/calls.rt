@@ -21,6 +21,7 @@ use crate::pass::Pass;
 use crate::putting::put;
 use crate::ready::make_ready;
 use crate::referring::refer;
+use crate::row::row_of;
 use crate::turn::look;
 use crate::unnaming::unname;
 use base_types::NoMemory;
@@ -237,7 +238,8 @@ impl Bucket<StoreLaw> for Pass {
         answer
     }
 
-    /// One look at the word of the symbol's row. True speaks of the whole row: also of its other symbols.
+    /// Whether the symbol's row has no event after a place, also none of another symbol. It is one look at the word of the row, takes no turn
+    /// and waits for nobody; a row that changed it notes, and the next call that takes the turn confirms the note.
     fn unchanged(&mut self, symbol: &Symbol, place: u64) -> bool
         requires seen { place ≤ length (seen_of self.old) }
         ensures same { seen_of self.new ≡ seen_of self.old }
@@ -247,10 +249,13 @@ impl Bucket<StoreLaw> for Pass {
         ensures none_after { OnTrue result (NoneAfter (row symbol.now) place (log_of self.old)) }
         ensures same_notes { OnTrue result (notes_of self.new ≡ notes_of self.old) }
         ensures changed { OnFalse result (HasNoted (row symbol.now) place self.old self.new) }
+
+        // A note within what was seen before is true of it at once.
         ensures confirmed { Confirmed event_row (view_of self.new) }
         ensures store { store_of self.new ≡ store_of self.old }
         ensures badge { badge_of self.new ≡ badge_of self.old }
     {
-        self.row_unchanged(symbol, place)
+        let row = row_of(symbol.name());
+        self.cell.unchanged(&mut self.seat, row, place)
     }
 }
