@@ -166,14 +166,13 @@ abbrev pub HasOneBlock : Result Job Stop → Type 0
 HasOneBlock (Ok job) = length job.parts.blocks ≤ 1
 HasOneBlock (Err stop) = ⊤
 
--- one client alone at a time runs on an empty store: shelf, output and clock tell what they hold; the store is empty and the pass that of
--- client 1; the limit was not reached; and there is at most one block
+-- one client alone at a time runs on an empty store: shelf, output and clock tell what they hold; the store is empty; the limit was not
+-- reached; and there is at most one block
 pub record IsOfOne (start : Start) (held : Shelf) (told : Text) (moment : ℤ) (before : Option Text) (new : History) : Type 0 where
   pub tells : start.holds ≡ Some held
   pub written : before ≡ Some told
   pub reading : start.reading ≡ Some moment
   pub empty : start.history ≡ []
-  pub first : start.client ≡ 1
   pub room : length new < start.limit
   pub few : HasOneBlock (prepared held start.words)
 
