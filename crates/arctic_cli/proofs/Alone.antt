@@ -225,7 +225,7 @@ due-exact : (grow : RunsGrow) (are_sole : BlocksAreSole) (start : Start) (f0 f1 
     RunEnds due.run g0 g1 w0 w1 status → IsRunOrFails (run_alone moment held start.words) f0 f1 g0 g1 told w1 status
 due-exact grow are_sole start f0 f1 g0 g1 held told moment w0 w1 status new u due (inr (inl p)) = inr (inr (inl (p.0, p.1)))
 due-exact grow are_sole start f0 f1 g0 g1 held told moment w0 w1 status new u due (inr (inr p)) = inr (inl p.0)
-due-exact grow are_sole start f0 f1 g0 g1 held told moment w0 w1 status new u due (inl w) =
+due-exact grow are_sole start f0 f1 g0 g1 held told moment w0 w1 status new u due (inl e) =
     of (prepares-told held f0 f1 start.words due.plan (subst (λ h. Prepares h f0 f1 start.words due.plan) u.tells due.prepares))
   where
     exactly : (status ≡ 6) ⊎ IsRun (run_alone moment held start.words) told w1 status → IsRunOrFails (run_alone moment held start.words) f0 f1 g0 g1 told w1 status
@@ -234,8 +234,8 @@ due-exact grow are_sole start f0 f1 g0 g1 held told moment w0 w1 status new u du
 
     of : (prepared held start.words ≡ due.plan) ⊎ FailsFetch f0 f1 due.plan → IsRunOrFails (run_alone moment held start.words) f0 f1 g0 g1 told w1 status
     of (inl made) = exactly (subst (λ (x : Result Job Stop). (status ≡ 6) ⊎ IsRun (run_from moment x) told w1 status) (sym made)
-        (plan-exact grow are_sole start due.plan due.run moment told w1 status new u.reading u.empty u.room (subst HasOneBlock made u.few) due.is_due (subst (λ (o : Option Text). AllWritten due.run o w1 status) u.written w)))
-    of (inr failed) = inr (inr (inr (w.status_is ∙ fetch-stopped start f0 f1 due.plan due.run new failed due.is_due, failed.rose)))
+        (plan-exact grow are_sole start due.plan due.run moment told w1 status new u.reading u.empty u.room (subst HasOneBlock made u.few) due.is_due (subst (λ (o : Option Text). AllWritten due.run o w1 status) u.written e.1)))
+    of (inr failed) = inr (inr (inr (e.1.status_is ∙ fetch-stopped start f0 f1 due.plan due.run new failed due.is_due, failed.rose)))
 
 -- the run is that of one client alone, unless memory was wanted, or the output or the shelf failed
 pub exact : (grow : RunsGrow) (are_sole : BlocksAreSole) (start : Start) (f0 f1 g0 g1 : ℕ) (held : Shelf) (told : Text) (moment : ℤ) (w0 w1 : Option Text) (status : ℕ) (new : History) → IsOfOne start held told moment w0 new →

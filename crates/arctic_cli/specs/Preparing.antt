@@ -1,4 +1,5 @@
 -- What the steps of preparing a run answer; they halt by a stop or by want of memory.
+--     KeepsUnlessRead         no failure of the shelf was passed over
 --     FetchHalts, LoadHalts       why the file of a name gave no bytes, and that of a load no frame
 --     FailsAt, LoadsHalt      the load at which loading halted, before which all are good
 --     ScriptHalts             why there is no script
@@ -20,6 +21,14 @@ use Rattle.arctic_cli.specs.declared.words.Options.{Options}
 use Rattle.arctic_cli.specs.CommandLine.{run, Words}
 use Rattle.arctic_cli.specs.Program.{Job, table_in_file}
 use Rattle.arctic_cli.specs.Causes.{HeldAs, NotFetched, FindsScript, GivesTable, IsPrepared, StopsBy}
+
+-- the count of faults stood still where a run halts for another cause than memory and a file that could not be read
+abbrev pub KeepsUnlessRead : ℕ → ℕ → Halt → Type 0
+KeepsUnlessRead before now halts.NoMemory = ⊤
+KeepsUnlessRead before now (halts.Stop (stops.Unreadable file)) = ⊤
+KeepsUnlessRead before now (halts.Stop stops.Usage) = now ≡ before
+KeepsUnlessRead before now (halts.Stop stops.BadScript) = now ≡ before
+KeepsUnlessRead before now (halts.Stop (stops.BadFile file)) = now ≡ before
 
 -- a file of this name gave no bytes
 abbrev pub FetchHalts : Held → ℕ → ℕ → Text → Halt → Type 0
