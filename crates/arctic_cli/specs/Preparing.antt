@@ -10,6 +10,7 @@ use Rattle.std.specs.List.{AllZip}
 use Rattle.frame_core.specs.Texts.{Text}
 use Rattle.frame_core.specs.RawFrames.{Table, table_of}
 use Rattle.program_edge.specs.Shelves.{Held}
+use Rattle.reply_model.specs.Blocks.{run_cutting}
 use Rattle.client_sessions.specs.Parts.{Parts}
 use Rattle.script_lang.specs.declared.load.Load.{Load}
 use Rattle.script_lang.specs.declared.script.Script.{Script}
@@ -84,7 +85,7 @@ parts_in plan = record { first = plan.first; blocks = plan.blocks; last = plan.l
 
 -- the job of a plan
 abbrev pub job_in : Plan → Job
-job_in plan = record { cutting = record { rows = plan.options.cutting.rows; columns = plan.options.cutting.cols }; tries = plan.options.tries; names = plan.names; parts = parts_in plan; frames = map table_of plan.frames }
+job_in plan = record { cutting = run_cutting plan.options.cutting; tries = plan.options.tries; names = plan.names; parts = parts_in plan; frames = map table_of plan.frames }
 
 -- the plan of the words, or why there is none
 abbrev pub PlanIs : Held → ℕ → ℕ → List Text → Result Plan Halt → Type 0
