@@ -116,9 +116,9 @@ met-uncut start job moment new from block met (t ∷ talks) are legal calm memor
 -- ---- the run
 
 -- a run of a job with at most one block
-job-exact : (grow : RunsGrow) (are_sole : BlocksAreSole) (start : Start) (job : Job) (run : Run) (moment : ℤ) (told : Text) (after : Option Text) (status : ℕ) (new : History) → start.reading ≡ Some moment → start.history ≡ [] → start.client ≡ 1 → length new < start.limit →
+job-exact : (grow : RunsGrow) (are_sole : BlocksAreSole) (start : Start) (job : Job) (run : Run) (moment : ℤ) (told : Text) (after : Option Text) (status : ℕ) (new : History) → start.reading ≡ Some moment → start.history ≡ [] → length new < start.limit →
     length job.parts.blocks ≤ 1 → Performs start job run new → AllWritten run (Some told) after status → (status ≡ 6) ⊎ IsRun (run_from moment (Ok job)) told after status
-job-exact grow are_sole start job run moment told after status new reading empty one below few p w = of (some_reply wants_memory p.replies) refl
+job-exact grow are_sole start job run moment told after status new reading empty below few p w = of (some_reply wants_memory p.replies) refl
   where
     same : p.moment ≡ moment
     same = subst (λ o. IsReading o p.moment) reading p.told
@@ -153,10 +153,10 @@ job-exact grow are_sole start job run moment told after status new reading empty
     -- the run with this block between the first and the last commands
     is_sole : some_reply wants_memory p.replies ≡ false → (block : List Command) (met : List Reply) → RunsAlone job.cutting second block met p.ran.behind_first p.ran.before_last →
         sole job.cutting job.frames p.moment job.parts.first block job.parts.last ≡ Some (record { first = p.replies.first; block = met; last = p.replies.last; events = length new })
-    is_sole calm block met runs = are_sole job.cutting (client_of start job p.moment start.client).session second job.parts.first block job.parts.last p.replies.first met p.replies.last p.ran.behind_first p.ran.before_last new one refl refl refl
-        (subst (λ (h : History). RunsAlone job.cutting (client_of start job p.moment start.client).session job.parts.first p.replies.first h p.ran.behind_first) empty
-        (p.ran.first_alone lawful (first_uncut calm)))
-        runs (p.ran.last_alone lawful (last_uncut calm))
+    is_sole calm block met runs = are_sole job.cutting (client_of start job p.moment 1).session second job.parts.first block job.parts.last p.replies.first met p.replies.last p.ran.behind_first p.ran.before_last new refl refl refl refl
+        (subst (λ (h : History). RunsAlone job.cutting (client_of start job p.moment 1).session job.parts.first p.replies.first h p.ran.behind_first) empty
+        (p.ran.first_alone lawful (first_uncut calm) 1))
+        runs (p.ran.last_alone lawful (last_uncut calm) 1)
 
     -- the replies are those of the run alone
     told_parts : List (List Reply) → PartReplies
@@ -204,11 +204,11 @@ job-exact grow are_sole start job run moment told after status new reading empty
         (subst (λ (o : Option Run). IsRun o told after status) (sym (alone_is is)) written))
 
 -- all was written
-plan-exact : (grow : RunsGrow) (are_sole : BlocksAreSole) (start : Start) (plan : Result Job Stop) (run : Run) (moment : ℤ) (told : Text) (after : Option Text) (status : ℕ) (new : History) → start.reading ≡ Some moment → start.history ≡ [] → start.client ≡ 1 → length new < start.limit →
+plan-exact : (grow : RunsGrow) (are_sole : BlocksAreSole) (start : Start) (plan : Result Job Stop) (run : Run) (moment : ℤ) (told : Text) (after : Option Text) (status : ℕ) (new : History) → start.reading ≡ Some moment → start.history ≡ [] → length new < start.limit →
     HasOneBlock plan → IsDue start plan run new → AllWritten run (Some told) after status → (status ≡ 6) ⊎ IsRun (run_from moment plan) told after status
-plan-exact grow are_sole start (Ok job) run moment told after status new reading empty one below few due w =
-    job-exact grow are_sole start job run moment told after status new reading empty one below few due w
-plan-exact grow are_sole start (Err s) run moment told after status new reading empty one below few due w =
+plan-exact grow are_sole start (Ok job) run moment told after status new reading empty below few due w =
+    job-exact grow are_sole start job run moment told after status new reading empty below few due w
+plan-exact grow are_sole start (Err s) run moment told after status new reading empty below few due w =
     inr (w.status_is ∙ ap (λ (r : Run). r.status) due.0, w.output ∙ ap (λ (r : Run). some (told ++ concat r.lines)) due.0)
   where
     some : Text → Option Text
@@ -225,7 +225,7 @@ due-exact : (grow : RunsGrow) (are_sole : BlocksAreSole) (start : Start) (f0 f1 
     RunEnds due.run g0 g1 w0 w1 status → IsRunOrFails (run_alone moment held start.words) f0 f1 g0 g1 told w1 status
 due-exact grow are_sole start f0 f1 g0 g1 held told moment w0 w1 status new u due (inr (inl p)) = inr (inr (inl (p.0, p.1)))
 due-exact grow are_sole start f0 f1 g0 g1 held told moment w0 w1 status new u due (inr (inr p)) = inr (inl p.0)
-due-exact grow are_sole start f0 f1 g0 g1 held told moment w0 w1 status new u due (inl w) =
+due-exact grow are_sole start f0 f1 g0 g1 held told moment w0 w1 status new u due (inl e) =
     of (prepares-told held f0 f1 start.words due.plan (subst (λ h. Prepares h f0 f1 start.words due.plan) u.tells due.prepares))
   where
     exactly : (status ≡ 6) ⊎ IsRun (run_alone moment held start.words) told w1 status → IsRunOrFails (run_alone moment held start.words) f0 f1 g0 g1 told w1 status
@@ -234,8 +234,8 @@ due-exact grow are_sole start f0 f1 g0 g1 held told moment w0 w1 status new u du
 
     of : (prepared held start.words ≡ due.plan) ⊎ FailsFetch f0 f1 due.plan → IsRunOrFails (run_alone moment held start.words) f0 f1 g0 g1 told w1 status
     of (inl made) = exactly (subst (λ (x : Result Job Stop). (status ≡ 6) ⊎ IsRun (run_from moment x) told w1 status) (sym made)
-        (plan-exact grow are_sole start due.plan due.run moment told w1 status new u.reading u.empty u.first u.room (subst HasOneBlock made u.few) due.is_due (subst (λ (o : Option Text). AllWritten due.run o w1 status) u.written w)))
-    of (inr failed) = inr (inr (inr (w.status_is ∙ fetch-stopped start f0 f1 due.plan due.run new failed due.is_due, failed.rose)))
+        (plan-exact grow are_sole start due.plan due.run moment told w1 status new u.reading u.empty u.room (subst HasOneBlock made u.few) due.is_due (subst (λ (o : Option Text). AllWritten due.run o w1 status) u.written e.1)))
+    of (inr failed) = inr (inr (inr (e.1.status_is ∙ fetch-stopped start f0 f1 due.plan due.run new failed due.is_due, failed.rose)))
 
 -- the run is that of one client alone, unless memory was wanted, or the output or the shelf failed
 pub exact : (grow : RunsGrow) (are_sole : BlocksAreSole) (start : Start) (f0 f1 g0 g1 : ℕ) (held : Shelf) (told : Text) (moment : ℤ) (w0 w1 : Option Text) (status : ℕ) (new : History) → IsOfOne start held told moment w0 new →

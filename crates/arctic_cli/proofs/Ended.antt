@@ -66,14 +66,14 @@ way-written start f0 f1 g0 g1 w0 w1 status new (Err s) run p due w = stopped_by 
 })
 
 way-due : (start : Start) (f0 f1 g0 g1 : ℕ) (w0 w1 : Option Text) (status : ℕ) (new : History) (due : Due start f0 f1 new) → RunEnds due.run g0 g1 w0 w1 status → Way start f0 f1 g0 g1 w0 w1 status new
-way-due start f0 f1 g0 g1 w0 w1 status new due (inl written) = way-written start f0 f1 g0 g1 w0 w1 status new due.plan due.run due.prepares due.is_due written
+way-due start f0 f1 g0 g1 w0 w1 status new due (inl e) = way-written start f0 f1 g0 g1 w0 w1 status new due.plan due.run due.prepares due.is_due e.1
 way-due start f0 f1 g0 g1 w0 w1 status new due (inr (inl p)) = refused p.0 p.1 (due, p.2)
-way-due start f0 f1 g0 g1 w0 w1 status new due (inr (inr p)) = wanted p.0 (inr (inl (due, p.1)))
+way-due start f0 f1 g0 g1 w0 w1 status new due (inr (inr p)) = wanted p.0 (inr (inl (due, p.2)))
 
 -- how a run ended
 pub way : (start : Start) (f0 f1 g0 g1 : ℕ) (w0 w1 : Option Text) (status : ℕ) (new : History) → Ends start f0 f1 g0 g1 w0 w1 status new → Way start f0 f1 g0 g1 w0 w1 status new
 way start f0 f1 g0 g1 w0 w1 status new (inl e) = way-due start f0 f1 g0 g1 w0 w1 status new e.0 e.1
-way start f0 f1 g0 g1 w0 w1 status new (inr e) = wanted e.0 (inr (inr e.1))
+way start f0 f1 g0 g1 w0 w1 status new (inr e) = wanted e.0 (inr (inr e.2))
 
 -- ---- the statuses
 
@@ -167,3 +167,15 @@ status-way start f0 f1 g0 g1 w0 w1 status new (told t) = omega (arith, t.few)
 status-way start f0 f1 g0 g1 w0 w1 status new (stopped_by s) = (stop-other s.stop status s.status_is).3
 status-way start f0 f1 g0 g1 w0 w1 status new (refused e rose p) = omega (arith, e)
 status-way start f0 f1 g0 g1 w0 w1 status new (wanted e p) = omega (arith, e)
+
+-- ---- the output's faults
+
+run-kept : (run : Run) (g0 g1 : ℕ) (w0 w1 : Option Text) (status : ℕ) → RunEnds run g0 g1 w0 w1 status → (status ≡ 5 → ⊥) → g1 ≡ g0
+run-kept run g0 g1 w0 w1 status (inl e) five = e.0
+run-kept run g0 g1 w0 w1 status (inr (inl e)) five = absurd (five e.0)
+run-kept run g0 g1 w0 w1 status (inr (inr e)) five = e.1
+
+-- no failed put was passed over
+pub output-kept : (start : Start) (f0 f1 g0 g1 : ℕ) (w0 w1 : Option Text) (status : ℕ) (new : History) → Ends start f0 f1 g0 g1 w0 w1 status new → (status ≡ 5 → ⊥) → g1 ≡ g0
+output-kept start f0 f1 g0 g1 w0 w1 status new (inl e) five = run-kept e.0.run g0 g1 w0 w1 status e.1 five
+output-kept start f0 f1 g0 g1 w0 w1 status new (inr e) five = e.1

@@ -8,6 +8,7 @@ use Rattle.frame_core.specs.RawFrames.{Table, table_of}
 use Rattle.frame_core.specs.declared.raw.RawFrame.{RawFrame}
 use Rattle.frame_core.specs.Texts.{Text}
 use Rattle.program_edge.specs.Shelves.{Held}
+use Rattle.reply_model.specs.Blocks.{run_cutting}
 use Rattle.client_sessions.specs.Parts.{Parts}
 use Rattle.script_lang.specs.declared.load.Load.{Load}
 use Rattle.script_lang.specs.declared.script.Script.{Script}
@@ -106,7 +107,7 @@ loads_stop holds before later now words script (halts.Stop s) le found why = of 
 
 -- a job of these options, names, parts and frames
 abbrev job_with : Options → List Text → Parts → List Table → Job
-job_with options names parts frames = record { cutting = record { rows = options.cutting.rows; columns = options.cutting.cols }; tries = options.tries; names = names; parts = parts; frames = frames }
+job_with options names parts frames = record { cutting = run_cutting options.cutting; tries = options.tries; names = names; parts = parts; frames = frames }
 
 -- the job of a script that the words name, of their options and of the raw frames of its loads
 prepared_job : (holds : Held) (words : List Text) (script : Script) (options : Options) (frames : List Table) → FindsJob holds words script options → AllZip (GivesTable holds) script.loads frames →

@@ -1,13 +1,12 @@
 -- Texts that are printed one after another.
 use Rattle.std.proofs.Common.{◌≡◌, ℕ, zero, suc, ◌+◌, ◌<◌, ◌≤◌, min, List, [], ◌∷◌, ◌++◌, length, get_or, take, drop, Option, Some, None, Result, Ok, Err, refl, sym, ap, ◌∙◌, subst, append_assoc, arith}
-use Rattle.std.specs.Prelude.{slice_get, IsErrOf, IsErrAnd}
+use Rattle.std.specs.Prelude.{slice_get, IsErrAnd}
 use Rattle.std.specs.List.{concat}
 use Rattle.std.proofs.lemmas.List.{append-nil, take-append-le, take_min, take_more, take_all, take-append-drop}
 use Rattle.std.proofs.lemmas.List.Folds.{concat-append}
 use Rattle.std.proofs.lemmas.Option.{slice_get-get_or, slice_get_within}
 use Rattle.base_types.specs.Faults.{Rose}
 use Rattle.frame_core.specs.Texts.{Text}
-use Rattle.program_edge.specs.Sinks.{PutAdds}
 use Rattle.program_edge.specs.declared.sink.SinkErr.{SinkErr}
 use Rattle.program_edge.specs.declared.sink.SinkErr.TheVariants as sinks
 use Rattle.arctic_cli.specs.Endings.{Wrote, WrotePart, Printed}
@@ -64,27 +63,18 @@ part-nothing a x = record { count = 0; wrote = wrote-nothing a }
 
 -- want of memory before anything was put
 pub printed-nothing : (a : Option Text) (f : ℕ) (x : Text) → Printed a a f f x (Err sinks.NoMemory)
-printed-nothing a f x = (part-nothing a x, omega arith)
+printed-nothing a f x = (part-nothing a x, refl)
 
 -- one text after another
 pub printed-then : (a b c : Option Text) (f g h : ℕ) (x y : Text) (r : Result (Unit {0}) SinkErr) → Printed a b f g x (Ok tt) → Printed b c g h y r → Printed a c f h (x ++ y) r
-printed-then a b c f g h x y (Ok done) p q = (wrote-then a b c x y p.0 q.0, omega (arith, p.1, q.1))
-printed-then a b c f g h x y (Err sinks.NoMemory) p q = (part-then a b c x y p.0 q.0, omega (arith, p.1, q.1))
-printed-then a b c f g h x y (Err sinks.Failed) p q = (part-then a b c x y p.0 q.0, rose-later f g h p.1 q.1)
+printed-then a b c f g h x y (Ok done) p q = (wrote-then a b c x y p.0 q.0, q.1 ∙ p.1)
+printed-then a b c f g h x y (Err sinks.NoMemory) p q = (part-then a b c x y p.0 q.0, q.1 ∙ p.1)
+printed-then a b c f g h x y (Err sinks.Failed) p q = (part-then a b c x y p.0 q.0, subst (λ (n : ℕ). Rose n h) p.1 q.1)
 
 -- after a refused put nothing more is put
 pub printed-stop : (a b : Option Text) (f g : ℕ) (x y : Text) (e : SinkErr) → Printed a b f g x (Err e) → Printed a b f g (x ++ y) (Err e)
 printed-stop a b f g x y sinks.NoMemory p = (part-front a b x y p.0, p.1)
 printed-stop a b f g x y sinks.Failed p = (part-front a b x y p.0, p.1)
-
--- a put prints its piece
-pub put-printed : (a b : Option Text) (f g : ℕ) (x : Text) (r : Result (Unit {0}) SinkErr) → PutAdds a b x r → f ≤ g → (IsErrOf r sinks.Failed → Rose f g) → Printed a b f g x r
-put-printed None b f g x (Ok done) adds le rose = (adds, le)
-put-printed None b f g x (Err sinks.NoMemory) adds le rose = (record { count = 0; wrote = adds }, le)
-put-printed None b f g x (Err sinks.Failed) adds le rose = (record { count = 0; wrote = adds }, rose refl)
-put-printed (Some w) b f g x (Ok done) adds le rose = (adds, le)
-put-printed (Some w) b f g x (Err sinks.NoMemory) adds le rose = (record { count = adds.0; wrote = adds.1 }, le)
-put-printed (Some w) b f g x (Err sinks.Failed) adds le rose = (record { count = adds.0; wrote = adds.1 }, rose refl)
 
 -- ---- texts in a row
 

@@ -33,9 +33,9 @@ use Rattle.arctic_cli.proofs.Prints.{wrote-nothing}
 pub printed-ends : (run : Run) (f g : ℕ) (a b : Option Text) (status final : ℕ) (printed : Result (Unit {0}) SinkErr) →
     status ≡ run.status → Printed a b f g (concat run.lines) printed →
     (IsOk printed → final ≡ status) → (IsErrOf printed sinks.Failed → final ≡ 5) → (IsErrOf printed sinks.NoMemory → final ≡ 6) → RunEnds run f g a b final
-printed-ends run f g a b status final (Ok done) s p all failed memory = inl (record { status_is = all refl ∙ s; output = p.0 })
+printed-ends run f g a b status final (Ok done) s p all failed memory = inl (p.1, record { status_is = all refl ∙ s; output = p.0 })
 printed-ends run f g a b status final (Err sinks.Failed) s p all failed memory = inr (inl (failed refl, p.1, p.0))
-printed-ends run f g a b status final (Err sinks.NoMemory) s p all failed memory = inr (inr (memory refl, p.0))
+printed-ends run f g a b status final (Err sinks.NoMemory) s p all failed memory = inr (inr (memory refl, p.1, p.0))
 
 -- the line of a stop is all that is put
 pub stop-printed : (w0 w1 : Option Text) (f g : ℕ) (s : Stop) (r : Result (Unit {0}) SinkErr) → Printed w0 w1 f g (stop_line s) r → Printed w0 w1 f g (concat (stopped s).lines) r
@@ -74,14 +74,14 @@ ran-items answer cutting settings limit number old new lent frames one first man
 -- the parts of a job were carried out and the run of their replies ended, or memory was wanted before the first command
 pub parts-end : {E : Type 0} (start : Start) (job : Job) (moment : ℤ) (f g : ℕ) (w0 w1 : Option Text) (status end : ℕ) (new : History) (answer : Result PartReplies E) → IsReading start.reading moment → end ≡ length new →
     IfOk answer (λ replies. sessions.IsRun job.cutting (client_of start job moment) start.client job.parts replies start.history new) → OnErr answer (new ≡ start.history) →
-    IfOk answer (λ replies. RunEnds (run_of job.names replies end) f g w0 w1 status) → OnErr answer ((status ≡ 6) × (w1 ≡ w0)) → JobEnds start job f g w0 w1 status new
+    IfOk answer (λ replies. RunEnds (run_of job.names replies end) f g w0 w1 status) → OnErr answer ((status ≡ 6) × (g ≡ f) × (w1 ≡ w0)) → JobEnds start job f g w0 w1 status new
 parts-end start job moment f g w0 w1 status end new (Ok replies) told end_is ran same ends memory = inl (
   run_of job.names replies (length new),
   record { moment = moment; told = told; replies = replies; ran = ran; run_is = refl },
   subst (λ (n : ℕ). RunEnds (run_of job.names replies n) f g w0 w1 status) end_is ends,
 )
 parts-end start job moment f g w0 w1 status end new (Err e) told end_is ran same ends memory =
-    inr (memory.0, record { output = subst (λ (o : Option Text). Wrote w0 o []) (sym memory.1) (wrote-nothing w0); unchanged = same })
+    inr (memory.0, memory.1, record { output = subst (λ (o : Option Text). Wrote w0 o []) (sym memory.2) (wrote-nothing w0); unchanged = same })
 
 -- a pass that is as it was has seen what it had
 pub unchanged : {E : Type 0} (answer : Result PartReplies E) (old new : Pass) → OnErr answer (new ≡ old) → OnErr answer (seen_of new ≡ seen_of old)

@@ -40,10 +40,10 @@ pub record WrotePart (before after : Option Text) (text : Text) : Type 0 where
   pub count : ℕ
   pub wrote : Wrote before after (take count text)
 
--- a text was printed: all of it, or a front of it, with the cause; the count of faults does not fall
+-- a text was printed: all of it, or a front of it, with the cause; the count of faults rose where a put failed, and stood still else
 abbrev pub Printed : Option Text → Option Text → ℕ → ℕ → Text → Result (Unit {0}) SinkErr → Type 0
-Printed before after faults now text (Ok done) = Wrote before after text × (faults ≤ now)
-Printed before after faults now text (Err sinks.NoMemory) = WrotePart before after text × (faults ≤ now)
+Printed before after faults now text (Ok done) = Wrote before after text × (now ≡ faults)
+Printed before after faults now text (Err sinks.NoMemory) = WrotePart before after text × (now ≡ faults)
 Printed before after faults now text (Err sinks.Failed) = WrotePart before after text × Rose faults now
 
 -- what printing a text did to an output, by what is told of it
@@ -88,11 +88,12 @@ pub record AllWritten (run : Run) (before after : Option Text) (status : ℕ) : 
   pub status_is : status ≡ run.status
   pub output : Wrote before after (concat run.lines)
 
--- a run ended by writing all its lines, or by a refused put, after which nothing more was put
+-- a run ended by writing all its lines, or by a refused put, after which nothing more was put; the count of faults rose where a put failed,
+-- and stood still else
 abbrev pub RunEnds : Run → ℕ → ℕ → Option Text → Option Text → ℕ → Type 0
 RunEnds run faults now before after status =
-    AllWritten run before after status
-    ⊎ ((status ≡ 5) × Rose faults now × WrotePart before after (concat run.lines)) ⊎ ((status ≡ 6) × WrotePart before after (concat run.lines))
+    ((now ≡ faults) × AllWritten run before after status)
+    ⊎ ((status ≡ 5) × Rose faults now × WrotePart before after (concat run.lines)) ⊎ ((status ≡ 6) × (now ≡ faults) × WrotePart before after (concat run.lines))
 
 -- memory was wanted before the first command and before anything was put
 pub record Halted (before after : Option Text) (old new : History) : Type 0 where
@@ -102,7 +103,7 @@ pub record Halted (before after : Option Text) (old new : History) : Type 0 wher
 -- the commands of a job were carried out and the run of their replies ended so, or memory was wanted before the first
 abbrev pub JobEnds : Start → Job → ℕ → ℕ → Option Text → Option Text → ℕ → History → Type 0
 JobEnds start job faults now before after status new =
-    ((run : Run) × Performs start job run new × RunEnds run faults now before after status) ⊎ ((status ≡ 6) × Halted before after start.history new)
+    ((run : Run) × Performs start job run new × RunEnds run faults now before after status) ⊎ ((status ≡ 6) × (now ≡ faults) × Halted before after start.history new)
 
 -- a run that is due, by what was prepared of the words and the shelf, whose faults are counted
 pub record Due (start : Start) (before now : ℕ) (new : History) : Type 0 where
@@ -115,7 +116,7 @@ pub record Due (start : Start) (before now : ℕ) (new : History) : Type 0 where
 abbrev pub Ends : Start → ℕ → ℕ → ℕ → ℕ → Option Text → Option Text → ℕ → History → Type 0
 Ends start shelf_faults shelf_now faults now before after status new =
     ((due : Due start shelf_faults shelf_now new) × RunEnds due.run faults now before after status)
-    ⊎ ((status ≡ 6) × Halted before after start.history new)
+    ⊎ ((status ≡ 6) × (now ≡ faults) × Halted before after start.history new)
 
 -- ---- each status
 
@@ -166,14 +167,13 @@ abbrev pub HasOneBlock : Result Job Stop → Type 0
 HasOneBlock (Ok job) = length job.parts.blocks ≤ 1
 HasOneBlock (Err stop) = ⊤
 
--- one client alone at a time runs on an empty store: shelf, output and clock tell what they hold; the store is empty and the pass that of
--- client 1; the limit was not reached; and there is at most one block
+-- one client alone at a time runs on an empty store: shelf, output and clock tell what they hold; the store is empty; the limit was not
+-- reached; and there is at most one block
 pub record IsOfOne (start : Start) (held : Shelf) (told : Text) (moment : ℤ) (before : Option Text) (new : History) : Type 0 where
   pub tells : start.holds ≡ Some held
   pub written : before ≡ Some told
   pub reading : start.reading ≡ Some moment
   pub empty : start.history ≡ []
-  pub first : start.client ≡ 1
   pub room : length new < start.limit
   pub few : HasOneBlock (prepared held start.words)
 

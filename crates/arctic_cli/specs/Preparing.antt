@@ -1,4 +1,5 @@
 -- What the steps of preparing a run answer; they halt by a stop or by want of memory.
+--     KeepsUnlessRead         no failure of the shelf was passed over
 --     FetchHalts, LoadHalts       why the file of a name gave no bytes, and that of a load no frame
 --     FailsAt, LoadsHalt      the load at which loading halted, before which all are good
 --     ScriptHalts             why there is no script
@@ -9,6 +10,7 @@ use Rattle.std.specs.List.{AllZip}
 use Rattle.frame_core.specs.Texts.{Text}
 use Rattle.frame_core.specs.RawFrames.{Table, table_of}
 use Rattle.program_edge.specs.Shelves.{Held}
+use Rattle.reply_model.specs.Blocks.{run_cutting}
 use Rattle.client_sessions.specs.Parts.{Parts}
 use Rattle.script_lang.specs.declared.load.Load.{Load}
 use Rattle.script_lang.specs.declared.script.Script.{Script}
@@ -20,6 +22,14 @@ use Rattle.arctic_cli.specs.declared.words.Options.{Options}
 use Rattle.arctic_cli.specs.CommandLine.{run, Words}
 use Rattle.arctic_cli.specs.Program.{Job, table_in_file}
 use Rattle.arctic_cli.specs.Causes.{HeldAs, NotFetched, FindsScript, GivesTable, IsPrepared, StopsBy}
+
+-- the count of faults stood still where a run halts for another cause than memory and a file that could not be read
+abbrev pub KeepsUnlessRead : ℕ → ℕ → Halt → Type 0
+KeepsUnlessRead before now halts.NoMemory = ⊤
+KeepsUnlessRead before now (halts.Stop (stops.Unreadable file)) = ⊤
+KeepsUnlessRead before now (halts.Stop stops.Usage) = now ≡ before
+KeepsUnlessRead before now (halts.Stop stops.BadScript) = now ≡ before
+KeepsUnlessRead before now (halts.Stop (stops.BadFile file)) = now ≡ before
 
 -- a file of this name gave no bytes
 abbrev pub FetchHalts : Held → ℕ → ℕ → Text → Halt → Type 0
@@ -75,7 +85,7 @@ parts_in plan = record { first = plan.first; blocks = plan.blocks; last = plan.l
 
 -- the job of a plan
 abbrev pub job_in : Plan → Job
-job_in plan = record { cutting = record { rows = plan.options.cutting.rows; columns = plan.options.cutting.cols }; tries = plan.options.tries; names = plan.names; parts = parts_in plan; frames = map table_of plan.frames }
+job_in plan = record { cutting = run_cutting plan.options.cutting; tries = plan.options.tries; names = plan.names; parts = parts_in plan; frames = map table_of plan.frames }
 
 -- the plan of the words, or why there is none
 abbrev pub PlanIs : Held → ℕ → ℕ → List Text → Result Plan Halt → Type 0

@@ -16,7 +16,7 @@ use Rattle.reply_model.specs.declared.outcome.Outcome.{Outcome}
 use Rattle.reply_model.specs.declared.outcome.Outcome.TheVariants as outcomes
 use Rattle.reply_model.specs.declared.reply.Reply.{Reply}
 use Rattle.reply_model.specs.Windows.{is_refused}
-use Rattle.reply_model.specs.Blocks.{Cutting}
+use Rattle.reply_model.specs.Blocks.{Cutting, run_cutting}
 use Rattle.reply_model.specs.Sole.{SoleRun, sole}
 use Rattle.client_sessions.specs.declared.parts.PartReplies.{PartReplies}
 use Rattle.client_sessions.specs.Parts.{Parts}
@@ -65,7 +65,7 @@ pub record Job : Type 0 where
 
 -- the job of what the words say, of a script and of the files that it loads
 abbrev pub job_of : Words → Script → List Table → Job
-job_of said script frames = record { cutting = record { rows = said.rows; columns = said.cols }; tries = said.tries; names = client_names script.clients; parts = parts_of script; frames = frames }
+job_of said script frames = record { cutting = run_cutting (record { rows = said.rows; cols = said.cols }); tries = said.tries; names = client_names script.clients; parts = parts_of script; frames = frames }
 
 -- the value, or the stop where there is none
 abbrev pub or_stop : {A : Type 0} → Stop → Option A → Result A Stop

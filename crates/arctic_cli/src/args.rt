@@ -1,4 +1,4 @@
-ghost use Rattle.std.specs.Prelude.{◌≡◌, ◌≢◌, drop, IfOk, IfErr, IsErr, IsErrOf};
+ghost use Rattle.std.specs.Prelude.{◌≡◌, ◌≢◌, drop, IfOk, IfErr, IsErrOf};
 ghost use Rattle.std.specs.IoError.{error_kind};
 ghost use Rattle.std.specs.Vec.Iter.{into_iter_items};
 
@@ -13,7 +13,7 @@ pub fn words_of(alloc: Global, args: io::Result<Args>) -> Result<Vec<String>, Ha
     ensures words { IfOk args (λ all. IfOk result (λ words. words.items ≡ drop 1 (into_iter_items all))) }
     ensures usage { IfErr args (λ error. error_kind error ≢ ErrorKind.OutOfMemory → IsErrOf result (Halt.Stop Stop.Usage)) }
     ensures memory { IfErr args (λ error. error_kind error ≡ ErrorKind.OutOfMemory → IsErrOf result Halt.NoMemory) }
-    ensures no_usage { IsErrOf result (Halt.Stop Stop.Usage) → IsErr args }
+    ensures good { IfOk args (λ all. IfErr result (λ halt. halt ≡ Halt.NoMemory)) }
 {
     match args {
         Ok(args) => behind_name(alloc, args),

@@ -1,4 +1,4 @@
-ghost use Rattle.std.specs.Prelude.{◌≡◌, ◌≤◌, length, map, string_bytes, IfOk, IfErr};
+ghost use Rattle.std.specs.Prelude.{◌≡◌, ◌≤◌, length, map, string_bytes, IfOk, IfErr, OnOk};
 ghost use Rattle.std.specs.List.{AllZip, list_all};
 ghost use Rattle.frame_core.specs.RawFrames.{table_of};
 ghost use Rattle.script_lang.specs.Answers.{GivesScript};
@@ -6,7 +6,7 @@ ghost use Rattle.library_api.specs.Steps.{is_carried_out};
 ghost use Rattle.arctic_cli.specs.Jobs.{client_names, client_blocks, parts_of, is_carried_client, is_carried_script, script_in, AreReady};
 ghost use Rattle.arctic_cli.specs.CommandLine.{IsTries};
 ghost use Rattle.arctic_cli.specs.Causes.{HeldAs, GivesTable};
-ghost use Rattle.arctic_cli.specs.Preparing.{FetchHalts, LoadHalts, LoadsHalt, ScriptHalts, FindsJob, parts_in, PlanIs};
+ghost use Rattle.arctic_cli.specs.Preparing.{KeepsUnlessRead, FetchHalts, LoadHalts, LoadsHalt, ScriptHalts, FindsJob, parts_in, PlanIs};
 
 use crate::stop::{Halt, Stop};
 use crate::words::{Options, read_words};
@@ -42,6 +42,8 @@ fn fetch_file<F: Shelf>(alloc: Global, shelf: &mut F, name: &str) -> Result<Vec<
     ensures halts { IfErr result (FetchHalts (F.holds shelf.old) (F.faults shelf.old) (F.faults shelf.new) name.now) }
     ensures same { F.holds shelf.new ≡ F.holds shelf.old }
     ensures never_falls { F.faults shelf.old ≤ F.faults shelf.new }
+    ensures kept { OnOk result (F.faults shelf.new ≡ F.faults shelf.old) }
+    ensures halts_kept { IfErr result (KeepsUnlessRead (F.faults shelf.old) (F.faults shelf.new)) }
 {
     let mut bytes = Vec::new(alloc);
     match shelf.fetch(name, &mut bytes) {
@@ -63,6 +65,8 @@ fn find_script<F: Shelf>(
     ensures halts { IfErr result (ScriptHalts (F.holds shelf.old) (F.faults shelf.old) (F.faults shelf.new) (map string_bytes words.now)) }
     ensures same { F.holds shelf.new ≡ F.holds shelf.old }
     ensures never_falls { F.faults shelf.old ≤ F.faults shelf.new }
+    ensures kept { OnOk result (F.faults shelf.new ≡ F.faults shelf.old) }
+    ensures halts_kept { IfErr result (KeepsUnlessRead (F.faults shelf.old) (F.faults shelf.new)) }
 {
     let Some((name, options)) = read_words(words) else {
         return Err(Halt::Stop(Stop::Usage));
@@ -144,6 +148,8 @@ fn load_frame<F: Shelf>(alloc: Global, shelf: &mut F, load: &Load) -> Result<Raw
     ensures halts { IfErr result (LoadHalts (F.holds shelf.old) (F.faults shelf.old) (F.faults shelf.new) load.now) }
     ensures same { F.holds shelf.new ≡ F.holds shelf.old }
     ensures never_falls { F.faults shelf.old ≤ F.faults shelf.new }
+    ensures kept { OnOk result (F.faults shelf.new ≡ F.faults shelf.old) }
+    ensures halts_kept { IfErr result (KeepsUnlessRead (F.faults shelf.old) (F.faults shelf.new)) }
 {
     let bytes = fetch_file(alloc, shelf, load.file.text())?;
     match read_frame(alloc, load.types.items(), bytes.as_slice()) {
@@ -159,6 +165,8 @@ fn load_frames<F: Shelf>(alloc: Global, shelf: &mut F, loads: &[Load]) -> Result
     ensures halts { IfErr result (LoadsHalt (F.holds shelf.old) (F.faults shelf.old) (F.faults shelf.new) loads.now) }
     ensures same { F.holds shelf.new ≡ F.holds shelf.old }
     ensures never_falls { F.faults shelf.old ≤ F.faults shelf.new }
+    ensures kept { OnOk result (F.faults shelf.new ≡ F.faults shelf.old) }
+    ensures halts_kept { IfErr result (KeepsUnlessRead (F.faults shelf.old) (F.faults shelf.new)) }
 {
     let mut frames = Items::new(alloc);
     for load in loads {
@@ -202,6 +210,8 @@ pub fn prepare<F: Shelf>(alloc: Global, words: &[String], shelf: &mut F) -> Resu
     ensures ready { IfOk result (λ plan. AreReady (length plan.frames) (parts_in plan)) }
     ensures same { F.holds shelf.new ≡ F.holds shelf.old }
     ensures never_falls { F.faults shelf.old ≤ F.faults shelf.new }
+    ensures kept { OnOk result (F.faults shelf.new ≡ F.faults shelf.old) }
+    ensures halts_kept { IfErr result (KeepsUnlessRead (F.faults shelf.old) (F.faults shelf.new)) }
 {
     let (script, options) = find_script(alloc, words, shelf)?;
     match load_frames(alloc, shelf, script.loads.items()) {

@@ -1,4 +1,4 @@
-ghost use Rattle.std.specs.Prelude.{◌≡◌, ◌≤◌, ℤ, true, List, Option, IsOk, IsErrOf, IfOk, OnErr, length, map, string_bytes};
+ghost use Rattle.std.specs.Prelude.{◌≡◌, ◌≢◌, ◌≤◌, ℤ, true, List, Option, IsOk, IsErrOf, IfOk, OnErr, length, map, string_bytes};
 ghost use Rattle.std.specs.List.{list_any};
 ghost use Rattle.base_types.specs.Faults.{Rose};
 ghost use Rattle.frame_core.specs.Texts.{Text as Bytes};
@@ -205,7 +205,7 @@ fn end_run<S: Sink>(
     end: u64,
 ) -> u8
     ensures told { IfOk replies (λ told. RunEnds (run_of names.now told end) (S.faults out.old) (S.faults out.new) (S.written out.old) (S.written out.new) result) }
-    ensures memory { OnErr replies ((result ≡ 6) × (S.written out.new ≡ S.written out.old)) }
+    ensures memory { OnErr replies ((result ≡ 6) × (S.faults out.new ≡ S.faults out.old) × (S.written out.new ≡ S.written out.old)) }
 {
     match replies {
         Ok(replies) => run_replies(alloc, out, names, &replies, end),
@@ -261,6 +261,7 @@ fn run_words<R: Threads + Wait + Sync, F: Shelf, S: Sink, G: Gate>(
     ensures sole { sole_of result.pass ≡ true }
     ensures store { store_of result.pass ≡ store_of pass }
     ensures ends { (reading : Option ℤ) → IsReading reading moment → Ends (start_of (map string_bytes words.now) (F.holds shelf.old) reading pass) (F.faults shelf.old) (F.faults shelf.new) (S.faults out.old) (S.faults out.new) (S.written out.old) (S.written out.new) result.status (seen_of result.pass) }
+    ensures shelf_kept { result.status ≢ 4 → result.status ≢ 5 → result.status ≢ 6 → F.faults shelf.new ≡ F.faults shelf.old }
 {
     match prepare(alloc, words, shelf) {
         Ok(plan) => run_plan(rt, alloc, out, gate, pass, moment, &plan),
@@ -303,6 +304,10 @@ pub fn run<R: Threads + Wait + Sync, F: Shelf, S: Sink, C: Clock, G: Gate>(
     // What was written is a front of what was due.
     ensures refused_put { result.status ≡ 5 → Rose (S.faults out.old) (S.faults out.new) × StopsByPut (start_of (map string_bytes words.now) (F.holds shelf.old) (C.reading clock.old) pass) (F.faults shelf.old) (F.faults shelf.new) (S.written out.old) (S.written out.new) (seen_of result.pass) }
     ensures memory { result.status ≡ 6 → WantsMemory (start_of (map string_bytes words.now) (F.holds shelf.old) (C.reading clock.old) pass) (F.faults shelf.old) (F.faults shelf.new) (S.written out.old) (S.written out.new) (seen_of result.pass) }
+
+    // No failure is passed over: the output's count of faults stands still but for 5, and the shelf's but for 4, 5 and 6.
+    ensures output_kept { result.status ≢ 5 → S.faults out.new ≡ S.faults out.old }
+    ensures shelf_kept { result.status ≢ 4 → result.status ≢ 5 → result.status ≢ 6 → F.faults shelf.new ≡ F.faults shelf.old }
 
     ensures statuses { result.status ≤ 7 }
     ensures client { number_of result.pass ≡ number_of pass }

@@ -19,11 +19,12 @@ use Rattle.reply_model.specs.Windows.{Client}
 use Rattle.reply_model.specs.Blocks.{Cutting}
 use Rattle.reply_model.specs.Runs.{Talk, IsLegalTalk, IsLegalRun, Covers, AllCovered, end_of, latest_end}
 use Rattle.client_sessions.specs.declared.parts.PartReplies.{PartReplies}
-use Rattle.client_sessions.specs.Sessions.{talk_of, IsSession}
+use Rattle.client_sessions.specs.Sessions.{talk_of, AreNamed, IsSession}
 use Rattle.client_sessions.specs.Blocks.{IsSessionOf, AreTalksOf, OneTalkEach, AreRun}
 use Rattle.client_sessions.specs.Parts.{IsRun}
 use Rattle.client_sessions.proofs.BlockRuns.{longer}
 use Rattle.client_sessions.proofs.Events.{event_within, event_at_more, any_here, any_there}
+use Rattle.client_sessions.proofs.OneBlock.{OneSession, session_alone}
 use Rattle.client_sessions.proofs.Passes.{had_at, ended_at, within_at}
 use Rattle.client_sessions.proofs.Talks.{calm, talk_later, talks_later, apart_before, apart_behind, latest_within}
 use Rattle.client_sessions.proofs.Windows.{ends_within, starts_from, stops_within, calm_windows}
@@ -37,7 +38,7 @@ moments_are client moment one [] (r ∷ told) talks all = absurd all
 moments_are client moment one (b ∷ blocks) [] talks all = absurd all
 moments_are client moment one (b ∷ blocks) (r ∷ told) [] all = absurd all
 
-module _ (cutting : Cutting) (client : ℕ → Client) (named : (n : ℕ) → (client n).session.client ≡ n) (moment : ℤ) (one : (n : ℕ) → (client n).session.moment ≡ moment) (first : List Command) (blocks : List (List Command)) (last : List Command) (replies : PartReplies) (p0 p1 p2 p3 : Pass) (sole : sole_of p0 ≡ true)
+module _ (cutting : Cutting) (client : ℕ → Client) (named : (n : ℕ) → (client n).session.client ≡ n) (moment : ℤ) (one : (n : ℕ) → (client n).session.moment ≡ moment) (session : OneSession client) (count : ℕ) (first : List Command) (blocks : List (List Command)) (last : List Command) (first_ready : AreNamed count first) (last_ready : AreNamed count last) (replies : PartReplies) (p0 p1 p2 p3 : Pass) (sole : sole_of p0 ≡ true)
     (a : IsSessionOf cutting client first replies.first p0 p1) (r : AreRun cutting client blocks replies.blocks p1 p2) (b : IsSessionOf cutting client last replies.last p2 p3) where
   -- ---- the pass is sole again
 
@@ -165,7 +166,7 @@ module _ (cutting : Cutting) (client : ℕ → Client) (named : (n : ℕ) → (c
     clients_within = r.legal;
     last_within = end.legal;
     without_blocks = r.without_blocks;
-    first_alone = λ l uncut. a.session.alone (record { more = a.session.more; is = a.session.goes_on; own = a.session.own sole }) l uncut;
+    first_alone = session_alone cutting client session count first first_ready replies.first (seen_of p0) (seen_of p1) p0 p1 a refl refl (a.session.own sole);
     block_alone = λ block met one_block one_reply l uncut n. r.one_alone block met one_block one_reply (ap is_sole a.badge ∙ sole) (a.session.lawful l) uncut n;
-    last_alone = λ l uncut. end.alone (record { more = end.more; is = end.goes_on; own = end.own sole_last }) (r.lawful (a.session.lawful l)) uncut;
+    last_alone = λ l. session_alone cutting client session count last last_ready replies.last (seen_of p2) (seen_of p3) p2 p3 b refl refl (b.session.own sole_last) (r.lawful (a.session.lawful l));
   }

@@ -29,7 +29,7 @@ pub record IsBehind (old new : History) : Type 0 where
 
 -- the history goes on lawfully from an older one; the replies of all parts are legal in it, the first and the last ones as those of the
 -- client `own`, and each block's as those of a client of its own, or of that one; and these two parts, and the block of a script that has
--- just one, are each a run of one client alone, where none of the part's replies is cut
+-- just one, are each a run of one client alone, whatever that client's number is, where none of the part's replies is cut
 pub record IsRun (cutting : Cutting) (client : ℕ → Client) (own : ℕ) (parts : Parts) (replies : PartReplies) (old new : History) : Type 0 where
   pub more : History
   pub goes_on : new ≡ more ++ old
@@ -52,8 +52,7 @@ pub record IsRun (cutting : Cutting) (client : ℕ → Client) (own : ℕ) (part
   pub clients_within : AllByRecursion (IsLegalTalk before_last (length behind_first)) clients
   pub last_within : IsLegalTalk new (length before_last) (talk_of (client own) parts.last replies.last last)
   pub without_blocks : parts.blocks ≡ [] → before_last ≡ behind_first
-  pub first_alone : IsLawful old → AreUncut replies.first → RunsAlone cutting (client own).session parts.first replies.first old behind_first
-  -- whatever the number of the block's client is
+  pub first_alone : IsLawful old → AreUncut replies.first → (n : ℕ) → RunsAlone cutting (client n).session parts.first replies.first old behind_first
   pub block_alone : (block : List Command) (met : List Reply) → parts.blocks ≡ block ∷ [] → replies.blocks ≡ met ∷ [] → IsLawful old → AreUncut met
       → (n : ℕ) → RunsAlone cutting (client n).session block met behind_first before_last
-  pub last_alone : IsLawful old → AreUncut replies.last → RunsAlone cutting (client own).session parts.last replies.last before_last new
+  pub last_alone : IsLawful old → AreUncut replies.last → (n : ℕ) → RunsAlone cutting (client n).session parts.last replies.last before_last new

@@ -1,7 +1,7 @@
 -- What the commands of one client leave, carried out one after another.
 --     IsReady, AreNamed       a library carries out the commands, and the frames that they name are there
 --     talk_of                 the commands of one client, its replies and windows
---     AreUncut                when the replies are those of one client alone
+--     AreUncut                none of the replies is cut
 --     FaultsAre               each window is marked as failed only where faults came in it
 --     IsSession               the replies are legal in the history that goes on from an older one
 use Rattle.std.specs.Prelude.{◌≡◌, ℕ, ◌<◌, ◌≤◌, Bool, true, false, List, [], ◌∷◌, ◌++◌, length}

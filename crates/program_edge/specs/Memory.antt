@@ -4,7 +4,7 @@
 --     fetch_answer            what a fetch answers, memory aside
 --     Output                  what is written, and which of its calls fail
 --     put_answer, after_put   what a put answers, memory aside, and what it leaves
-use Rattle.std.specs.Prelude.{◌≡◌, ℕ, ⊤, Bool, true, false, List, ◌++◌, find, nat_eq, option_map, Option, Some, None, Result, Ok, Err}
+use Rattle.std.specs.Prelude.{◌≡◌, ℕ, IsOk, Bool, true, false, List, ◌++◌, find, nat_eq, option_map, Option, Some, None, Result, Ok, Err}
 use Rattle.std.specs.Cmp.Lexicographic.{pointwise}
 use Rattle.program_edge.specs.declared.shelf.ShelfErr.{ShelfErr}
 use Rattle.program_edge.specs.declared.shelf.ShelfErr.TheVariants as shelf_errors
@@ -29,10 +29,10 @@ fetch_answer true held = Err shelf_errors.Failed
 fetch_answer false None = Err shelf_errors.NotThere
 fetch_answer false (Some bytes) = Ok bytes
 
--- a fetch answers so and leaves these bytes, unless memory is wanted
+-- a fetch answers so and leaves these bytes, unless memory for some bytes is wanted
 abbrev pub FetchIs : Result (List ℕ) ShelfErr → List ℕ → Result (Unit {0}) ShelfErr → Type 0
 FetchIs wanted into (Ok done) = wanted ≡ Ok into
-FetchIs wanted into (Err shelf_errors.NoMemory) = ⊤
+FetchIs wanted into (Err shelf_errors.NoMemory) = IsOk wanted
 FetchIs wanted into (Err e) = wanted ≡ Err e
 
 -- ---- output
@@ -45,7 +45,7 @@ pub record Output : Type 0 where
 -- a put fails where its number is among those that fail, and nowhere else
 abbrev pub PutIs : Bool → Result (Unit {0}) SinkErr → Type 0
 PutIs fails (Ok done) = fails ≡ false
-PutIs fails (Err sink_errors.NoMemory) = ⊤
+PutIs fails (Err sink_errors.NoMemory) = fails ≡ false
 PutIs fails (Err sink_errors.Failed) = fails ≡ true
 
 -- what is written after a put: the whole piece where it answers Ok, and nothing of it else

@@ -1,5 +1,6 @@
 ghost use Rattle.std.specs.Prelude.{◌≡◌, ◌≤◌, IsErrOf};
 ghost use Rattle.base_types.specs.Faults.{Rose};
+ghost use Rattle.program_edge.specs.Sinks.{KeepsUnlessFailed};
 
 use crate::sink::{Sink, SinkErr};
 use std::io::{self, ErrorKind, Write};
@@ -73,6 +74,7 @@ impl<'a, R: Print> OutSink<'a, R> {
         ensures never_falls { self.old ≤ self.new }
         ensures failed { IsErrOf result SinkErr.Failed → Rose self.old self.new }
         ensures memory { IsErrOf result SinkErr.NoMemory → ⊥ }
+        ensures kept { KeepsUnlessFailed self.old self.new result }
     {
         if done {
             return Ok(());
@@ -86,6 +88,7 @@ impl<'a, R: Print> OutSink<'a, R> {
         ensures never_falls { self.old ≤ self.new }
         ensures failed { IsErrOf result SinkErr.Failed → Rose self.old self.new }
         ensures memory { IsErrOf result SinkErr.NoMemory → ⊥ }
+        ensures kept { KeepsUnlessFailed self.old self.new result }
     {
         let done = write_all(self.rt, &self.buffer[..self.held]);
         self.held = 0;
@@ -104,6 +107,7 @@ impl<'a, R: Print> Sink for OutSink<'a, R> {
         ensures never_falls { self.old ≤ self.new }
         ensures failed { IsErrOf result SinkErr.Failed → Rose self.old self.new }
         ensures memory { IsErrOf result SinkErr.NoMemory → ⊥ }
+        ensures kept { KeepsUnlessFailed self.old self.new result }
     {
         if piece.len() > CAPACITY - self.held {
             self.finish()?;

@@ -1,6 +1,6 @@
 ghost use Rattle.std.specs.Prelude.{ℕ, ◌≡◌, ◌≤◌, [], IsErrOf, OnErr};
 ghost use Rattle.base_types.specs.Faults.{Rose};
-ghost use Rattle.program_edge.specs.Shelves.{Held, FetchGives};
+ghost use Rattle.program_edge.specs.Shelves.{Held, FetchGives, KeepsUnlessFailed};
 
 /// Why a shelf gives no bytes.
 #[derive(Clone, Copy, Debug, PartialEq, Eq)]
@@ -26,5 +26,6 @@ pub trait Shelf {
         ensures refused { OnErr result (into.new.items ≡ []) }
         ensures same { holds self.new ≡ holds self.old }
         ensures never_falls { faults self.old ≤ faults self.new }
-        ensures failed { IsErrOf result ShelfErr.Failed → Rose (faults self.old) (faults self.new) };
+        ensures failed { IsErrOf result ShelfErr.Failed → Rose (faults self.old) (faults self.new) }
+        ensures kept { KeepsUnlessFailed (faults self.old) (faults self.new) result };
 }

@@ -1,6 +1,6 @@
 ghost use Rattle.std.specs.Prelude.{ℕ, ◌≡◌, ◌≤◌, List, Option, IsErrOf};
 ghost use Rattle.base_types.specs.Faults.{Rose};
-ghost use Rattle.program_edge.specs.Sinks.{PutAdds};
+ghost use Rattle.program_edge.specs.Sinks.{PutAdds, KeepsUnlessFailed};
 
 /// Why an output takes no more.
 #[derive(Clone, Copy, Debug, PartialEq, Eq)]
@@ -22,5 +22,6 @@ pub trait Sink {
     fn put(&mut self, piece: &[u8]) -> Result<(), SinkErr>
         ensures adds { PutAdds (written self.old) (written self.new) piece.now result }
         ensures never_falls { faults self.old ≤ faults self.new }
-        ensures failed { IsErrOf result SinkErr.Failed → Rose (faults self.old) (faults self.new) };
+        ensures failed { IsErrOf result SinkErr.Failed → Rose (faults self.old) (faults self.new) }
+        ensures kept { KeepsUnlessFailed (faults self.old) (faults self.new) result };
 }

@@ -7,7 +7,7 @@ use Rattle.arctic_cli.proofs.prepare.load_frames.Goals as goal
 
 pub returns-in-Err-clause-halts : goal.returns-in-Err-clause-halts
 returns-in-Err-clause-halts g c =
-    fails_at _ _ _ _ c.args.loads.now c.loop-load.load-index c.load-item.result (map table_of c.loop-load.frames) c.in-Err.halt c.loop-load-test.true c.load-item.is c.loop-load.invariant.rise c.loop-load.invariant.loaded
+    fails_at _ _ _ _ c.args.loads.now c.loop-load.load-index c.load-item.result (map table_of c.loop-load.frames) c.in-Err.halt c.loop-load-test.true c.load-item.is (omega (arith, c.loop-load.invariant.kept)) c.loop-load.invariant.loaded
     (subst (λ h. LoadHalts h (g.F.Shelf.faults c.loop-load.shelf) (g.F.Shelf.faults c.load_frame.new.shelf) c.load-item.result c.in-Err.halt) c.loop-load.invariant.same c.in-Err.ensures.halts)
 
 pub loop-load-preserved : goal.loop-load-preserved
@@ -15,5 +15,5 @@ loop-load-preserved g c = record {
   loaded = loaded-more _ c.args.loads.now c.loop-load.load-index c.load-item.result c.loop-load.frames c.push.new.self c.in-Ok.frame c.loop-load-test.true c.load-item.is c.loop-load.invariant.loaded
       (subst (λ h. GivesTable h c.load-item.result (table_of c.in-Ok.frame)) c.loop-load.invariant.same c.in-Ok.ensures.loaded) c.in_ok-push-in-Ok.ensures.ok;
   same = c.load_frame.ensures.same ∙ c.loop-load.invariant.same;
-  rise = omega (arith, c.loop-load.invariant.rise, c.load_frame.ensures.never_falls);
+  kept = c.in-Ok.ensures.kept ∙ c.loop-load.invariant.kept;
 }

@@ -1,4 +1,4 @@
-use Rattle.std.proofs.Common.{◌≡◌, ◌≤◌, take, map}
+use Rattle.std.proofs.Common.{◌≡◌, take, map}
 use Rattle.std.specs.List.{AllZip}
 use Rattle.frame_core.specs.RawFrames.{table_of}
 use Rattle.arctic_cli.specs.Causes.{GivesTable}
@@ -9,5 +9,5 @@ abbrev pub invariant-loop-load : goal.invariant-loop-load
 invariant-loop-load g l = record {
   loaded : AllZip (GivesTable (g.F.Shelf.holds l.fn.shelf)) (take l.load-index l.loads) (map table_of l.frames);
   same : g.F.Shelf.holds l.shelf ≡ g.F.Shelf.holds l.fn.shelf;
-  rise : g.F.Shelf.faults l.fn.shelf ≤ g.F.Shelf.faults l.shelf;
+  kept : g.F.Shelf.faults l.shelf ≡ g.F.Shelf.faults l.fn.shelf;
 }

@@ -1,7 +1,7 @@
 use Rattle.arctic_cli.proofs.Alone.{exact}
 use Rattle.std.proofs.Common.{rules, w64, SFits}
 use Rattle.arctic_cli.proofs.Running.{told-again}
-use Rattle.arctic_cli.proofs.Ended.{way, transcript-way, usage-way, script-way, fetch-way, file-way, put-way, memory-way, status-way}
+use Rattle.arctic_cli.proofs.Ended.{way, output-kept, transcript-way, usage-way, script-way, fetch-way, file-way, put-way, memory-way, status-way}
 use Rattle.arctic_cli.proofs.run.run.Goals as goal
 
 pub returns-clause-usage : goal.returns-clause-usage
@@ -31,3 +31,6 @@ returns-clause-transcript g c = transcript-way _ _ _ _ _ _ _ _ _ (way _ _ _ _ _ 
 pub returns-clause-complete : goal.returns-clause-complete
 returns-clause-complete g c = λ held told moment u. exact c.runs_alone_are_sole.ensures.grow c.runs_alone_are_sole.ensures.blocks _ _ _ _ _ held told moment _ _ _ _ u
     (c.run_words.ensures.ends (g.C.Clock.reading c.args.clock.now) (let fits : SFits w64 c.now-moment.result = search rules in told-again (g.C.Clock.reading c.args.clock.now) c.now-moment.result fits c.now-moment.ensures))
+
+pub returns-clause-output_kept : goal.returns-clause-output_kept
+returns-clause-output_kept g c = output-kept _ _ _ _ _ _ _ _ _ (c.run_words.ensures.ends (g.C.Clock.reading c.args.clock.now) (let fits : SFits w64 c.now-moment.result = search rules in told-again (g.C.Clock.reading c.args.clock.now) c.now-moment.result fits c.now-moment.ensures))

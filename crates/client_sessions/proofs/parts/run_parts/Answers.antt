@@ -1,4 +1,4 @@
-use Rattle.std.proofs.Common.{◌∙◌, ℕ, List, refl, sym, subst}
+use Rattle.std.proofs.Common.{◌∙◌, ℕ, List, length, refl, sym, subst}
 use Rattle.bucket_shared.specs.Passes.{limit_of}
 use Rattle.reply_model.specs.declared.reply.Reply.{Reply}
 use Rattle.library_api.specs.declared.settings.Settings.{Settings}
@@ -24,13 +24,13 @@ ended g c =
 
 pub returns-clause-ran : goal.returns-clause-ran
 returns-clause-ran g c =
-    run_is (run_cutting c.args.settings.cutting) (clients_of c.args.frames.now c.args.settings (limit_of c.args.pass)) (λ n. refl) c.args.settings.moment (λ n. refl) c.args.first.now c.args.blocks.now c.args.last.now
+    run_is (run_cutting c.args.settings.cutting) (clients_of c.args.frames.now c.args.settings (limit_of c.args.pass)) (λ n. refl) c.args.settings.moment (λ n. refl) (λ m n. refl) (length c.args.frames.now) c.args.first.now c.args.blocks.now c.args.last.now c.requires.first c.requires.last
     (record { first = c.session-pass.result.1; blocks = c.in_order.result; last = c.session-pass-2.result.1 })
     c.args.pass c.session-pass.result.0 c.run_blocks-pass.result.0 c.session-pass-2.result.0 c.requires.sole (begun g c) (met g c) (ended g c)
 
 -- the pass is sole again
 pub returns-clause-sole : goal.returns-clause-sole
 returns-clause-sole g c =
-    sole_end (run_cutting c.args.settings.cutting) (clients_of c.args.frames.now c.args.settings (limit_of c.args.pass)) (λ n. refl) c.args.settings.moment (λ n. refl) c.args.first.now c.args.blocks.now c.args.last.now
+    sole_end (run_cutting c.args.settings.cutting) (clients_of c.args.frames.now c.args.settings (limit_of c.args.pass)) (λ n. refl) c.args.settings.moment (λ n. refl) (λ m n. refl) (length c.args.frames.now) c.args.first.now c.args.blocks.now c.args.last.now c.requires.first c.requires.last
     (record { first = c.session-pass.result.1; blocks = c.in_order.result; last = c.session-pass-2.result.1 })
     c.args.pass c.session-pass.result.0 c.run_blocks-pass.result.0 c.session-pass-2.result.0 c.requires.sole (begun g c) (met g c) (ended g c)
