@@ -14,5 +14,5 @@ mod writing;
 pub use column_view::ColumnView;
 pub use heads::{put_head, read_head, read_text, read_type, type_byte};
 pub use laws::one_spelling;
-pub use viewing::{SegFault, SegView, view};
+pub use viewing::{SegFault, SegView, view, view_spelled};
 pub use writing::encode;
