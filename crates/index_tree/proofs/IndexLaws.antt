@@ -10,13 +10,14 @@ use Rattle.byte_fields.proofs.Steps.{done, ok_is, bind_ok, bind_is, wanted_ok, w
 use Rattle.byte_fields.proofs.Numbers.{wide16, wide32, number_takes, number_again, magic_takes, magic_again}
 use Rattle.byte_fields.proofs.Lists.{flat_map-front}
 use Rattle.frame_core.specs.Texts.{same_text}
-use Rattle.frame_core.specs.Schemas.{Head, IsColName, are_new}
+use Rattle.frame_core.specs.Schemas.{Schema, Head, IsColName, are_new}
 use Rattle.segment_bytes.specs.Heads.{head_text, head_at}
 use Rattle.segment_bytes.proofs.HeadLaws.{IsNew, head_takes, head_again}
 use Rattle.index_tree.specs.declared.index.Slot.{Slot}
 use Rattle.index_tree.specs.declared.index.Index.{Index}
 use Rattle.index_tree.specs.IndexText.{index_magic, slot_text, index_text, heads_at, Reach, no_reach, reach_of, slot_at, slots_at, index_at, index_of}
 use Rattle.index_tree.specs.IndexRules.{FitsSlot, IsSlot, Cover, IsIndex}
+use Rattle.index_tree.specs.SlotTexts.{SpellSlots}
 use Rattle.index_tree.proofs.SlotLaws.{slot_takes, slot_again}
 use Rattle.index_tree.proofs.SlotRules.{AllowedFrom, kept_all, allowed_all, fits_all}
 
@@ -199,3 +200,41 @@ unfolding index_of
 index_again i is =
     let read : index_at (index_text i) ≡ Ok (i, []) = ap index_at (sym (append-nil (index_text i))) ∙ index_read_again i [] is in
     whole_again (index_at (index_text i)) i read
+
+-- ---- an index whose slots are not read
+
+-- what stands before the slots of a spelled index was read, and the bytes behind it spell slots
+pub record Opened (bytes behind : List ℕ) (schema : Schema) (rows count : ℕ) : Type 0 where
+  pub slots : List Slot
+  pub spelled : SpellSlots count behind slots
+  pub is : index_of bytes ≡ Ok (record { schema = schema; rows = rows; slots = slots })
+
+pub front_opened : (b0 b1 b2 b3 b4 b5 magic front : List ℕ) (columns rows count : ℕ) (schema : Schema) (i : Index) → IsBytes b0 → magic ≡ index_magic → schema.timed ≡ true
+    → magic_at magic b0 ≡ Ok (front, b1)
+    → number_at w16 b1 ≡ Ok (columns, b2)
+    → heads_at [] columns b2 ≡ Ok (schema.columns, b3)
+    → number_at w32 b3 ≡ Ok (rows, b4)
+    → number_at w32 b4 ≡ Ok (count, b5)
+    → index_of b0 ≡ Ok i → Opened b0 b5 schema rows count
+unfolding index_of index_at
+front_opened b0 b1 b2 b3 b4 b5 magic front columns rows count schema i fits is_magic timed m0 h1 h2 h3 h4 e =
+    let h0 : magic_at index_magic b0 ≡ Ok (front, b1) = subst (λ (t : List ℕ). magic_at t b0 ≡ Ok (front, b1)) is_magic m0 in
+    let t0 = magic_takes index_magic b0 front b1 fits h0 in
+    let t1 = number_takes w16 (2 ^ 16) wide16 b1 columns b2 t0.rest_fits h1 in
+    let t2 = heads_take [] columns b2 (schema.columns, b3) t1.takes.rest_fits h2 in
+    let t3 = number_takes w32 (2 ^ 32) wide32 b3 rows b4 t2.takes.rest_fits h3 in
+    let t4 = number_takes w32 (2 ^ 32) wide32 b4 count b5 t3.takes.rest_fits h4 in
+    let made : List Slot → Index = λ slots. record { schema = record { timed = true; columns = schema.columns }; rows = rows; slots = slots } in
+    let read : index_at b0 ≡ (slots_at rows columns no_reach count b5 >>= λ slots. Ok (made slots.0, slots.1)) = rw (h0, h1, h2, h3, h4) refl in
+    let s = bind_ok (slots_at rows columns no_reach count b5) (λ slots. Ok (made slots.0, slots.1)) (i, []) (sym read ∙ whole_takes (index_at b0) i e) in
+    let same : (made s.0.0, s.0.1) ≡ (i, []) = ok_is (made s.0.0, s.0.1) (i, []) s.2 in
+    let taken = slots_take rows columns no_reach count b5 s.0 t4.takes.rest_fits s.1 in
+    record {
+      slots = s.0.0;
+      spelled = record {
+        text = taken.takes.parts ∙ (ap (λ (x : Index × List ℕ). flat_map slot_text s.0.0 ++ x.1) same ∙ append-nil (flat_map slot_text s.0.0));
+        len = taken.count;
+        fits = taken.fits;
+      };
+      is = e ∙ ((λ j. Ok (sym same j).0) ∙ ap (λ (x : Index). Ok x) (timed_is (record { schema = schema; rows = rows; slots = s.0.0 }) timed));
+    }

@@ -4,3 +4,4 @@ pub mod IndexLaws
 pub mod IndexLoops
 pub mod Covers
 pub mod NameNotes
+pub mod SlotTextLaws

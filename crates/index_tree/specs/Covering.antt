@@ -1,7 +1,7 @@
 -- The slots that a range and columns ask for.
 --     shares_stamps, has_one      a slot's stamps against the range, and its columns against those asked
 --     covers, places_where        the slots that are asked, and the places of such
-use Rattle.std.specs.Prelude.{ℕ, ◌+◌, Bool, ◌&&◌, not, List, [], map, nat_eq, nat_le, nat_lt}
+use Rattle.std.specs.Prelude.{ℕ, Bool, ◌&&◌, not, List, [], map, nat_eq}
 use Rattle.std.specs.List.{filter, list_any, enumerate_from}
 use Rattle.frame_core.specs.declared.part.Part.{Part}
 use Rattle.frame_core.specs.Parts.{has_column}

@@ -1,12 +1,12 @@
 -- The one spelling of an index, and how bytes are read as one, field by field.
---     index_text          the spelling of an index
+--     front_text, index_text      the spelling of an index, and what of it stands before its slots
 --     Reach, GoesOn       how far the slots reach, and what the next slot may be
 --     index_of            the index that bytes spell, or the fault
 use Rattle.std.specs.Prelude.{ℕ, suc, zero, ◌+◌, ℤ, pos, Bool, true, false, ◌||◌, ◌&&◌, not, List, [], ◌∷◌, ◌++◌, length, flat_map, Result, Ok, nat_le, nat_eq, int_le, if◌then◌else◌}
 use Rattle.std.specs.Int.{w16, w32, to_be_bytes}
 use Rattle.std.specs.Ordering.{int_eq}
 use Rattle.byte_fields.specs.Reading.{Reading, ◌>>=◌, wanted, whole, number_at, signed_at, magic_at, signed_text}
-use Rattle.frame_core.specs.Schemas.{Head}
+use Rattle.frame_core.specs.Schemas.{Schema, Head}
 use Rattle.segment_bytes.specs.Heads.{head_text, head_at}
 use Rattle.key_kind.specs.declared.key.KeyKind.TheVariants as kinds
 use Rattle.key_kind.specs.KeyText.{key_text, key_of_at}
@@ -23,11 +23,15 @@ slot_text s =
     key_text s.key ++ to_be_bytes w32 s.part.first_row ++ to_be_bytes w32 s.part.rows ++ signed_text s.first ++ signed_text s.last
     ++ to_be_bytes w16 s.part.first_col ++ to_be_bytes w16 s.part.cols
 
+-- what stands before the slots of an index of this schema, so many rows and so many slots
+abbrev pub front_text : Schema → ℕ → ℕ → List ℕ
+front_text schema rows count =
+    index_magic ++ to_be_bytes w16 (length schema.columns) ++ flat_map head_text schema.columns
+    ++ to_be_bytes w32 rows ++ to_be_bytes w32 count
+
 -- the spelling of an index
 abbrev pub index_text : Index → List ℕ
-index_text i =
-    index_magic ++ to_be_bytes w16 (length i.schema.columns) ++ flat_map head_text i.schema.columns
-    ++ to_be_bytes w32 i.rows ++ to_be_bytes w32 (length i.slots) ++ flat_map slot_text i.slots
+index_text i = front_text i.schema i.rows (length i.slots) ++ flat_map slot_text i.slots
 
 -- ---- the reading
 

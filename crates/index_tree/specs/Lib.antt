@@ -4,3 +4,4 @@ pub mod SlotViews
 pub mod IndexFaults
 pub mod Covering
 pub mod Names
+pub mod SlotTexts

@@ -5,9 +5,12 @@ mod fault;
 mod index;
 mod laws;
 mod lookup;
+mod packed;
 mod reach;
 mod reading;
+mod slot_text;
 mod slot_view;
+mod span;
 mod writing;
 
 pub use base_types::{Items, Keep, NoMemory};
@@ -15,8 +18,11 @@ pub use fault::IndexFault;
 pub use index::{Index, Slot};
 pub use laws::one_spelling;
 pub use lookup::covering;
+pub use packed::{PackedIndex, open};
 pub use reading::read;
-pub use writing::build;
+pub use slot_text::SlotText;
+pub use span::Span;
+pub use writing::{build, build_packed};
 
 /// The tiles of an index, in order of their first row and then of their first column, seen as a list.
 pub type Slots = Items<Slot>;

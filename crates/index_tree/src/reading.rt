@@ -87,7 +87,7 @@ fn make_name(alloc: Global, name: &str) -> Result<ColName, NoMemory>
 }
 
 /// The schema of so many columns, whose names differ, and what follows them.
-fn read_schema(alloc: Global, count: u16, bytes: &[u8]) -> Result<(Schema, &[u8]), Stop>
+pub(crate) fn read_schema(alloc: Global, count: u16, bytes: &[u8]) -> Result<(Schema, &[u8]), Stop>
     ensures columns { Reads (λ x. (x.0.columns, x.1.now)) result (heads_at [] count bytes.now) }
     ensures timed { IfOk result (λ x. x.0.timed ≡ true) }
 {

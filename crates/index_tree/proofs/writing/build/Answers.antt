@@ -10,7 +10,7 @@ use Rattle.index_tree.proofs.writing.build.Goals as goal
 pub put_slots-requires : goal.put_slots-requires
 put_slots-requires c =
     let i = c.args.index.now in
-    subst (λ (slots : List Slot). AllByRecursion FitsSlot slots) (sym c.items.ensures) (fits_all i.rows (length i.schema.columns) i.slots c.requires.few_rows c.requires.few_columns c.requires.each c.requires.cover)
+    subst (λ (slots : List Slot). AllByRecursion FitsSlot slots) (sym c.items-slots.ensures) (fits_all i.rows (length i.schema.columns) i.slots c.requires.few_rows c.requires.few_columns c.requires.each c.requires.cover)
 
 pub returns-clause-read : goal.returns-clause-read
 returns-clause-read c =

@@ -1,0 +1,84 @@
+ghost use Rattle.std.specs.Prelude.{◌≡◌, IfOk, Ok};
+ghost use Rattle.index_tree.specs.IndexText.{index_of};
+ghost use Rattle.index_tree.specs.IndexRules.{IsIndex};
+ghost use Rattle.index_tree.specs.IndexFaults.{Reads};
+ghost use Rattle.index_tree.specs.declared.index.Index.{Index};
+
+use crate::fault::Stop;
+use crate::reading::read_schema;
+use crate::slot_text::SlotText;
+use base_types::NoMemory;
+use byte_fields::{read_magic, read_u16, read_u32};
+use frame_core::Schema;
+use std::alloc::Global;
+use std::marker::Model;
+
+/// An index whose slots stay as they are spelled. Contracts see the index.
+#[derive(Debug, Drop)]
+pub struct PackedIndex {
+    schema: Schema,
+    rows: u64,
+    slots: SlotText,
+}
+
+impl Model for PackedIndex {
+    ghost use Rattle.index_tree.specs.declared.index.Index.{Index};
+
+    ghost Value = { Index };
+
+    ghost view = { λ p. record { schema = p.schema; rows = p.rows; slots = p.slots } };
+}
+
+impl PackedIndex {
+    /// The columns of the frame.
+    pub fn schema(&self) -> &Schema
+        ensures { result.now ≡ self.now.schema }
+    {
+        &self.schema
+    }
+
+    /// How many rows the frame has.
+    pub fn rows(&self) -> u64
+        ensures { result ≡ self.now.rows }
+    {
+        self.rows
+    }
+
+    /// The tiles, in order of their first row and then of their first column.
+    pub fn slots(&self) -> &SlotText
+        ensures { result.now ≡ self.now.slots }
+    {
+        &self.slots
+    }
+}
+
+/// The index that bytes spell, of which it is known that they do: its columns are read, and the bytes of its slots are copied whole
+/// and not read.
+pub fn open(alloc: Global, bytes: &[u8]) -> Result<PackedIndex, NoMemory>
+    requires spelled { (index : Index) × (index_of bytes.now ≡ Ok index) }
+    ensures found { IfOk result (λ packed. index_of bytes.now ≡ Ok packed) }
+    ensures is_index { IfOk result IsIndex }
+{
+    match open_front(alloc, bytes) {
+        Ok(packed) => Ok(packed),
+        Err(Stop::NoMemory) => Err(NoMemory),
+        Err(Stop::Bad { .. }) => unreachable!(),
+    }
+}
+
+#[tactic(auto, unfolding(crate::specs::IndexText::index_of, crate::specs::IndexText::index_at))]
+fn open_front(alloc: Global, bytes: &[u8]) -> Result<PackedIndex, Stop>
+    requires spelled { (index : Index) × (index_of bytes.now ≡ Ok index) }
+    ensures { Reads (λ packed. packed) result (index_of bytes.now) }
+{
+    let rest = read_magic(b"AIX1".as_slice(), bytes)?;
+    let (columns, rest) = read_u16(rest)?;
+    let (schema, rest) = read_schema(alloc, columns, rest)?;
+    let (rows, rest) = read_u32(rest)?;
+    let (count, rest) = read_u32(rest)?;
+    Ok(PackedIndex {
+        schema,
+        rows: rows as u64,
+        slots: SlotText::of_bytes(alloc, count as usize, rest)?,
+    })
+}
