@@ -1,5 +1,5 @@
--- Links that are taken from the end of a list of marks, and of elements.
-use Rattle.std.proofs.Common.{◌≡◌, List, [], ◌∷◌, ◌++◌, reverse, refl, sym, ap, ◌∙◌, append_assoc}
+-- The links and Tombs of elements one behind another, and links that are taken from the end of a list.
+use Rattle.std.proofs.Common.{◌≡◌, ℕ, List, [], ◌∷◌, ◌++◌, reverse, refl, sym, ap, ◌∙◌, append_assoc}
 use Rattle.std.specs.Prelude.{filter_map}
 use Rattle.std.proofs.lemmas.List.{reverse-append, append-nil}
 use Rattle.std.proofs.lemmas.List.Elements.{filter_map-append}
@@ -7,7 +7,8 @@ use Rattle.store_model.specs.declared.chain.LinkRow.{LinkRow}
 use Rattle.store_model.specs.declared.chain.ChainMark.{ChainMark}
 use Rattle.store_model.specs.declared.chain.ChainMark.TheVariants as marks
 use Rattle.store_model.specs.declared.chain.Entry.{Entry}
-use Rattle.store_model.specs.Walks.{row_of, rows_in}
+use Rattle.store_model.specs.ChainText.{tomb_of}
+use Rattle.store_model.specs.Walks.{row_of, rows_in, tombs_in}
 
 -- one mark has at most one row
 one_row : (m : ChainMark) → reverse (filter_map row_of (m ∷ [])) ≡ filter_map row_of (m ∷ [])
@@ -29,10 +30,21 @@ links_more links links' ms rest m total is popped so_far =
     (ap (λ (xs : List ChainMark). reverse (filter_map row_of xs)) popped ∙ (ap reverse (filter_map-append row_of rest (m ∷ []))
     ∙ (reverse-append (filter_map row_of rest) (filter_map row_of (m ∷ [])) ∙ ap (λ (xs : List LinkRow). xs ++ reverse (filter_map row_of rest)) (one_row m)))) so_far
 
--- the rows of elements, and of one behind them
-rows_in-push : (es : List Entry) (e : Entry) → rows_in (es ++ e ∷ []) ≡ rows_in es ++ filter_map row_of e.changes
-rows_in-push [] e = append-nil (filter_map row_of e.changes)
-rows_in-push (x ∷ es) e = ap (λ (rs : List LinkRow). filter_map row_of x.changes ++ rs) (rows_in-push es e) ∙ sym (append_assoc (filter_map row_of x.changes) (rows_in es) (filter_map row_of e.changes))
+-- the rows and the Tombs of elements, and of others behind them
+pub rows_in-append : (xs ys : List Entry) → rows_in (xs ++ ys) ≡ rows_in xs ++ rows_in ys
+rows_in-append [] ys = refl
+rows_in-append (x ∷ xs) ys = ap (λ (rs : List LinkRow). filter_map row_of x.changes ++ rs) (rows_in-append xs ys) ∙ sym (append_assoc (filter_map row_of x.changes) (rows_in xs) (rows_in ys))
+
+pub tombs_in-append : (xs ys : List Entry) → tombs_in (xs ++ ys) ≡ tombs_in xs ++ tombs_in ys
+tombs_in-append [] ys = refl
+tombs_in-append (x ∷ xs) ys = ap (λ (ts : List ℕ). filter_map tomb_of x.changes ++ ts) (tombs_in-append xs ys) ∙ sym (append_assoc (filter_map tomb_of x.changes) (tombs_in xs) (tombs_in ys))
+
+-- and of one behind them
+pub rows_in-push : (es : List Entry) (e : Entry) → rows_in (es ++ e ∷ []) ≡ rows_in es ++ filter_map row_of e.changes
+rows_in-push es e = rows_in-append es (e ∷ []) ∙ ap (λ (rs : List LinkRow). rows_in es ++ rs) (append-nil (filter_map row_of e.changes))
+
+pub tombs_in-push : (es : List Entry) (e : Entry) → tombs_in (es ++ e ∷ []) ≡ tombs_in es ++ filter_map tomb_of e.changes
+tombs_in-push es e = tombs_in-append es (e ∷ []) ∙ ap (λ (ts : List ℕ). tombs_in es ++ ts) (append-nil (filter_map tomb_of e.changes))
 
 pub elements_more : (links links' : List LinkRow) (es rest : List Entry) (e : Entry) (total : List LinkRow) → links' ≡ links ++ reverse (filter_map row_of e.changes) → es ≡ rest ++ e ∷ [] → links ++ reverse (rows_in es) ≡ total
     → links' ++ reverse (rows_in rest) ≡ total

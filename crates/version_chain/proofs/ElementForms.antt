@@ -43,22 +43,23 @@ element_key_is h symbol key l is =
       last = (rules.stamps (ap has_stamps named.1)).1;
     }
 
+-- the reference is the key of an element
+pub reference_told : (h : History) (symbol : Name) (o : Option Key) → ∥ IsLawful h ∥₁ → o ≡ reference h symbol → IfSome o (IsElementKey symbol)
+reference_told h symbol None lawful e = tt
+reference_told h symbol (Some key) lawful e = record {
+  kind = ∥∥₁_elim lawful (hlevel props) (λ l. (element_key_is h symbol key l (sym e)).kind);
+  name = ∥∥₁_elim lawful (hlevel props) (λ l. (element_key_is h symbol key l (sym e)).name);
+  version = ∥∥₁_elim lawful (hlevel props) (λ l. (element_key_is h symbol key l (sym e)).version);
+  first = ∥∥₁_elim lawful (hlevel props) (λ l. (element_key_is h symbol key l (sym e)).first);
+  last = ∥∥₁_elim lawful (hlevel props) (λ l. (element_key_is h symbol key l (sym e)).last);
+}
+
 pub was_told : (h : History) (symbol : Name) (state : SymbolState) → ∥ IsLawful h ∥₁ → IsStateOf h symbol state → IfSome state.was (IsElementKey symbol)
-was_told h symbol state lawful s = by state.was s.was
-  where
-    by : (o : Option Key) → o ≡ reference h symbol → IfSome o (IsElementKey symbol)
-    by None e = tt
-    by (Some key) e = record {
-      kind = ∥∥₁_elim lawful (hlevel props) (λ l. (element_key_is h symbol key l (sym e)).kind);
-      name = ∥∥₁_elim lawful (hlevel props) (λ l. (element_key_is h symbol key l (sym e)).name);
-      version = ∥∥₁_elim lawful (hlevel props) (λ l. (element_key_is h symbol key l (sym e)).version);
-      first = ∥∥₁_elim lawful (hlevel props) (λ l. (element_key_is h symbol key l (sym e)).first);
-      last = ∥∥₁_elim lawful (hlevel props) (λ l. (element_key_is h symbol key l (sym e)).last);
-    }
+was_told h symbol state lawful s = reference_told h symbol state.was lawful s.was
 
 -- ---- the element
 
-prev_is : (symbol : Name) (o : Option Key) → IsName symbol → IfSome o (IsElementKey symbol) → IfSome o (IsKeyOf kinds.Version)
+pub prev_is : (symbol : Name) (o : Option Key) → IsName symbol → IfSome o (IsElementKey symbol) → IfSome o (IsKeyOf kinds.Version)
 prev_is symbol None name e = tt
 prev_is symbol (Some key) name e = record {
   kind_is = e.kind;

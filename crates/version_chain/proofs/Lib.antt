@@ -5,6 +5,8 @@ pub mod Steps
 pub mod Walked
 pub mod Collected
 pub mod Newest
+pub mod TipLaws
+pub mod TipReads
 pub mod TraceLemmas
 pub mod CallLemmas
 pub mod SteadyLemmas

@@ -341,7 +341,7 @@ versions_fall (events.Unname c snap ∷ h) symbol = versions_fall h symbol
 versions_fall (events.Drop c key ∷ h) symbol = versions_fall h symbol
 
 -- so do those of its links
-links_fall : (h : History) (symbol : Name) → IsLawful h → Falls (map (λ (l : Linked). l.row.version) (links h symbol))
+pub links_fall : (h : History) (symbol : Name) → IsLawful h → Falls (map (λ (l : Linked). l.row.version) (links h symbol))
 links_fall h symbol l = subst Falls (sym (by (links h symbol) (state_of h symbol).versions ((lawful_is_intact h l).versions symbol))) (versions_fall h symbol)
   where
     by : (ls : List Linked) (vs : List Version) → AllZip IsLinkOf ls vs → map (λ (l : Linked). l.row.version) ls ≡ map (λ (v : Version). v.number) vs
@@ -358,7 +358,7 @@ rises_reversed (n ∷ ns) f = onto n ns [] f tt
     onto n [] more f r = r
     onto n (m ∷ ns) more f r = onto m ns (n ∷ more) f.1 (f.0, r)
 
-map_map : {A B C : Type 0} (f : A → B) (g : B → C) (xs : List A) → map g (map f xs) ≡ map (λ x. g (f x)) xs
+pub map_map : {A B C : Type 0} (f : A → B) (g : B → C) (xs : List A) → map g (map f xs) ≡ map (λ x. g (f x)) xs
 map_map f g [] = refl
 map_map f g (x ∷ xs) = ap (λ ys. g (f x) ∷ ys) (map_map f g xs)
 

@@ -4,6 +4,7 @@ pub mod ChainFaults
 pub mod Reads
 pub mod States
 pub mod Elements
+pub mod Tips
 pub mod Traces
 pub mod Stops
 pub mod StoreCalls

@@ -37,7 +37,7 @@ pub(crate) fn collect(
 }
 
 /// Adds the versions of Tombs.
-fn add_tombs(tombs: &mut Items<u64>, marks: &[ChainMark]) -> Result<(), NoMemory>
+pub(crate) fn add_tombs(tombs: &mut Items<u64>, marks: &[ChainMark]) -> Result<(), NoMemory>
     ensures { OnOk result (tombs.new ≡ tombs.old ++ filter_map tomb_of marks.now) }
 {
     for mark in marks {
@@ -49,7 +49,7 @@ fn add_tombs(tombs: &mut Items<u64>, marks: &[ChainMark]) -> Result<(), NoMemory
 }
 
 /// The buried versions, those of the newest element first.
-fn find_tombs(alloc: Global, elements: &[Entry]) -> Result<Items<u64>, NoMemory>
+pub(crate) fn find_tombs(alloc: Global, elements: &[Entry]) -> Result<Items<u64>, NoMemory>
     ensures { IfOk result (λ tombs. tombs ≡ tombs_in elements.now) }
 {
     let mut tombs = Items::new(alloc);
@@ -164,7 +164,7 @@ fn add_links(links: &mut Items<LinkRow>, element: Entry) -> Result<(), NoMemory>
 }
 
 /// The links, the oldest first. They are moved and not copied.
-fn take_links(alloc: Global, elements: Items<Entry>) -> Result<Items<LinkRow>, NoMemory>
+pub(crate) fn take_links(alloc: Global, elements: Items<Entry>) -> Result<Items<LinkRow>, NoMemory>
     ensures { IfOk result (λ links. links ≡ reverse (rows_in elements)) }
 {
     let mut links = Items::new(alloc);

@@ -14,6 +14,7 @@ mod marks;
 mod pieces;
 mod snapshots;
 mod state;
+mod tip;
 mod walking;
 
 pub use base_types::NoMemory;
@@ -24,4 +25,5 @@ pub use laws::{elements_have_one_spelling, snapshots_have_one_spelling};
 pub use marking::{mark_on, refused_by};
 pub use snapshots::{snap_bytes, snap_read};
 pub use state::SymbolState;
+pub use tip::{ChainTip, walk_tip};
 pub use walking::walk;

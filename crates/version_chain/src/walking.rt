@@ -21,7 +21,7 @@ use std::sync::Wait;
 use store_model::Entry;
 
 /// The entry before those elements, of which the last is the oldest so far.
-fn next_entry<'a>(newest: &'a Key, elements: &'a [Entry]) -> Option<&'a Key>
+pub(crate) fn next_entry<'a>(newest: &'a Key, elements: &'a [Entry]) -> Option<&'a Key>
     ensures { option_copied result ≡ next_of newest.now elements.now }
 {
     match elements.last() {
@@ -34,7 +34,7 @@ fn next_entry<'a>(newest: &'a Key, elements: &'a [Entry]) -> Option<&'a Key>
 }
 
 /// The elements of the chain of which this is the newest entry, the newest first.
-fn read_elements<R: Wait, B: Bucket<StoreLaw>>(
+pub(crate) fn read_elements<R: Wait, B: Bucket<StoreLaw>>(
     rt: &R,
     alloc: Global,
     bucket: &mut B,
