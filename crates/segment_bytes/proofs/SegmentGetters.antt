@@ -15,11 +15,11 @@ use Rattle.frame_core.specs.Limits.{IsStorable}
 use Rattle.frame_core.specs.Columns.{cells_of}
 use Rattle.frame_core.proofs.Rows.{drop_at_place, length-rows_from, stamps-rows_from, cells_of-rows_from}
 use Rattle.segment_bytes.specs.declared.columns.ColumnBytes.{ColumnBytes}
-use Rattle.segment_bytes.specs.Sheets.{Series, Sheet, frame_of, series_text}
-use Rattle.segment_bytes.specs.Kept.{IsStored}
-use Rattle.segment_bytes.specs.Lying.{Spells, LiesAs}
+use Rattle.segment_bytes.specs.Sheets.{Series, Sheet, sheet_of, frame_of, series_text}
+use Rattle.segment_bytes.specs.Kept.{IsSeries, IsStored}
+use Rattle.segment_bytes.specs.Lying.{Spells, SpellsAll, LiesAs}
 use Rattle.segment_bytes.specs.Views.{sheet_in, frame_in, IsView, name_of, cells_in, IsColumnView}
-use Rattle.segment_bytes.proofs.Turning.{storable_wide}
+use Rattle.segment_bytes.proofs.Turning.{series-rows, storable_wide}
 use Rattle.segment_bytes.proofs.Walks.{all_at}
 use Rattle.segment_bytes.proofs.Getters.{wide_at, there, column_viewed}
 
@@ -76,6 +76,21 @@ pub view_cols : (bytes : List ℕ) (rows count : ℕ) (stamps columns : List ℕ
 view_cols bytes rows count stamps columns f v is =
     let s = sheet_in bytes in
     sym v.count_is ∙ sym (length-map s.columns (λ (c : Series). c.0)) ∙ ap (λ (g : Frame). length g.schema.columns) is
+
+-- ---- all columns
+
+series_stored : (rows : ℕ) (columns : List Series) → AllByRecursion (IsStored rows) columns → AllByRecursion (IsSeries rows) columns
+series_stored rows [] each = tt
+series_stored rows (c ∷ columns) each = (each.0.series, series_stored rows columns each.1)
+
+pub view_columns : (bytes : List ℕ) (rows count : ℕ) (stamps columns : List ℕ) (f : Frame) → IsView bytes rows count stamps columns → frame_in bytes ≡ f → (sheet_in bytes).columns ≡ (sheet_of f).columns
+view_columns bytes rows count stamps columns f v is =
+    let s = sheet_in bytes in
+    let each = subst (λ (n : ℕ). AllByRecursion (IsSeries n) s.columns) (sym v.rows_are) (series_stored rows s.columns v.each) in
+    sym (series-rows s.stamps s.columns each) ∙ ap (λ (g : Frame). (sheet_of g).columns) is
+
+pub view_spells : (bytes : List ℕ) (rows count : ℕ) (stamps columns : List ℕ) → IsView bytes rows count stamps columns → SpellsAll rows count columns (sheet_in bytes).columns
+view_spells bytes rows count stamps columns v = record { each = v.each; text = v.columns_text; count_is = v.count_is }
 
 -- ---- what is found in a column
 

@@ -2,8 +2,9 @@
 --     counted, last_from      cells and ends that were passed, as the bytes of text in them
 --     ends_in             the numbers of four bytes at the front
 --     width_at, skip_at   how long the cells of a spelled column are, and such a column as it lies in the bytes
+--     parts_at            the parts of a spelled segment
 use Rattle.std.specs.Prelude.{ℕ, suc, zero, ◌+◌, ◌-◌, ◌*◌, List, [], ◌∷◌, length, take, drop, Result, Ok, nat_eq, if◌then◌else◌}
-use Rattle.std.specs.Int.{w8, w32, from_be_bytes}
+use Rattle.std.specs.Int.{w8, w16, w32, from_be_bytes}
 use Rattle.byte_fields.specs.Reading.{Reading, ◌>>=◌, number_at, bytes_at}
 use Rattle.frame_core.specs.declared.cell.ColType.{ColType}
 use Rattle.frame_core.specs.declared.cell.ColType.TheVariants as types
@@ -53,3 +54,13 @@ skip_at rows bytes = do
   width ← width_at kind.0 rows name.1
   cells ← bytes_at width name.1
   Ok ((kind.0, name.0, cells.0), cells.1)
+
+-- the parts of a segment: how many rows and columns it has, the bytes from its stamps on, and those from its columns on, none
+-- of them tested
+unfoldable pub parts_at : List ℕ → Reading (ℕ × ℕ × List ℕ)
+parts_at bytes = do
+  magic ← bytes_at 4 bytes
+  rows ← number_at w32 magic.1
+  count ← number_at w16 rows.1
+  stamps ← bytes_at (8 * rows.0) count.1
+  Ok ((rows.0, count.0, count.1), stamps.1)

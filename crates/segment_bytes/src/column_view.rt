@@ -157,7 +157,7 @@ fn start_in(ends: &[u8], place: usize) -> usize
     }
 }
 
-/// Bytes of UTF-8 as a text. A view has tested them, so they are not tested again.
+/// Bytes of UTF-8 as a text. In a view they are known to be so, and they are not tested again.
 pub fn text_in(bytes: &[u8]) -> &str
     requires { IsUtf8 bytes.now }
     ensures { result.now ≡ bytes.now }

@@ -5,15 +5,18 @@ ghost use Rattle.frame_core.specs.Frames.{Frame as Table, stamp_at, cell_at, typ
 ghost use Rattle.frame_core.specs.Columns.{cells_of};
 ghost use Rattle.frame_core.specs.declared.cell.Cell.TheVariants.{Int as int_cell, Flag as flag_cell, Text as text_cell, Stamp as stamp_cell};
 ghost use Rattle.frame_core.specs.Limits.{IsStorable};
+ghost use Rattle.segment_bytes.specs.Sheets.{sheet_of};
 ghost use Rattle.segment_bytes.specs.Segments.{segment_text, segment_of};
+ghost use Rattle.segment_bytes.specs.Skipping.{parts_at};
 ghost use Rattle.segment_bytes.specs.Views.{name_of};
 
 use crate::column_view::{ColumnView, number_in, text_in};
 use crate::columns::{find_column, skip_columns};
 use crate::copying::{copy_columns, copy_names, copy_stamps};
+use crate::named_column::{NamedColumn, split_columns};
 use crate::sheet::{read_count, read_rows, skip_stamps};
-use byte_fields::read_magic;
-use frame_core::{CellRef, ColType, Frame, NoMemory, RawFrame};
+use byte_fields::{read_bytes, read_magic, read_u16, read_u32};
+use frame_core::{CellRef, ColType, Frame, Items, NoMemory, RawFrame};
 use std::alloc::Global;
 use std::marker::Model;
 
@@ -90,6 +93,37 @@ fn read_segment(bytes: &[u8]) -> Result<SegView<'_>, usize>
     })
 }
 
+/// The view of bytes that are known to be a segment, in constant time: nothing in them is tested.
+pub fn view_spelled(bytes: &[u8]) -> SegView<'_>
+    requires { (f : Table) × (segment_of bytes.now ≡ Ok f) }
+    ensures found { segment_of bytes.now ≡ Ok result }
+    ensures spelled { bytes.now ≡ segment_text result }
+    ensures storable { IsStorable result }
+{
+    match parts(bytes) {
+        Ok((rows, count, stamps, columns)) => SegView {
+            bytes,
+            rows,
+            count,
+            stamps,
+            columns,
+        },
+        Err(_) => unreachable!(),
+    }
+}
+
+/// How many rows and columns there are, the bytes from the stamps on, and those from the columns on.
+#[tactic(auto, unfolding(crate::specs::Skipping::parts_at))]
+fn parts(bytes: &[u8]) -> Result<(u32, u16, &[u8], &[u8]), usize>
+    ensures { Gives (λ x. ((x.0, x.1, x.2.now), x.3.now)) result (parts_at bytes.now) }
+{
+    let (_, rest) = read_bytes(4, bytes)?;
+    let (rows, rest) = read_u32(rest)?;
+    let (count, stamps) = read_u16(rest)?;
+    let (_, columns) = read_bytes(8 * rows as usize, stamps)?;
+    Ok((rows, count, stamps, columns))
+}
+
 impl<'a> SegView<'a> {
     /// How many rows there are.
     pub fn rows(&self) -> u64
@@ -141,6 +175,13 @@ impl<'a> SegView<'a> {
     {
         let found = find_column(self.rows, self.columns, col);
         ColumnView::new(found.kind, self.rows, found.cells)
+    }
+
+    /// Each column with its name, found in one pass that skips their cells in constant time.
+    pub fn columns(&self, alloc: Global) -> Result<Items<NamedColumn<'a>>, NoMemory>
+        ensures { IfOk result (λ columns. columns ≡ (sheet_of self.now).columns) }
+    {
+        split_columns(alloc, self.rows, self.count, self.columns)
     }
 
     /// The cell of a column at a row, both counted from 0.
