@@ -25,7 +25,7 @@ use Rattle.frame_read.specs.declared.tiles.FetchedTile.{FetchedTile}
 use Rattle.frame_read.specs.declared.tiles.Tiles.{Tiles}
 use Rattle.frame_read.specs.TileSets.{is_asked}
 use Rattle.frame_read.specs.Wholes.{HoldsPart, AreTilesOf}
-use Rattle.frame_read.specs.Gathers.{cells_gathered, stamps_gathered, HasType, IsOpened}
+use Rattle.frame_read.specs.Gathers.{cells_gathered, stamps_gathered, HasType, HasSegment, IsOpened}
 use Rattle.frame_read.proofs.GatherLemmas.{Covers, other_name, slice_below, stamps_all, cells_all}
 use Rattle.frame_read.proofs.AskLemmas.{self_text, IsAnswer, answer}
 
@@ -83,6 +83,11 @@ opened_parts f [] [] all held = tt
 opened_parts f [] (t ∷ ts) all held = absurd all
 opened_parts f (x ∷ fs) [] all held = absurd all
 opened_parts f (x ∷ fs) (t ∷ ts) all held = (ok_frames t.1 (cut f x.part) (sym all.0.frame ∙ held.0) ∙ ap (cut f) (sym all.0.part), opened_parts f fs ts all.1 held.1)
+
+-- the bytes of each tile spell its part
+pub parts_spelled : (f : Frame) (fs : List FetchedTile) → AllByRecursion (HoldsPart f) fs → AllByRecursion HasSegment fs
+parts_spelled f [] held = tt
+parts_spelled f (x ∷ fs) held = ((cut f x.part, held.0), parts_spelled f fs held.1)
 
 -- what was opened and put in order
 pub record AreSorted (self : Tiles) (sorted : List Tile) : Type 0 where

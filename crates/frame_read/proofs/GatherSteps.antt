@@ -11,6 +11,7 @@ use Rattle.frame_core.specs.Selecting.{place_of}
 use Rattle.frame_core.specs.Frames.{Row, IsFrame, type_at, stamps_of}
 use Rattle.frame_core.specs.Columns.{cells_of}
 use Rattle.frame_core.proofs.ColumnParts.{slice-map}
+use Rattle.frame_core.proofs.Rows.{length-cells_of}
 use Rattle.segment_cut.specs.Tiles.{Tile}
 use Rattle.segment_cut.proofs.Wholes.{widths}
 use Rattle.segment_cut.proofs.Cuts.{cells_of-slice}
@@ -21,6 +22,10 @@ pub type_below : (heads : List Head) (k : ℕ) (kind : ColType) → option_map (
 type_below [] k kind e = absurd cc
 type_below (h ∷ heads) zero kind e = omega arith
 type_below (h ∷ heads) (suc k) kind e = let rest : k < length heads = type_below heads k kind e in omega (arith, rest)
+
+-- a tile's column has a cell for each row
+pub cells-long : (t : Tile) (k : ℕ) (kind : ColType) (lent : List Cell) → IsFrame t.1 → type_at t.1 k ≡ Some kind → lent ≡ cells_of k t.1.rows → length lent ≡ length t.1.rows
+cells-long t k kind lent is at are = ap length are ∙ length-cells_of (length t.1.schema.columns) k t.1.rows (type_below t.1.schema.columns k kind at) (widths t.1 is)
 
 pub part-cells : (t : Tile) (k a b : ℕ) (kind : ColType) (range : Range) (reached : ℕ) (lent part old new : List Cell) → IsFrame t.1 → type_at t.1 k ≡ Some kind → lent ≡ cells_of k t.1.rows → part ≡ slice_range lent a b → slice_range t.1.rows a b ≡ fresh range reached t
     → new ≡ old ++ part → new ≡ old ++ cells_of k (fresh range reached t)
@@ -35,7 +40,7 @@ next [] x i lt at = absurd (omega arith)
 next (y ∷ xs) x zero lt at = ap (λ z. z ∷ xs) (sym at)
 next (y ∷ xs) x (suc i) lt at = let one : suc i + 1 ≡ suc (i + 1) = omega arith in rw one (next xs x i (omega arith) at)
 
-all-at : {X : Type 0} (P : X → Type 0) (xs : List X) (x : X) (i : ℕ) → AllByRecursion P xs → i < length xs → x ≡ get_or xs i x → P x
+pub all-at : {X : Type 0} (P : X → Type 0) (xs : List X) (x : X) (i : ℕ) → AllByRecursion P xs → i < length xs → x ≡ get_or xs i x → P x
 all-at P [] x i all lt at = absurd (omega arith)
 all-at P (y ∷ xs) x zero all lt at = subst P (sym at) all.0
 all-at P (y ∷ xs) x (suc i) all lt at = all-at P xs x i all.1 (omega arith) at

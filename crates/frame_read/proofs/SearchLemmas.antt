@@ -1,6 +1,6 @@
--- A search by halves ends where the rows that it passes end.
+-- A search by halves ends where the rows that it passes end; a column is found by its name and at its place.
 use Rattle.std.proofs.Common.{◌≡◌, ℕ, zero, suc, ◌+◌, ◌-◌, ◌≤◌, ◌<◌, ℤ, ◌≤ℤ◌, Bool, true, false, not, List, [], ◌∷◌, length, drop, get_or, map, Option, Some, None, refl, sym, ap, ◌∙◌, subst, arith}
-use Rattle.std.specs.Prelude.{slice_get, int_lt, count_by}
+use Rattle.std.specs.Prelude.{slice_get, int_lt, count_by, option_map}
 use Rattle.std.specs.Option.{option_map_or}
 use Rattle.std.specs.List.{position_from}
 use Rattle.std.proofs.lemmas.Bool.{true≢false}
@@ -8,8 +8,16 @@ use Rattle.std.proofs.lemmas.Int.{ints}
 use Rattle.std.proofs.lemmas.List.{length-drop}
 use Rattle.std.proofs.lemmas.Option.{get_or_from_slice_get, slice_get_within}
 use Rattle.frame_core.specs.Ranges.{Range}
-use Rattle.frame_core.specs.Frames.{NeverFall}
+use Rattle.frame_core.specs.Texts.{Text, same_text}
+use Rattle.frame_core.specs.Schemas.{Head}
+use Rattle.frame_core.specs.Frames.{Frame, NeverFall, type_at}
+use Rattle.frame_core.specs.Columns.{cells_of}
+use Rattle.frame_core.specs.Selecting.{place_of}
 use Rattle.frame_core.proofs.Counts.{far, count_at_point}
+use Rattle.frame_core.proofs.Rows.{drop_at_place}
+use Rattle.segment_bytes.specs.Sheets.{Series, sheet_of}
+use Rattle.segment_bytes.proofs.Turning.{heads-series_from}
+use Rattle.segment_bytes.proofs.Writes.{column-at}
 use Rattle.frame_read.specs.declared.searching.Edge.{Edge}
 use Rattle.frame_read.specs.declared.searching.Edge.TheVariants as edges
 use Rattle.frame_read.specs.Gathers.{passes}
@@ -58,13 +66,28 @@ edge_count edge range ts first low le most passed left =
     ) in
     omega (arith, count, le)
 
--- ---- the place of a name
+-- ---- columns of a tile
 
--- the place of a name among columns is that among their names
-pub position_map : {X Y : Type 0} (p : Y → Bool) (f : X → Y) (n : ℕ) (xs : List X) → position_from p n (map f xs) ≡ position_from (λ (x : X). p (f x)) n xs
+-- the place of a name among columns is that among their names and types
+position_map : {X Y : Type 0} (p : Y → Bool) (f : X → Y) (n : ℕ) (xs : List X) → position_from p n (map f xs) ≡ position_from (λ (x : X). p (f x)) n xs
 position_map p f n [] = refl
 position_map {X = X} p f n (x ∷ xs) = by (p (f x)) refl (position_map p f (n + 1) xs)
   where
     by : (b : Bool) → p (f x) ≡ b → position_from p (n + 1) (map f xs) ≡ position_from (λ (x : X). p (f x)) (n + 1) xs → position_from p n (map f (x ∷ xs)) ≡ position_from (λ (x : X). p (f x)) n (x ∷ xs)
     by true e more = rw e refl
     by false e more = rw e more
+
+pub place-sheet : (f : Frame) (name : Text) → position_from (λ (column : Series). same_text name column.0.0) 0 (sheet_of f).columns ≡ place_of name f.schema.columns
+place-sheet f name =
+    sym (position_map (λ (head : Head). same_text name head.0) (λ (column : Series). column.0) 0 (sheet_of f).columns)
+    ∙ ap (position_from (λ (head : Head). same_text name head.0) 0) (heads-series_from 0 f.schema.columns f.rows)
+
+-- the column at a place of a frame
+pub column-sheet : (f : Frame) (place : ℕ) (column : Series) → place < length f.schema.columns → slice_get (sheet_of f).columns place ≡ Some column → (type_at f place ≡ Some column.0.1) × (column.1 ≡ cells_of place f.rows)
+column-sheet f place column lt found =
+    let at = drop_at_place place f.schema.columns lt in
+    let is : column ≡ (at.0, cells_of place f.rows) = some_is column (at.0, cells_of place f.rows) (sym found ∙ column-at f place at.0 at.1) in
+    (ap (option_map (λ (head : Head). head.1)) at.1 ∙ ap (λ (c : Series). Some c.0.1) (sym is), ap (λ (c : Series). c.1) is)
+  where
+    some_is : (a b : Series) → Some a ≡ Some b → a ≡ b
+    some_is a b h = let k : a ≡ b = cc in k

@@ -3,7 +3,7 @@
 --     fresh, reach        the rows of a tile in the range that lie beyond a row, and how far the tile reaches
 --     cells_gathered, stamps_gathered     the cells of a column, and the stamps, of tiles in turn
 --     HasType             a tile's column of a name is of a type
---     IsOpened            a tile in memory is the one that was fetched
+--     HasSegment, IsOpened        a tile's bytes are a segment, and a tile in memory is the one that was fetched
 --     AreOfFrame          tiles of some frame
 use Rattle.std.specs.Prelude.{◌≡◌, Bool, not, ℕ, ◌+◌, ◌-◌, max, ℤ, List, [], ◌∷◌, ◌++◌, length, drop, Option, Some, None, Ok}
 use Rattle.std.specs.Arc.{arc_value}
@@ -52,6 +52,10 @@ stamps_gathered range reached (t ∷ ts) = stamps_of (fresh range reached t) ++ 
 -- the column of this name, where the tile has it, is of this type
 abbrev pub HasType : Head → Tile → Type 0
 HasType head t = (place : ℕ) → place_of head.0 t.1.schema.columns ≡ Some place → type_at t.1 place ≡ Some head.1
+
+-- the tile's bytes spell a frame
+abbrev pub HasSegment : FetchedTile → Type 0
+HasSegment tile = (frame : Frame) × (segment_of (arc_value tile.body) ≡ Ok frame)
 
 -- the tile in memory has the part and the rows of the one that was fetched
 pub record IsOpened (fetched : FetchedTile) (t : Tile) : Type 0 where

@@ -7,7 +7,7 @@ ghost use Rattle.frame_core.specs.Schemas.{Head};
 ghost use Rattle.frame_core.specs.Frames.{IsFrame, type_at};
 ghost use Rattle.frame_core.specs.Columns.{column_type, column_cells, cells_of};
 ghost use Rattle.segment_cut.specs.Tiles.{Tile};
-ghost use Rattle.frame_read.specs.Gathers.{fresh, reach, cells_gathered, stamps_gathered, HasType, IsOpened};
+ghost use Rattle.frame_read.specs.Gathers.{fresh, reach, cells_gathered, stamps_gathered, HasType, HasSegment, IsOpened};
 
 use crate::copying::{cells_between, stamps_between};
 use crate::searching::{Edge, edge_row};
@@ -15,7 +15,7 @@ use crate::tile_view::TileView;
 use crate::tiles::FetchedTile;
 use base_types::{Items, NoMemory};
 use frame_core::{ColName, ColType, Column, Part, Range};
-use segment_bytes::view;
+use segment_bytes::view_spelled;
 use std::alloc::Global;
 
 /// The tiles, each viewed once where its bytes lie.
@@ -23,6 +23,7 @@ pub(crate) fn opened<'a>(
     alloc: Global,
     tiles: &'a [FetchedTile],
 ) -> Result<Vec<(Part, TileView<'a>)>, NoMemory>
+    requires { AllByRecursion HasSegment tiles.now }
     ensures { IfOk result (λ made. AllZip IsOpened tiles.now made.items) }
 {
     let mut made = Vec::with_capacity(alloc, tiles.len())?;
@@ -33,14 +34,12 @@ pub(crate) fn opened<'a>(
     Ok(made)
 }
 
-/// The view of a tile's segment. What was put as a tile is always read, so only memory can be wanting.
+/// The view of a tile's segment.
 fn opened_frame(alloc: Global, tile: &FetchedTile) -> Result<TileView<'_>, NoMemory>
+    requires { HasSegment tile.now }
     ensures { IfOk result (λ frame. IsOpened tile.now (tile.now.part, frame)) }
 {
-    match view(tile.body.bytes()) {
-        Ok(segment) => TileView::make(alloc, segment),
-        Err(_) => Err(NoMemory),
-    }
+    TileView::make(alloc, view_spelled(tile.body.bytes()))
 }
 
 /// Puts the tiles in the order of their first rows.
@@ -64,10 +63,21 @@ pub(crate) fn gathered_stamps(
     for tile in tiles {
         let (from, to) = fresh_rows(range, reached, tile);
         let more = stamps_between(alloc, &tile.1, from, to)?;
-        stamps.extend(more.items())?;
+        put_stamps(&mut stamps, more)?;
         reached = reach_of(reached, tile)?;
     }
     Ok(stamps)
+}
+
+/// Puts stamps behind these. The first are moved and not copied.
+fn put_stamps(stamps: &mut Items<i64>, more: Items<i64>) -> Result<(), NoMemory>
+    ensures { OnOk result (stamps.new ≡ stamps.old ++ more) }
+{
+    if stamps.is_empty() {
+        *stamps = more;
+        return Ok(());
+    }
+    stamps.extend(more.items())
 }
 
 /// The columns of these names and types that the tiles have in the range.
@@ -124,7 +134,20 @@ fn add_cells(
     ensures kind { column_type column.new ≡ column_type column.old }
 {
     let (from, to) = fresh_rows(range, reached, tile);
-    let more = cells_between(alloc, &tile.1.column(place), from, to)?;
+    let more = cells_between(alloc, tile.1.column(place), from, to)?;
+    put_cells(column, more)
+}
+
+/// Puts the cells of a column behind these. The first are moved and not copied.
+fn put_cells(column: &mut Column, more: Column) -> Result<(), NoMemory>
+    requires { column_type more ≡ column_type column.old }
+    ensures cells { OnOk result (column_cells column.new ≡ column_cells column.old ++ column_cells more) }
+    ensures kind { column_type column.new ≡ column_type column.old }
+{
+    if column.len() == 0 {
+        *column = more;
+        return Ok(());
+    }
     column.append(&more)
 }
 

@@ -35,7 +35,7 @@ pub struct Tiles {
 impl Tiles {
     /// What is asked, as a frame in memory of its own: the rows in the range, and of these the asked columns in the order asked.
     ///
-    /// Each tile is tested once where its bytes lie, and only the cells in the range are copied.
+    /// Each tile is read where its bytes lie: its fields are not tested again, and only the cells in the range are copied.
     pub fn to_frame(&self, alloc: Global) -> Result<Frame, NoMemory>
         requires { AreOfFrame self.now }
         ensures { IfOk result (λ made. (f : Table) (columns : Option (List Text)) → IsFrame f → AreTilesOf f self.now.range columns self.now → ask f self.now.range columns ≡ Ok made) }

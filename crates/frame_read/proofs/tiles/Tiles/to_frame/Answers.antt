@@ -1,5 +1,8 @@
-use Rattle.frame_read.proofs.FrameLemmas.{types_are, made_whole, made_asked}
+use Rattle.frame_read.proofs.FrameLemmas.{parts_spelled, types_are, made_whole, made_asked}
 use Rattle.frame_read.proofs.tiles.Tiles.to_frame.Goals as goal
+
+pub opened-requires : goal.opened-requires
+opened-requires c = rw c.items.ensures (parts_spelled c.requires.frame c.args.self.now.tiles c.requires.tiles_of.parts)
 
 pub gathered_columns-requires : goal.gathered_columns-requires
 gathered_columns-requires c =
