@@ -1,29 +1,15 @@
 -- The element of a new version keeps the rules of elements.
-use Rattle.std.proofs.Common.{ℕ, List, [], ◌∷◌, map, ap, sym, ◌∙◌, subst, Option, Some, None}
+use Rattle.std.proofs.Common.{ℕ, List, [], ◌∷◌, map, Option, Some, None}
 use Rattle.std.specs.Prelude.{IfSome}
 use Rattle.std.specs.List.{AllByRecursion}
-use Rattle.std.proofs.lemmas.Bool.{true≢false}
-use Rattle.key_kind.specs.declared.key.KeyKind.TheVariants as kinds
 use Rattle.key_kind.specs.declared.key.Key.{Key}
 use Rattle.key_kind.specs.Names.{Name, IsName}
-use Rattle.key_kind.specs.Keys.{is_put}
 use Rattle.store_model.specs.declared.chain.LinkRow.{LinkRow}
 use Rattle.store_model.specs.declared.chain.ChainMark.TheVariants as marks
 use Rattle.store_model.specs.Commits.{Rising}
-use Rattle.version_chain.specs.Entries.{IsKeyOf, IsLink, IsMark, IsAbove, AreTombsAndDiscard, IsEntry}
-use Rattle.frame_write.specs.Placing.{IsElementKey}
-
-prev_is : (symbol : Name) (o : Option Key) → IsName symbol → IfSome o (IsElementKey symbol) → IfSome o (IsKeyOf kinds.Version)
-prev_is symbol None name e = tt
-prev_is symbol (Some key) name e = record {
-  kind_is = e.kind;
-  is_key = record {
-    name = subst IsName (sym e.name) name;
-    made = λ x. absurd (true≢false (sym (ap is_put e.kind) ∙ x));
-    version = λ x. e.version;
-    stamps = λ x. (e.first, e.last);
-  };
-}
+use Rattle.version_chain.specs.Entries.{IsLink, IsMark, IsAbove, AreTombsAndDiscard, IsEntry}
+use Rattle.version_chain.specs.MarkPlans.{IsElementKey}
+use Rattle.version_chain.proofs.ElementForms.{prev_is}
 
 tombs_rise : (before : Option ℕ) (n : ℕ) (ns : List ℕ) → IsAbove before n → Rising (n ∷ ns) → AreTombsAndDiscard before (map marks.Tomb (n ∷ ns))
 tombs_rise before n [] above r = (above, tt)

@@ -1,4 +1,4 @@
--- One try over a walked state: the plan is one for the client's next puts, and its commit makes what was asked.
+-- One try on a walked tip: the plan is one for the client's next puts, and its commit makes what was asked.
 use Rattle.std.proofs.Common.{◌≡◌, ℕ, suc, ◌≤◌, ℤ, true, false, cond, [], ◌∷◌, ◌++◌, length, ap, sym, ◌∙◌, subst, arith, nat_eq}
 use Rattle.index_tree.specs.declared.index.Index.{Index}
 use Rattle.key_kind.specs.Names.{Name}
@@ -6,7 +6,7 @@ use Rattle.bucket_core.specs.declared.event.Event.TheVariants as events
 use Rattle.bucket_core.specs.History.{History, puts_by, history_at}
 use Rattle.store_model.specs.Law.{IsLawful}
 use Rattle.store_model.specs.Library.{state_of}
-use Rattle.version_chain.specs.declared.state.SymbolState.{SymbolState}
+use Rattle.version_chain.specs.declared.tip.ChainTip.{ChainTip}
 use Rattle.reply_model.proofs.Places.{history_at_end}
 use Rattle.reply_model.proofs.Later.{history_at_later}
 use Rattle.frame_write.specs.declared.options.Options.{Options}
@@ -28,18 +28,18 @@ serials_grow client before (events.Name c snap body ∷ later) = serials_grow cl
 serials_grow client before (events.Unname c snap ∷ later) = serials_grow client before later
 serials_grow client before (events.Drop c key ∷ later) = serials_grow client before later
 
--- the walked state is the symbol's where it was walked, and the next serial is no lower than there
-pub may_plan : (client : ℕ) (h : History) (symbol : Name) (state : SymbolState) (at : ℤ) (link : LinkPlan) → ∥ IsLawful h ∥₁ → (l : IsLinkable client h symbol state at link) → MayPlan client (puts_by client h) l.walked.before symbol state
-may_plan client h symbol state at link lawful l = record {
+-- the tip is the symbol's where it was walked, and the next serial is no lower than there
+pub may_plan : (client : ℕ) (h : History) (symbol : Name) (tip : ChainTip) (options : Options) (link : LinkPlan) → ∥ IsLawful h ∥₁ → (l : IsLinkable client h symbol tip options link) → MayPlan client (puts_by client h) l.walked.before symbol options.prune tip
+may_plan client h symbol tip options link lawful l = record {
   lawful = walked_lawful h l.walked.later l.walked.before l.walked.split lawful;
-  is_state = l.walked.is;
+  is_tip = l.walked.is;
   serial_is = subst (λ g. puts_by client l.walked.before ≤ puts_by client g) (sym l.walked.split) (serials_grow client l.walked.before l.walked.later);
 }
 
 -- a plan for the client's next puts
-abbrev pub planned : (client : ℕ) (h : History) (symbol : Name) (state : SymbolState) (link : LinkPlan) (options : Options) (plan : Plan) (l : IsLinkable client h symbol state options.at link)
+abbrev pub planned : (client : ℕ) (h : History) (symbol : Name) (tip : ChainTip) (link : LinkPlan) (options : Options) (plan : Plan) (l : IsLinkable client h symbol tip options link)
     → (p : IsPlanOf client (puts_by client h) l.walked.before symbol options link.change link.pieces plan) → IsPlanned client h symbol p.index plan
-planned client h symbol state link options plan l p = record {
+planned client h symbol tip link options plan l p = record {
   later = l.walked.later;
   before = l.walked.before;
   split = l.walked.split;
@@ -47,9 +47,9 @@ planned client h symbol state link options plan l p = record {
   is_plan = p.is_plan;
 }
 
--- the state at the place that was walked
-pub walked_state : (client : ℕ) (h : History) (symbol : Name) (state : SymbolState) (at : ℤ) (link : LinkPlan) (l : IsLinkable client h symbol state at link) → state_of l.walked.before symbol ≡ state_of (history_at h state.place) symbol
-walked_state client h symbol state at link l =
+-- the state at the place of the walk
+pub walked_state : (client : ℕ) (h : History) (symbol : Name) (tip : ChainTip) (options : Options) (link : LinkPlan) (l : IsLinkable client h symbol tip options link) → state_of l.walked.before symbol ≡ state_of (history_at h tip.place) symbol
+walked_state client h symbol tip options link l =
     let there : history_at (l.walked.later ++ l.walked.before) (length l.walked.before) ≡ l.walked.before = history_at_later l.walked.before l.walked.later (length l.walked.before) (omega arith) ∙ history_at_end l.walked.before in
     ap (λ g. state_of g symbol) (sym there ∙ (λ i. history_at (sym l.walked.split i) (sym l.walked.place i)))
 
@@ -64,8 +64,8 @@ link_made client serial symbol before link options plan p m b = record {
 }
 
 -- what was planned for a client and a serial that were read is planned for those of the bucket
-pub made_told : (client serial c s : ℕ) → c ≡ client → s ≡ serial → (before : History) (symbol : Name) (state : SymbolState) (link : LinkPlan) (options : Options) (plan : Plan) → MayPlan client serial before symbol state
-    → (MayPlan c s before symbol state → IsPlanOf c s before symbol options link.change link.pieces plan) → IsPlanOf client serial before symbol options link.change link.pieces plan
-made_told client serial c s client_is serial_is before symbol state link options plan may make =
-    let there : MayPlan c s before symbol state = subst (λ n. MayPlan n s before symbol state) (sym client_is) (subst (λ n. MayPlan client n before symbol state) (sym serial_is) may) in
+pub made_told : (client serial c s : ℕ) → c ≡ client → s ≡ serial → (before : History) (symbol : Name) (tip : ChainTip) (link : LinkPlan) (options : Options) (plan : Plan) → MayPlan client serial before symbol options.prune tip
+    → (MayPlan c s before symbol options.prune tip → IsPlanOf c s before symbol options link.change link.pieces plan) → IsPlanOf client serial before symbol options link.change link.pieces plan
+made_told client serial c s client_is serial_is before symbol tip link options plan may make =
+    let there : MayPlan c s before symbol options.prune tip = subst (λ n. MayPlan n s before symbol options.prune tip) (sym client_is) (subst (λ n. MayPlan client n before symbol options.prune tip) (sym serial_is) may) in
     subst (λ n. IsPlanOf client n before symbol options link.change link.pieces plan) serial_is (subst (λ n. IsPlanOf n s before symbol options link.change link.pieces plan) client_is (make there))

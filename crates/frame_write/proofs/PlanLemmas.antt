@@ -34,10 +34,10 @@ use Rattle.store_model.specs.declared.chain.LinkRow.{LinkRow}
 use Rattle.store_model.specs.declared.chain.ChainMark.{ChainMark}
 use Rattle.store_model.specs.declared.chain.ChainMark.TheVariants as marks
 use Rattle.store_model.specs.ChainText.{entry_of}
-use Rattle.store_model.specs.Law.{IsLawful}
 use Rattle.store_model.specs.Library.{State, Piece, state_of, next_number, live_versions}
-use Rattle.version_chain.specs.declared.state.SymbolState.{SymbolState}
-use Rattle.version_chain.specs.States.{IsStateOf}
+use Rattle.version_chain.specs.declared.tip.ChainTip.{ChainTip}
+use Rattle.version_chain.specs.Marking.{element_key}
+use Rattle.version_chain.specs.Tips.{IsTipOf}
 use Rattle.store_model.specs.Commits.{HasSlotStamps, marks_of, MayRefer, IsFilled}
 use Rattle.store_model.proofs.Writing.{wrote_may_follow}
 use Rattle.store_model.proofs.Untouched.{as_it_was}
@@ -48,13 +48,12 @@ use Rattle.store_model.proofs.Lists.{all_weaker}
 use Rattle.reply_model.specs.Answering.{removed, pruned, live_numbers}
 use Rattle.reply_model.specs.Tries.{IsTry, Before, of_version, IsKeyOf, keys_of_puts}
 use Rattle.frame_write.specs.declared.tiles.Tile.{Tile}
-use Rattle.frame_write.specs.Placing.{IsTileOf, AreTilesOf, slot_at, placed, tile_puts, index_key, element_key, live_of, next_of}
+use Rattle.frame_write.specs.Placing.{IsTileOf, AreTilesOf, slot_at, placed, tile_puts, index_key}
 use Rattle.frame_write.specs.Plans.{ArePutsFrom, put_seen, puts_seen}
 use Rattle.frame_write.specs.WritePlans.{IsWritePlan}
 use Rattle.frame_write.specs.declared.options.Options.{Options}
 use Rattle.frame_write.specs.declared.puts.Prepared.{Prepared}
 use Rattle.frame_write.specs.declared.plan.Plan.{Plan}
-use Rattle.frame_write.proofs.StateLemmas.{live_told, next_told}
 use Rattle.frame_write.proofs.GridSlots.{HasTileKey, index_rules}
 
 pub ok_is_ok : {A E : Type 0} (r : Result A E) (a : A) → r ≡ Ok a → IsOk r
@@ -269,9 +268,9 @@ seen_append : (xs ys : List Prepared) → puts_seen (xs ++ ys) ≡ puts_seen xs 
 seen_append [] ys = refl
 seen_append (x ∷ xs) ys = ap (λ l. put_seen x ∷ l) (seen_append xs ys)
 
-pub pruned_is : (st : State) (prune : Bool) (live numbers : List ℕ) → live ≡ live_numbers st → numbers ≡ (if prune then live else []) → removed numbers ≡ pruned st prune
-pruned_is st true live numbers same is = ap removed (is ∙ same)
-pruned_is st false live numbers same is = ap removed is
+pub pruned_is : (st : State) (prune : Bool) (numbers : List ℕ) → numbers ≡ (if prune then live_numbers st else []) → removed numbers ≡ pruned st prune
+pruned_is st true numbers is = ap removed is
+pruned_is st false numbers is = ap removed is
 
 -- the changes of a write, on a symbol as it was
 abbrev changes_on : History → Name → Frame → ℤ → Bool → List Change
@@ -294,25 +293,23 @@ buries_staging st more _ buries_none = buries_none
 buries_staging st more _ (buries_live some) = buries_live some
 
 -- what a plan is made of
-pub record IsMade (client : ℕ) (symbol : Name) (version serial : ℕ) (frame : Frame) (tiles : List Tile) (at : ℤ) (prune : Bool) (state : SymbolState) (plan : Plan) : Type 0 where
+pub record IsMade (client : ℕ) (symbol : Name) (version serial : ℕ) (frame : Frame) (tiles : List Tile) (at : ℤ) (tip : ChainTip) (plan : Plan) : Type 0 where
   pub made : List Prepared
   pub index : Prepared
   pub element : Prepared
   pub row : LinkRow
-  pub buried : List ℕ
-  pub version_is : version ≡ next_of state
+  pub version_is : version ≡ tip.next
   pub made_are : puts_seen made ≡ tile_puts (placed client symbol version serial tiles)
   pub puts_are : plan.puts ≡ (made ++ index ∷ []) ++ element ∷ []
   pub index_key_is : index.key ≡ index_key client symbol version (serial + length tiles) frame
   pub index_spelled : index_of (arc_value index.body) ≡ Ok (record { schema = frame.schema; rows = length frame.rows; slots = slots_of (placed client symbol version serial tiles) })
   pub element_key_is : element.key ≡ element_key client symbol (suc (serial + length tiles))
-  pub element_spelled : entry_of (arc_value element.body) ≡ Ok (record { prev = state.was; changes = marks.Link row ∷ map marks.Tomb buried })
-  pub buried_are : buried ≡ (if prune then live_of state else [])
-  pub was_is : plan.was ≡ state.was
+  pub element_spelled : entry_of (arc_value element.body) ≡ Ok (record { prev = tip.was; changes = marks.Link row ∷ map marks.Tomb tip.buried })
+  pub was_is : plan.was ≡ tip.was
   pub number_is : plan.version ≡ version
   pub entry_is : plan.entry ≡ element.key
   pub mark_is : arc_value plan.mark ≡ key_text plan.entry
-  pub changes_are : arc_value plan.changes ≡ changes.Wrote frame at ∷ removed buried
+  pub changes_are : arc_value plan.changes ≡ changes.Wrote frame at ∷ removed tip.buried
   pub row_number : row.version ≡ version
   pub row_stamp : row.stamp ≡ at
   pub row_rows : row.rows ≡ length frame.rows
@@ -320,8 +317,8 @@ pub record IsMade (client : ℕ) (symbol : Name) (version serial : ℕ) (frame :
 
 module _ (client serial : ℕ) (symbol : Name) (version : ℕ) (frame : Frame) (cutting : Cutting) (tiles : List Tile)
     (storable : IsStorable frame) (tiled : AreTilesOf frame cutting tiles) (try_fits : FitsTry client symbol version) (small : suc (serial + length tiles) < 2 ^ 64)
-    (at : ℤ) (prune : Bool) (state : SymbolState) (plan : Plan) (m : IsMade client symbol version serial frame tiles at prune state plan)
-    (before : History) (lawful : ∥ IsLawful before ∥₁) (walked : IsStateOf before symbol state) where
+    (at : ℤ) (prune : Bool) (tip : ChainTip) (plan : Plan) (m : IsMade client symbol version serial frame tiles at tip plan)
+    (before : History) (walked : IsTipOf before symbol prune tip) where
   puts_seen_are : puts_seen plan.puts ≡ tile_puts (placed client symbol version serial tiles) ++ (index_key client symbol version (serial + length tiles) frame, arc_value m.index.body)
       ∷ (element_key client symbol (suc (serial + length tiles)), arc_value m.element.body) ∷ []
   puts_seen_are =
@@ -331,12 +328,12 @@ module _ (client serial : ℕ) (symbol : Name) (version : ℕ) (frame : Frame) (
       ∙ (ap (λ k. tile_puts (placed client symbol version serial tiles) ++ (k, arc_value m.index.body) ∷ put_seen m.element ∷ []) m.index_key_is
       ∙ ap (λ k. tile_puts (placed client symbol version serial tiles) ++ (index_key client symbol version (serial + length tiles) frame, arc_value m.index.body) ∷ (k, arc_value m.element.body) ∷ []) m.element_key_is)))
 
-  removed_are : removed m.buried ≡ pruned (state_of before symbol) prune
-  removed_are = pruned_is (state_of before symbol) prune (live_of state) m.buried (live_told before symbol state lawful walked) m.buried_are
+  removed_are : removed tip.buried ≡ pruned (state_of before symbol) prune
+  removed_are = pruned_is (state_of before symbol) prune tip.buried walked.buried
 
   element_spells : entry_of (arc_value m.element.body) ≡ Ok (record { prev = reference before symbol; changes = marks_of m.row (changes_on before symbol frame at prune) })
-  element_spells = m.element_spelled ∙ (ap (λ was. Ok (record { prev = was; changes = marks.Link m.row ∷ map marks.Tomb m.buried })) walked.was
-      ∙ ap (λ ms. Ok (record { prev = reference before symbol; changes = ms })) (marks_are m.row frame at m.buried ∙ ap (λ rest. marks_of m.row (changes.Wrote frame at ∷ rest)) removed_are))
+  element_spells = m.element_spelled ∙ (ap (λ was. Ok (record { prev = was; changes = marks.Link m.row ∷ map marks.Tomb tip.buried })) walked.was
+      ∙ ap (λ ms. Ok (record { prev = reference before symbol; changes = ms })) (marks_are m.row frame at tip.buried ∙ ap (λ rest. marks_of m.row (changes.Wrote frame at ∷ rest)) removed_are))
 
   key_is : plan.entry ≡ element_key client symbol (suc (serial + length tiles))
   key_is = m.entry_is ∙ m.element_key_is
@@ -345,7 +342,7 @@ module _ (client serial : ℕ) (symbol : Name) (version : ℕ) (frame : Frame) (
   index_row = m.row_index ∙ m.index_key_is
 
   number : version ≡ next_number (state_of before symbol)
-  number = m.version_is ∙ next_told before symbol state lawful walked
+  number = m.version_is ∙ walked.next
 
   -- the plan writes the frame
   pub plan_is : (options : Options) → options.cutting ≡ cutting → options.at ≡ at → options.prune ≡ prune → IsWritePlan client serial before symbol frame options plan
@@ -357,7 +354,7 @@ module _ (client serial : ℕ) (symbol : Name) (version : ℕ) (frame : Frame) (
       mark = m.mark_is;
       is_try = subst (λ ps. IsTry symbol true ps plan.entry) (sym puts_seen_are)
           (subst (IsTry symbol true _) (sym key_is)
-          (try_is client serial symbol version frame cutting tiles storable tiled try_fits small (arc_value m.index.body) (arc_value m.element.body) m.index_spelled m.row state.was (map marks.Tomb m.buried) index_row m.element_spelled));
+          (try_is client serial symbol version frame cutting tiles storable tiled try_fits small (arc_value m.index.body) (arc_value m.element.body) m.index_spelled m.row tip.was (map marks.Tomb tip.buried) index_row m.element_spelled));
       index_put = record {
         tiles = tile_puts (placed client symbol version serial tiles);
         key = index_key client symbol version (serial + length tiles) frame;

@@ -11,13 +11,13 @@ use Rattle.bucket_core.specs.declared.event.Change.{Change}
 use Rattle.bucket_core.specs.History.{Bytes}
 use Rattle.store_model.specs.declared.chain.LinkRow.{LinkRow}
 use Rattle.store_model.specs.declared.chain.ChainMark.TheVariants as marks
-use Rattle.version_chain.specs.declared.state.SymbolState.{SymbolState}
+use Rattle.version_chain.specs.declared.tip.ChainTip.{ChainTip}
 use Rattle.version_chain.specs.Entries.{IsKeyOf}
+use Rattle.version_chain.specs.Marking.{element_key}
 use Rattle.frame_write.specs.declared.laying.Layout.{Layout}
 use Rattle.frame_write.specs.declared.options.Options.{Options}
 use Rattle.frame_write.specs.declared.plan.Plan.{Plan}
 use Rattle.frame_write.specs.declared.puts.Prepared.{Prepared}
-use Rattle.frame_write.specs.Placing.{element_key}
 use Rattle.frame_write.specs.Plans.{put_seen, puts_seen}
 use Rattle.frame_write.specs.SlotKeys.{slots_key}
 use Rattle.frame_write.specs.Versions.{row_of, index_with, AddsElement, IsVersionPlan}
@@ -32,24 +32,22 @@ seen_more [] ys = refl
 seen_more (x ∷ xs) ys = ap (λ l. put_seen x ∷ l) (seen_more xs ys)
 
 -- the index behind the new tiles, and the element of its link behind it, are the plan of the version
-pub version_plan : (client version : ℕ) (symbol : Name) (state : SymbolState) (layout : Layout) (schema : Schema) (change : Change) (options : Options) (puts : List Prepared) (index : Prepared) (stamp : ℤ) (key : Key) (last : ℕ) (plan : Plan)
+pub version_plan : (client version : ℕ) (symbol : Name) (tip : ChainTip) (layout : Layout) (schema : Schema) (change : Change) (options : Options) (puts : List Prepared) (index : Prepared) (stamp : ℤ) (key : Key) (last : ℕ) (plan : Plan)
     → puts ≡ layout.puts ++ index ∷ [] → index.key ≡ slots_key client symbol version layout.next layout.slots → index_of (arc_value index.body) ≡ Ok (index_with schema layout) → IsName symbol → stamp ≡ options.at → key ≡ index.key
-    → last ≡ suc layout.next → last < 2 ^ 64 → AddsElement client last symbol state (record { version = version; stamp = stamp; rows = layout.rows; index = key }) puts change options.prune plan
-    → IsVersionPlan client version symbol state layout schema change options plan
-version_plan client version symbol state layout schema change options puts index stamp key last plan puts_are key_is spelled name stamp_is same last_is small p =
+    → last ≡ suc layout.next → last < 2 ^ 64 → AddsElement client last symbol tip (record { version = version; stamp = stamp; rows = layout.rows; index = key }) puts change plan
+    → IsVersionPlan client version symbol tip layout schema change options plan
+version_plan client version symbol tip layout schema change options puts index stamp key last plan puts_are key_is spelled name stamp_is same last_is small p =
     let row_is : record { version = version; stamp = stamp; rows = layout.rows; index = key } ≡ row_of client symbol version layout options = (λ i. record { version = version; stamp = stamp_is i; rows = layout.rows; index = (same ∙ key_is) i }) in
     record {
       index = arc_value index.body;
       element = p.element;
-      buried = p.buried;
-      buried_are = p.buried_are;
       puts = p.puts_are
           ∙ (ap (λ (ps : List Prepared). puts_seen ps ++ (element_key client symbol last, p.element) ∷ []) puts_are
           ∙ (ap (λ (ps : List (Key × Bytes)). ps ++ (element_key client symbol last, p.element) ∷ []) (seen_more layout.puts (index ∷ []))
           ∙ (append_assoc (puts_seen layout.puts) (put_seen index ∷ []) ((element_key client symbol last, p.element) ∷ [])
           ∙ (λ i. puts_seen layout.puts ++ (key_is i, arc_value index.body) ∷ (element_key client symbol (last_is i), p.element) ∷ []))));
       index_spelled = spelled;
-      element_spelled = p.spelled ∙ ap (λ (row : LinkRow). Ok (record { prev = state.was; changes = marks.Link row ∷ map marks.Tomb p.buried })) row_is;
+      element_spelled = p.spelled ∙ ap (λ (row : LinkRow). Ok (record { prev = tip.was; changes = marks.Link row ∷ map marks.Tomb tip.buried })) row_is;
       was = p.was;
       number = p.number;
       entry = p.entry ∙ ap (λ n. element_key client symbol n) last_is;

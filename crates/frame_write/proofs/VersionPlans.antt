@@ -1,5 +1,5 @@
 -- The plan of a version in pieces: its puts are such as a try makes, and once they stand its Refer may follow.
-use Rattle.std.proofs.Common.{◌≡◌, ℕ, suc, ◌+◌, ◌<◌, ◌≤◌, ◌^◌, ℤ, false, true, List, [], ◌∷◌, ◌++◌, length, map, refl, ap, sym, ◌∙◌, subst, arith, inl, inr, Option, Some, None, Result, Ok, Err, append_assoc, length-append}
+use Rattle.std.proofs.Common.{Bool, ◌≡◌, ℕ, suc, ◌+◌, ◌<◌, ◌≤◌, ◌^◌, ℤ, false, true, List, [], ◌∷◌, ◌++◌, length, map, refl, ap, sym, ◌∙◌, subst, arith, inl, inr, Option, Some, None, Result, Ok, Err, append_assoc, length-append}
 use Rattle.std.specs.Prelude.{◌⊎◌, is_some, IsOk, IfOk, FitsSigned, filter}
 use Rattle.std.specs.Int.{w64}
 use Rattle.std.specs.Arc.{arc_value}
@@ -32,7 +32,8 @@ use Rattle.store_model.specs.Commits.{MayRefer, MayNameKey, HasSlotStamps, is_ve
 use Rattle.store_model.specs.Law.{IsLawful}
 use Rattle.store_model.specs.OwnPuts.{IsOwnPut, AreOwnPuts, IsPutEntry, BuriesLive}
 use Rattle.store_model.proofs.Untouched.{as_it_was}
-use Rattle.version_chain.specs.declared.state.SymbolState.{SymbolState}
+use Rattle.version_chain.specs.declared.tip.ChainTip.{ChainTip}
+use Rattle.version_chain.specs.Marking.{element_key}
 use Rattle.reply_model.specs.Answering.{removed, pruned}
 use Rattle.reply_model.specs.Tries.{IsTry, Before, of_version, IsKeyOf, keys_of_puts}
 use Rattle.frame_write.specs.declared.laying.Layout.{Layout}
@@ -42,13 +43,11 @@ use Rattle.frame_write.specs.declared.pieces.Piece.{Piece}
 use Rattle.frame_write.specs.declared.plan.Plan.{Plan}
 use Rattle.frame_write.specs.Links.{FitsPlan}
 use Rattle.frame_write.specs.Pieces.{ArePieces, HasBase, laid}
-use Rattle.frame_write.specs.Placing.{element_key, next_of, live_of}
 use Rattle.frame_write.specs.Plans.{ArePutsFrom, puts_seen}
 use Rattle.frame_write.specs.Laying.{Laid, slots_laid, puts_laid, laid_pieces, tiles_in, rows_in, MayLay}
 use Rattle.frame_write.specs.Layouts.{IsLaid}
 use Rattle.frame_write.specs.SlotKeys.{first_of, last_of, slots_key}
 use Rattle.frame_write.specs.Versions.{row_of, index_with, IsVersionPlan, MayPlan, IsPlanOf}
-use Rattle.frame_write.proofs.StateLemmas.{live_told, next_told}
 use Rattle.frame_write.proofs.PlanLemmas.{FitsTry, ok_is_ok, marks_are, pruned_is, buries_pruned, buries_staging}
 use Rattle.frame_write.proofs.Stretches.{IsLaidSlot, AreStretches, stretches_slots}
 use Rattle.frame_write.proofs.BaseTold.{IsSharedIn, base_later}
@@ -294,17 +293,17 @@ module _ (client serial : ℕ) (symbol : Name) (version : ℕ) (before : History
         record { kind = refl; name = refl; body = entry_body; own = parts.1.1.0; spelled = spelled }
 
 -- the slots are an index with the plan's schema
-pub link_index : (client serial : ℕ) (symbol : Name) (version : ℕ) (before : History) (state : SymbolState) (at : ℤ) (link : LinkPlan) (cutting : Cutting) (layout : Layout) → FitsTry client symbol version
-    → MayPlan client serial before symbol state → (fit : FitsPlan before symbol at link) → IsLaid client symbol version cutting serial link.pieces layout → IsIndex (index_with link.schema layout)
-link_index client serial symbol version before state at link cutting layout fits may fit laid_is =
+pub link_index : (client serial : ℕ) (symbol : Name) (version : ℕ) (before : History) (prune : Bool) (tip : ChainTip) (at : ℤ) (link : LinkPlan) (cutting : Cutting) (layout : Layout) → FitsTry client symbol version
+    → MayPlan client serial before symbol prune tip → (fit : FitsPlan before symbol at link) → IsLaid client symbol version cutting serial link.pieces layout → IsIndex (index_with link.schema layout)
+link_index client serial symbol version before prune tip at link cutting layout fits may fit laid_is =
     subst (λ (schema : Schema). IsIndex (index_with schema layout)) (sym fit.schema)
     (index_is client serial symbol version before fit.version cutting link.pieces layout (record { fits = fits; lawful = may.lawful; serial_is = may.serial_is; storable = fit.storable; pieces = fit.pieces; laid = laid_is }))
 
 -- ---- the plan
 
-module _ (client serial : ℕ) (symbol : Name) (version : ℕ) (before : History) (state : SymbolState) (link : LinkPlan) (options : Options) (layout : Layout) (plan : Plan)
-    (client_fits : client < 2 ^ 32) (version_fits : version < 2 ^ 64) (version_is : version ≡ next_of state) (may : MayPlan client serial before symbol state) (fit : FitsPlan before symbol options.at link)
-    (laid_is : IsLaid client symbol version options.cutting serial link.pieces layout) (p : IsVersionPlan client version symbol state layout link.schema link.change options plan) where
+module _ (client serial : ℕ) (symbol : Name) (version : ℕ) (before : History) (tip : ChainTip) (link : LinkPlan) (options : Options) (layout : Layout) (plan : Plan)
+    (client_fits : client < 2 ^ 32) (version_fits : version < 2 ^ 64) (version_is : version ≡ tip.next) (may : MayPlan client serial before symbol options.prune tip) (fit : FitsPlan before symbol options.at link)
+    (laid_is : IsLaid client symbol version options.cutting serial link.pieces layout) (p : IsVersionPlan client version symbol tip layout link.schema link.change options plan) where
   abbrev ready : IsReady client serial symbol version before fit.version options.cutting link.pieces layout
   ready = record {
     fits = record { client_fits = client_fits; is_name = p.is_name; version_fits = version_fits };
@@ -333,19 +332,19 @@ module _ (client serial : ℕ) (symbol : Name) (version : ℕ) (before : History
   puts_are : puts_seen plan.puts ≡ tiles_put ++ (index_under, p.index) ∷ (entry_under, p.element) ∷ []
   puts_are = p.puts ∙ ap (λ ps. ps ++ (index_under, p.index) ∷ (entry_under, p.element) ∷ []) laid_is.puts
 
-  removed_are : removed p.buried ≡ pruned (state_of before symbol) options.prune
-  removed_are = pruned_is (state_of before symbol) options.prune (live_of state) p.buried (live_told before symbol state may.lawful may.is_state) p.buried_are
+  removed_are : removed tip.buried ≡ pruned (state_of before symbol) options.prune
+  removed_are = pruned_is (state_of before symbol) options.prune tip.buried may.is_tip.buried
 
   changes_are : arc_value plan.changes ≡ link.change ∷ pruned (state_of before symbol) options.prune
   changes_are = p.changes ∙ ap (λ rest. link.change ∷ rest) removed_are
 
   element_spells : entry_of p.element ≡ Ok (record { prev = reference before symbol; changes = marks_of row (link.change ∷ pruned (state_of before symbol) options.prune) })
-  element_spells = p.element_spelled ∙ (ap (λ was. Ok (record { prev = was; changes = marks.Link row ∷ map marks.Tomb p.buried })) may.is_state.was
+  element_spells = p.element_spelled ∙ (ap (λ was. Ok (record { prev = was; changes = marks.Link row ∷ map marks.Tomb tip.buried })) may.is_tip.was
       ∙ ap (λ ms. Ok (record { prev = reference before symbol; changes = ms }))
-      (marks_made (state_of before symbol) link.change fit.version row p.buried fit.makes ∙ ap (λ rest. marks_of row (link.change ∷ rest)) removed_are))
+      (marks_made (state_of before symbol) link.change fit.version row tip.buried fit.makes ∙ ap (λ rest. marks_of row (link.change ∷ rest)) removed_are))
 
   number : version ≡ next_number (state_of before symbol)
-  number = version_is ∙ next_told before symbol state may.lawful may.is_state
+  number = version_is ∙ may.is_tip.next
 
   may_follow : (more : History) → list_any (refers symbol) more ≡ false → ∥ IsLawful (more ++ before) ∥₁ → AreOwnPuts (more ++ before) client (puts_seen plan.puts)
       → MayRefer (more ++ before) client symbol (reference before symbol) plan.entry (arc_value plan.changes)
@@ -369,11 +368,11 @@ module _ (client serial : ℕ) (symbol : Name) (version : ℕ) (before : History
   plan_of = record {
     index = index_with fit.version.frame.schema layout;
     is_plan = record {
-      was = p.was ∙ may.is_state.was;
+      was = p.was ∙ may.is_tip.was;
       version = p.number ∙ number;
       mark = p.mark;
       is_try = subst (λ ps. IsTry symbol true ps plan.entry) (sym puts_are) (subst (IsTry symbol true _) (sym p.entry)
-          (try_is client serial symbol version before fit.version options.cutting link.pieces layout ready p.serials_fit p.index p.element spelled row state.was (map marks.Tomb p.buried) refl p.element_spelled));
+          (try_is client serial symbol version before fit.version options.cutting link.pieces layout ready p.serials_fit p.index p.element spelled row tip.was (map marks.Tomb tip.buried) refl p.element_spelled));
       index_put = record {
         tiles = tiles_put;
         key = index_under;

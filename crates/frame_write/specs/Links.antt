@@ -1,4 +1,4 @@
--- A new version over a walked state.
+-- A new version on a walked tip.
 --     IsInOrder           the range of an update is in order
 --     FitsPlan            the plan of the version that a change makes of a symbol
 --     IsLinkable          when the plan may be tried
@@ -12,8 +12,8 @@ use Rattle.bucket_core.specs.declared.event.Change.{Change}
 use Rattle.bucket_core.specs.declared.event.Change.TheVariants as changes
 use Rattle.bucket_core.specs.History.{History}
 use Rattle.store_model.specs.Library.{State, Version, state_of, new_version, next_number}
-use Rattle.version_chain.specs.declared.state.SymbolState.{SymbolState}
-use Rattle.version_chain.specs.States.{IsStateAt}
+use Rattle.version_chain.specs.declared.tip.ChainTip.{ChainTip}
+use Rattle.version_chain.specs.Tips.{IsTipAt}
 use Rattle.version_chain.specs.Marking.{own_refers}
 use Rattle.reply_model.specs.Answering.{pruned}
 use Rattle.frame_write.specs.declared.options.Options.{Options}
@@ -37,11 +37,11 @@ pub record FitsPlan (h : History) (symbol : Name) (at : ℤ) (plan : LinkPlan) :
   pub schema : plan.schema ≡ version.frame.schema
   pub pieces : ArePieces h symbol version.frame plan.pieces
 
--- the state is the symbol's at a place of the history, above which the client has no Refer of it; the plan fits the history there
-pub record IsLinkable (client : ℕ) (h : History) (symbol : Name) (state : SymbolState) (at : ℤ) (plan : LinkPlan) : Type 0 where
-  pub walked : IsStateAt h symbol state
+-- the tip is the symbol's at a place of the history, walked for what the options bury, above which the client has no Refer of it; the plan fits the history there
+pub record IsLinkable (client : ℕ) (h : History) (symbol : Name) (tip : ChainTip) (options : Options) (plan : LinkPlan) : Type 0 where
+  pub walked : IsTipAt h symbol options.prune tip
   pub none_own : list_any (own_refers client symbol) walked.later ≡ false
-  pub fits : FitsPlan walked.before symbol at plan
+  pub fits : FitsPlan walked.before symbol options.at plan
 
 -- the plan's change and what it buries, on a state that was left as it was walked; a put for each new tile, the index and the element;
 -- and the index has the slots of the pieces, with keys from this serial on

@@ -1,11 +1,9 @@
--- The tiles of a frame, and the keys under which a try puts them, their index and its element.
+-- The tiles of a frame, and the keys under which a try puts them and their index.
 --     IsTileOf, AreTilesOf      a tile of a frame; the tiles of its whole grid
 --     slot_at, placed     the slot of a tile under a serial; tiles with their slots, one serial after another
 --     tile_puts           their keys and bodies
---     index_key, element_key      the keys of the index and of the element
---     IsElementKey        the key of an element that stands before
---     live_of, next_of    of a walked state: the numbers of the live versions, ascending, and the number of the next version
-use Rattle.std.specs.Prelude.{◌≡◌, ℕ, suc, pos, not, List, [], ◌∷◌, ◌+◌, map, reverse, filter, slice_range, unwrap_or, Some, Ok, FitsSigned}
+--     index_key           the key of the index
+use Rattle.std.specs.Prelude.{◌≡◌, ℕ, suc, pos, List, [], ◌∷◌, ◌+◌, map, slice_range, unwrap_or, Some, Ok, FitsSigned}
 use Rattle.std.specs.Int.{w64}
 use Rattle.std.specs.Arc.{arc_value}
 use Rattle.std.specs.List.{AllByRecursion}
@@ -19,9 +17,6 @@ use Rattle.key_kind.specs.declared.key.KeyKind.TheVariants as kinds
 use Rattle.key_kind.specs.declared.key.Key.{Key}
 use Rattle.key_kind.specs.Names.{Name}
 use Rattle.bucket_core.specs.History.{Bytes}
-use Rattle.store_model.specs.declared.chain.LinkRow.{LinkRow}
-use Rattle.version_chain.specs.declared.state.SymbolState.{SymbolState}
-use Rattle.version_chain.specs.States.{is_tomb}
 use Rattle.frame_write.specs.declared.tiles.Tile.{Tile}
 
 -- the stamps of the part's first and last row, and the part's segment
@@ -71,28 +66,3 @@ index_key client symbol version serial frame = record {
   first = unwrap_or (first_stamp frame.rows) (pos 0);
   last = unwrap_or (last_stamp frame.rows) (pos 0);
 }
-
--- the key of the element
-abbrev pub element_key : ℕ → Name → ℕ → Key
-element_key client symbol serial = record { kind = kinds.Version; name = symbol; client = client; serial = serial; version = 0; first = pos 0; last = pos 0 }
-
--- the key of an element of the symbol
-pub record IsElementKey (symbol : Name) (key : Key) : Type 0 where
-  pub kind : key.kind ≡ kinds.Version
-  pub name : key.name ≡ symbol
-  pub version : key.version ≡ 0
-  pub first : key.first ≡ pos 0
-  pub last : key.last ≡ pos 0
-
--- the numbers of the live versions, ascending
-abbrev pub live_of : SymbolState → List ℕ
-live_of state = map (λ (row : LinkRow). row.version) (filter (λ (row : LinkRow). not (is_tomb state.tombs row.version)) state.links)
-
--- the number behind the newest of these links, the newest first
-abbrev pub number_behind : List LinkRow → ℕ
-number_behind [] = 0
-number_behind (row ∷ older) = suc row.version
-
--- the number of the next version
-abbrev pub next_of : SymbolState → ℕ
-next_of state = number_behind (reverse state.links)

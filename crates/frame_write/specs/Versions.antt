@@ -1,10 +1,10 @@
 -- The plan of a new version.
 --     row_of, index_with      the row of the version's link, and its index
---     IsVersionPlan       how a plan is made of slots that are laid out, over a walked state
+--     IsVersionPlan       how a plan is made of slots that are laid out, on a walked tip
 --     AddsElement         a plan that puts an element behind other puts
---     MayPlan             the walked state is the symbol's, and the next serials are free
+--     MayPlan             the walked tip is the symbol's, and the next serials are free
 --     IsPlanOf            the plan of a change in pieces
-use Rattle.std.specs.Prelude.{◌≡◌, ◌<◌, ◌≤◌, ◌^◌, ◌+◌, ℕ, suc, Bool, List, [], ◌∷◌, ◌++◌, map, length, Ok, if◌then◌else◌}
+use Rattle.std.specs.Prelude.{◌≡◌, ◌<◌, ◌≤◌, ◌^◌, ◌+◌, ℕ, suc, Bool, List, [], ◌∷◌, ◌++◌, map, length, Ok}
 use Rattle.std.specs.Arc.{arc_value}
 use Rattle.frame_core.specs.Schemas.{Schema}
 use Rattle.index_tree.specs.declared.index.Index.{Index}
@@ -18,8 +18,9 @@ use Rattle.store_model.specs.declared.chain.ChainMark.TheVariants as marks
 use Rattle.store_model.specs.ChainText.{entry_of}
 use Rattle.store_model.specs.Library.{state_of, next_number}
 use Rattle.store_model.specs.Law.{IsLawful}
-use Rattle.version_chain.specs.declared.state.SymbolState.{SymbolState}
-use Rattle.version_chain.specs.States.{IsStateOf}
+use Rattle.version_chain.specs.declared.tip.ChainTip.{ChainTip}
+use Rattle.version_chain.specs.Marking.{element_key}
+use Rattle.version_chain.specs.Tips.{IsTipOf}
 use Rattle.reply_model.specs.Answering.{removed, pruned}
 use Rattle.frame_write.specs.declared.laying.Layout.{Layout}
 use Rattle.frame_write.specs.declared.options.Options.{Options}
@@ -27,7 +28,6 @@ use Rattle.frame_write.specs.declared.pieces.Piece.{Piece}
 use Rattle.frame_write.specs.declared.plan.Plan.{Plan}
 use Rattle.frame_write.specs.declared.puts.Prepared.{Prepared}
 use Rattle.frame_write.specs.Pieces.{laid, new_tiles}
-use Rattle.frame_write.specs.Placing.{live_of, element_key}
 use Rattle.frame_write.specs.Plans.{IsPlan, puts_seen}
 use Rattle.frame_write.specs.SlotKeys.{slots_key}
 
@@ -40,39 +40,35 @@ abbrev pub index_with : Schema → Layout → Index
 index_with schema layout = record { schema = schema; rows = layout.rows; slots = layout.slots }
 
 -- the new tiles are put, then the index and an element, which stands on the walked reference, links the index and buries what is to be buried
-pub record IsVersionPlan (client version : ℕ) (symbol : Name) (state : SymbolState) (layout : Layout) (schema : Schema) (change : Change) (options : Options) (plan : Plan) : Type 0 where
+pub record IsVersionPlan (client version : ℕ) (symbol : Name) (tip : ChainTip) (layout : Layout) (schema : Schema) (change : Change) (options : Options) (plan : Plan) : Type 0 where
   pub index : Bytes
   pub element : Bytes
-  pub buried : List ℕ
-  pub buried_are : buried ≡ (if options.prune then live_of state else [])
   pub puts : puts_seen plan.puts ≡ puts_seen layout.puts ++ (slots_key client symbol version layout.next layout.slots, index) ∷ (element_key client symbol (suc layout.next), element) ∷ []
   pub index_spelled : index_of index ≡ Ok (index_with schema layout)
-  pub element_spelled : entry_of element ≡ Ok (record { prev = state.was; changes = marks.Link (row_of client symbol version layout options) ∷ map marks.Tomb buried })
-  pub was : plan.was ≡ state.was
+  pub element_spelled : entry_of element ≡ Ok (record { prev = tip.was; changes = marks.Link (row_of client symbol version layout options) ∷ map marks.Tomb tip.buried })
+  pub was : plan.was ≡ tip.was
   pub number : plan.version ≡ version
   pub entry : plan.entry ≡ element_key client symbol (suc layout.next)
   pub mark : arc_value plan.mark ≡ key_text plan.entry
-  pub changes : arc_value plan.changes ≡ change ∷ removed buried
+  pub changes : arc_value plan.changes ≡ change ∷ removed tip.buried
   pub is_name : IsName symbol
   pub serials_fit : suc layout.next < 2 ^ 64
 
 -- the plan puts these and behind them an element, which stands on the walked reference, has this link and buries what is to be buried
-pub record AddsElement (client serial : ℕ) (symbol : Name) (state : SymbolState) (row : LinkRow) (puts : List Prepared) (change : Change) (prune : Bool) (plan : Plan) : Type 0 where
+pub record AddsElement (client serial : ℕ) (symbol : Name) (tip : ChainTip) (row : LinkRow) (puts : List Prepared) (change : Change) (plan : Plan) : Type 0 where
   pub element : Bytes
-  pub buried : List ℕ
-  pub buried_are : buried ≡ (if prune then live_of state else [])
   pub puts_are : puts_seen plan.puts ≡ puts_seen puts ++ (element_key client symbol serial, element) ∷ []
-  pub spelled : entry_of element ≡ Ok (record { prev = state.was; changes = marks.Link row ∷ map marks.Tomb buried })
-  pub was : plan.was ≡ state.was
+  pub spelled : entry_of element ≡ Ok (record { prev = tip.was; changes = marks.Link row ∷ map marks.Tomb tip.buried })
+  pub was : plan.was ≡ tip.was
   pub number : plan.version ≡ row.version
   pub entry : plan.entry ≡ element_key client symbol serial
   pub mark : arc_value plan.mark ≡ key_text plan.entry
-  pub changes : arc_value plan.changes ≡ change ∷ removed buried
+  pub changes : arc_value plan.changes ≡ change ∷ removed tip.buried
 
--- the walked state is the symbol's in the lawful history, and the client's next serial is no lower than it was there
-pub record MayPlan (client serial : ℕ) (before : History) (symbol : Name) (state : SymbolState) : Type 0 where
+-- the tip is the symbol's in the lawful history, walked for what it buries, and the client's next serial is no lower than it was there
+pub record MayPlan (client serial : ℕ) (before : History) (symbol : Name) (prune : Bool) (tip : ChainTip) : Type 0 where
   pub lawful : ∥ IsLawful before ∥₁
-  pub is_state : IsStateOf before symbol state
+  pub is_tip : IsTipOf before symbol prune tip
   pub serial_is : puts_by client before ≤ serial
 
 -- a plan over the state in a history that makes this change, with what it buries, and whose index has the slots of these pieces

@@ -14,7 +14,7 @@ use frame_core::{Frame, Refusal, Refused};
 use key_kind::Symbol;
 use std::alloc::Global;
 use std::sync::Wait;
-use version_chain::{StoreLaw, walk};
+use version_chain::{StoreLaw, walk_tip};
 
 /// One try to commit the frame.
 pub(crate) fn attempt<R: Wait, B: Bucket<StoreLaw>>(
@@ -31,13 +31,13 @@ pub(crate) fn attempt<R: Wait, B: Bucket<StoreLaw>>(
     ensures steady { IsSteady B.number B.limit B.faults B.sole bucket.old bucket.new }
     ensures did { DidTry (B.number bucket.old) (B.sole bucket.old) symbol.now (IsWritten symbol.now frame.now options.now) (B.limit bucket.old) (B.faults bucket.old) (B.faults bucket.new) (length (B.seen bucket.old)) (B.seen bucket.old) (B.seen bucket.new) result }
 {
-    let state = walk(rt, alloc, bucket, symbol)?;
+    let tip = walk_tip(rt, alloc, bucket, symbol, options.prune)?;
     let Ok(plan) = plan_write(
         alloc,
         bucket.client(),
         bucket.serial(),
         symbol,
-        &state,
+        &tip,
         frame,
         tiles,
         options,

@@ -6,7 +6,8 @@ ghost use Rattle.store_model.specs.Commits.{Rising};
 ghost use Rattle.store_model.specs.ChainText.{entry_of};
 ghost use Rattle.store_model.specs.declared.chain.ChainMark.TheVariants.{Link, Tomb};
 ghost use Rattle.version_chain.specs.Entries.{IsLink};
-ghost use Rattle.frame_write.specs.Placing.{element_key, IsElementKey};
+ghost use Rattle.version_chain.specs.Marking.{element_key};
+ghost use Rattle.version_chain.specs.MarkPlans.{IsElementKey};
 
 use crate::puts::Prepared;
 use base_types::{Items, Keep, NoMemory};

@@ -15,9 +15,9 @@ use frame_core::{Refusal, Refused};
 use key_kind::Symbol;
 use std::alloc::Global;
 use std::sync::Wait;
-use version_chain::{StoreLaw, SymbolState};
+use version_chain::{ChainTip, StoreLaw};
 
-/// Tries once to make a new version of the symbol on a state that a walk gave. It may wait for the store.
+/// Tries once to make a new version of the symbol on a tip that a walk gave. It may wait for the store.
 ///
 /// All that is put is built before the first put: each fresh piece is cut by the options' cutting into row blocks and slices of
 /// its own, and the slots of shared ones are copied. The tiles are put in the order of the index, then the index and an element,
@@ -28,21 +28,21 @@ pub fn link_on<R: Wait, B: Bucket<StoreLaw>>(
     alloc: Global,
     bucket: &mut B,
     symbol: &Symbol,
-    state: &SymbolState,
+    tip: &ChainTip,
     plan: &LinkPlan,
     options: &Options,
 ) -> Result<Committed, Refused>
-    requires linkable { IsLinkable (B.number bucket.old) (B.seen bucket.old) symbol.now state.now options.now.at plan.now }
+    requires linkable { IsLinkable (B.number bucket.old) (B.seen bucket.old) symbol.now tip.now options.now plan.now }
     ensures steady { IsSteady B.number B.limit B.faults B.sole bucket.old bucket.new }
     ensures grown { GoesOn (B.number bucket.old) (B.sole bucket.old) (B.seen bucket.old) (B.seen bucket.new) }
-    ensures did { DidTry (B.number bucket.old) (B.sole bucket.old) symbol.now (IsLinkMade (B.number bucket.old) (puts_by (B.number bucket.old) (B.seen bucket.old)) symbol.now (state_of (history_at (B.seen bucket.old) state.now.place) symbol.now) plan.now options.now) (B.limit bucket.old) (B.faults bucket.old) (B.faults bucket.new) state.now.place (B.seen bucket.old) (B.seen bucket.new) result }
+    ensures did { DidTry (B.number bucket.old) (B.sole bucket.old) symbol.now (IsLinkMade (B.number bucket.old) (puts_by (B.number bucket.old) (B.seen bucket.old)) symbol.now (state_of (history_at (B.seen bucket.old) tip.now.place) symbol.now) plan.now options.now) (B.limit bucket.old) (B.faults bucket.old) (B.faults bucket.new) tip.now.place (B.seen bucket.old) (B.seen bucket.new) result }
 {
     let Ok(made) = plan_link(
         alloc,
         bucket.client(),
         bucket.serial(),
         symbol,
-        state,
+        tip,
         plan,
         options,
     ) else {

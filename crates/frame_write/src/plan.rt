@@ -1,19 +1,19 @@
 ghost use Rattle.std.specs.Prelude.{◌≡◌, ◌<◌, ◌^◌, true, IfOk, IfSome};
 ghost use Rattle.frame_core.specs.Limits.{IsStorable};
 ghost use Rattle.bucket_core.specs.History.{History};
-ghost use Rattle.store_model.specs.Law.{IsLawful};
 ghost use Rattle.store_model.specs.Commits.{Rising, is_version};
-ghost use Rattle.version_chain.specs.States.{IsStateOf};
+ghost use Rattle.version_chain.specs.MarkPlans.{IsElementKey};
+ghost use Rattle.version_chain.specs.Tips.{IsTipOf};
 ghost use Rattle.version_chain.specs.Entries.{IsKeyOf};
 ghost use Rattle.key_kind.specs.declared.key.KeyKind.TheVariants.{TableIndex};
-ghost use Rattle.frame_write.specs.Placing.{AreTilesOf, IsElementKey, live_of};
+ghost use Rattle.frame_write.specs.Placing.{AreTilesOf};
 ghost use Rattle.frame_write.specs.WritePlans.{IsWritePlan};
 ghost use Rattle.frame_write.specs.Links.{FitsPlan};
 ghost use Rattle.frame_write.specs.Versions.{AddsElement, MayPlan, IsPlanOf};
 
 use crate::elements::{mark_of, place_element};
 use crate::laying::{Layout, lay_out, place_slots};
-use crate::numbers::{buried_by, changes_of, changes_with, next_version};
+use crate::numbers::{changes_of, changes_with};
 use crate::options::Options;
 use crate::pieces::LinkPlan;
 use crate::placing::{Placed, place_index, place_tiles};
@@ -26,7 +26,7 @@ use key_kind::{Key, Symbol};
 use std::alloc::Global;
 use std::sync::Arc;
 use store_model::LinkRow;
-use version_chain::SymbolState;
+use version_chain::ChainTip;
 
 /// All that a try puts and refers, built before its first put.
 #[derive(Drop)]
@@ -45,25 +45,25 @@ pub(crate) struct Plan {
     pub(crate) version: u64,
 }
 
-/// The plan of a try on the symbol's state, for the client's puts from this serial on.
+/// The plan of a try on the symbol's tip, for the client's puts from this serial on.
 pub(crate) fn plan_write(
     alloc: Global,
     client: u32,
     serial: u64,
     symbol: &Symbol,
-    state: &SymbolState,
+    tip: &ChainTip,
     frame: &Frame,
     tiles: &[Tile],
     options: &Options,
 ) -> Result<Plan, NoMemory>
     requires storable { IsStorable frame.now }
     requires tiles { AreTilesOf frame.now options.now.cutting tiles.now }
-    requires was { IfSome state.now.was (IsElementKey symbol.now) }
-    requires rising { Rising (live_of state.now) }
-    ensures { IfOk result (λ plan. (before : History) → ∥ IsLawful before ∥₁ → IsStateOf before symbol.now state.now → IsWritePlan client serial before symbol.now frame.now options.now plan) }
+    requires was { IfSome tip.now.was (IsElementKey symbol.now) }
+    requires rising { Rising tip.now.buried }
+    ensures { IfOk result (λ plan. (before : History) → IsTipOf before symbol.now options.now.prune tip.now → IsWritePlan client serial before symbol.now frame.now options.now plan) }
 {
     let at = options.stamp();
-    let version = next_version(state)?;
+    let version = tip.next;
     let Placed {
         slots,
         mut puts,
@@ -80,8 +80,7 @@ pub(crate) fn plan_write(
         index: index.key.copy(alloc)?,
     };
     puts.push(index)?;
-    let buried = buried_by(alloc, state, options.prune)?;
-    let was = copied(alloc, &state.was)?;
+    let was = copied(alloc, &tip.was)?;
     let element = place_element(
         alloc,
         client,
@@ -89,7 +88,7 @@ pub(crate) fn plan_write(
         symbol,
         copied(alloc, &was)?,
         row,
-        buried.items(),
+        tip.buried.items(),
     )?;
     let entry = element.key.copy(alloc)?;
     puts.push(element)?;
@@ -98,27 +97,27 @@ pub(crate) fn plan_write(
         was,
         mark: mark_of(alloc, &entry)?,
         entry,
-        changes: changes_of(alloc, frame, at, buried)?,
+        changes: changes_of(alloc, frame, at, tip.buried.items())?,
         version,
     })
 }
 
-/// The plan of a try to make a version in pieces on the symbol's state, for the client's puts from this serial on.
+/// The plan of a try to make a version in pieces on the symbol's tip, for the client's puts from this serial on.
 pub(crate) fn plan_link(
     alloc: Global,
     client: u32,
     serial: u64,
     symbol: &Symbol,
-    state: &SymbolState,
+    tip: &ChainTip,
     link: &LinkPlan,
     options: &Options,
 ) -> Result<Plan, NoMemory>
-    requires was { IfSome state.now.was (IsElementKey symbol.now) }
-    requires rising { Rising (live_of state.now) }
-    requires fits { (before : History) × MayPlan client serial before symbol.now state.now × FitsPlan before symbol.now options.now.at link.now }
-    ensures { IfOk result (λ made. (before : History) → MayPlan client serial before symbol.now state.now → FitsPlan before symbol.now options.now.at link.now → IsPlanOf client serial before symbol.now options.now link.now.change link.now.pieces made) }
+    requires was { IfSome tip.now.was (IsElementKey symbol.now) }
+    requires rising { Rising tip.now.buried }
+    requires fits { (before : History) × MayPlan client serial before symbol.now options.now.prune tip.now × FitsPlan before symbol.now options.now.at link.now }
+    ensures { IfOk result (λ made. (before : History) → MayPlan client serial before symbol.now options.now.prune tip.now → FitsPlan before symbol.now options.now.at link.now → IsPlanOf client serial before symbol.now options.now link.now.change link.now.pieces made) }
 {
-    let version = next_version(state)?;
+    let version = tip.next;
     let Layout {
         slots,
         mut puts,
@@ -153,7 +152,7 @@ pub(crate) fn plan_link(
         client,
         last,
         symbol,
-        state,
+        tip,
         version,
         rows,
         index_key,
@@ -163,13 +162,13 @@ pub(crate) fn plan_link(
     )
 }
 
-/// The plan that puts these, and behind them the element that links the version of this index, on the symbol's state.
+/// The plan that puts these, and behind them the element that links the version of this index, on the symbol's tip.
 fn plan_element(
     alloc: Global,
     client: u32,
     serial: u64,
     symbol: &Symbol,
-    state: &SymbolState,
+    tip: &ChainTip,
     version: u64,
     rows: u64,
     index: Key,
@@ -177,15 +176,14 @@ fn plan_element(
     change: &Change,
     options: &Options,
 ) -> Result<Plan, NoMemory>
-    requires was { IfSome state.now.was (IsElementKey symbol.now) }
-    requires rising { Rising (live_of state.now) }
+    requires was { IfSome tip.now.was (IsElementKey symbol.now) }
+    requires rising { Rising tip.now.buried }
     requires few { rows < 2 ^ 32 }
     requires index { IsKeyOf TableIndex index }
     requires version { is_version change.now ≡ true }
-    ensures { IfOk result (AddsElement client serial symbol.now state.now (record { version = version; stamp = options.now.at; rows = rows; index = index }) puts change.now options.now.prune) }
+    ensures { IfOk result (AddsElement client serial symbol.now tip.now (record { version = version; stamp = options.now.at; rows = rows; index = index }) puts change.now) }
 {
-    let buried = buried_by(alloc, state, options.prune)?;
-    let was = copied(alloc, &state.was)?;
+    let was = copied(alloc, &tip.was)?;
     let row = LinkRow {
         version,
         stamp: options.stamp(),
@@ -199,7 +197,7 @@ fn plan_element(
         symbol,
         copied(alloc, &was)?,
         row,
-        buried.items(),
+        tip.buried.items(),
     )?;
     let entry = element.key.copy(alloc)?;
     puts.push(element)?;
@@ -208,7 +206,7 @@ fn plan_element(
         was,
         mark: mark_of(alloc, &entry)?,
         entry,
-        changes: changes_with(alloc, change, buried)?,
+        changes: changes_with(alloc, change, tip.buried.items())?,
         version,
     })
 }

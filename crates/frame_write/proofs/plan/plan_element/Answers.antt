@@ -7,8 +7,6 @@ use Rattle.frame_write.proofs.plan.plan_element.Goals as goal
 pub returns : goal.returns
 returns c = record {
   element = arc_value c.in_ok-element.element.body;
-  buried = c.in_ok-buried.buried;
-  buried_are = c.in_ok-buried.ensures;
   puts_are = ap puts_seen (c.puts-2.view_is ∙ c.in_ok-push.ensures.ok)
       ∙ (seen_more c.args.puts (c.in_ok-element.element ∷ []) ∙ ap (λ k. puts_seen c.args.puts ++ (k, arc_value c.in_ok-element.element.body) ∷ []) c.in_ok-element.ensures.key);
   spelled = search rules;
@@ -16,5 +14,5 @@ returns c = record {
   number = refl;
   entry = c.in_ok-entry.ensures ∙ c.in_ok-element.ensures.key;
   mark = c.in_ok-mark_of.ensures;
-  changes = c.in_ok-changes_with.ensures;
+  changes = search rules;
 }
