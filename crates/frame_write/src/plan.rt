@@ -144,7 +144,7 @@ pub(crate) fn plan_link(
         version,
         &link.schema,
         rows,
-        slots,
+        &slots,
     )?;
     let index_key = index.key.copy(alloc)?;
     puts.push(index)?;
