@@ -1,5 +1,5 @@
 -- The objects that a link reaches, and what it means that one is gone.
-use Rattle.std.proofs.Common.{◌≡◌, ℕ, ◌+◌, true, false, not, ◌&&◌, List, [], ◌∷◌, ◌++◌, map, length, refl, sym, ap, ◌∙◌, subst, cond, inl, inr, arith, Option, Some, None, Ok, nat_eq}
+use Rattle.std.proofs.Common.{◌≡◌, ℕ, ◌+◌, true, false, not, ◌&&◌, List, [], ◌∷◌, ◌++◌, map, length, refl, sym, ap, ◌∙◌, subst, cond, inl, inr, arith, Option, Some, None, Result, Ok, Err, nat_eq}
 use Rattle.std.specs.Prelude.{Contains, option_map, option_and_then}
 use Rattle.std.specs.List.{AllZip, list_any}
 use Rattle.std.proofs.lemmas.List.{length-append}
@@ -161,6 +161,25 @@ target_index old more new target body index lawful is there put spelled =
   where
     some_same : {x y : Index} → Some x ≡ Some y → x ≡ y
     some_same e = cc
+
+-- and they do spell one
+pub target_spelled : (old more new : History) (target : Target) (body : Bytes) → ∥ IsLawful new ∥₁ → new ≡ more ++ old → has_index (links old target.symbol) target.version target.index ≡ true
+    → body_put new target.index ≡ Some body → (index : Index) × (index_of body ≡ Ok index)
+target_spelled old more new target body lawful is there put =
+    let found = one_passes (λ (l : Linked). nat_eq target.version l.row.version && same_key target.index l.row.index) (links old target.symbol) there in
+    let parts = and_parts (nat_eq target.version found.0.row.version) (same_key target.index found.0.row.index) found.2 in
+    let key : found.0.row.index ≡ target.index = sym (same_key_is target.index found.0.row.index parts.1) in
+    let link_is : Contains (links new target.symbol) found.0 = subst (λ g. Contains (links g target.symbol) found.0) (sym is) (links_later more old target.symbol found.0 found.1) in
+    (found.0.index, ∥∥₁_elim lawful (reading_prop (index_of body) (Ok found.0.index)) (λ l.
+        read_back (index_of body) found.0.index (sym (ap (index_put new) key ∙ ap (λ o. option_and_then (λ body. read_of (index_of body)) o) put)
+        ∙ linked_index new found.0.row found.0 ((lawful_as_put new l).links target.symbol found.0 link_is))))
+  where
+    reading_prop : (a b : Result Index ℕ) → IsProp (a ≡ b)
+    reading_prop a b = hlevel props
+
+    read_back : (r : Result Index ℕ) (i : Index) → read_of r ≡ Some i → r ≡ Ok i
+    read_back (Ok x) i e = let same : x ≡ i = cc in ap (λ (y : Index). Ok y) same
+    read_back (Err n) i e = absurd cc
 
 -- ---- at the end of a call
 

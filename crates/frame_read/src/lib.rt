@@ -19,7 +19,7 @@ pub use base_types::NoMemory;
 pub use choosing::choose;
 pub use fetching::{fetch, get_tiles};
 pub use laws::fetched_tiles_have_what_is_asked;
-pub use objects::index_of;
+pub use objects::{index_of, packed_index_of};
 pub use resolving::resolve;
 pub use target::Target;
 pub use tiles::{FetchedTile, Tiles};

@@ -15,7 +15,7 @@ use crate::resolving::out_of_memory;
 use crate::target::Target;
 use bucket_core::{Body, Bucket, StoreErr};
 use frame_core::{Refusal, Refused};
-use index_tree::{Index, read};
+use index_tree::{Index, PackedIndex, open, read};
 use key_kind::Key;
 use std::alloc::Global;
 use std::sync::{Arc, Wait};
@@ -39,6 +39,30 @@ pub fn index_of<R: Wait, B: Bucket<StoreLaw>>(
     let body = get_reached(rt, bucket, target, &target.index)?;
     // What was put as an index is always read, so only memory can be wanting.
     match read(alloc, body.bytes()) {
+        Ok(index) => Ok(index),
+        Err(_) => Err(out_of_memory(bucket.place())),
+    }
+}
+
+/// The index of the target's version with its slots as they are spelled, by one look. It may wait for the store.
+///
+/// What was put under the key of an index spells one, so the slots' bytes are copied whole and no slot is read.
+pub fn packed_index_of<R: Wait, B: Bucket<StoreLaw>>(
+    rt: &R,
+    alloc: Global,
+    bucket: &mut B,
+    target: &Target,
+) -> Result<PackedIndex, Refused>
+    requires linked { has_index (links (B.seen bucket.old) target.now.symbol) target.now.version target.now.index ≡ true }
+    ensures looks { Looks IsClaimed (B.number bucket.old) (B.sole bucket.old) (B.seen bucket.old) (B.seen bucket.new) }
+    ensures steady { IsSteady B.number B.limit B.faults B.sole bucket.old bucket.new }
+    ensures index { IfOk result (IsTargetIndex (B.seen bucket.new) target.now) }
+    ensures rules { IfOk result IsIndex }
+    // The version is gone only where it is buried and not held, and a key of it is gone.
+    ensures refused { IfErr result (RefusesGet (B.faults bucket.old) (B.faults bucket.new) (B.seen bucket.old) (B.seen bucket.new) target.now.symbol target.now.version) }
+{
+    let body = get_reached(rt, bucket, target, &target.index)?;
+    match open(alloc, body.bytes()) {
         Ok(index) => Ok(index),
         Err(_) => Err(out_of_memory(bucket.place())),
     }

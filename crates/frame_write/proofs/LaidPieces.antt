@@ -20,7 +20,8 @@ use Rattle.store_model.proofs.Lists.{contains_none, all_weaker}
 use Rattle.frame_write.specs.declared.pieces.Piece.{Piece}
 use Rattle.frame_write.specs.declared.pieces.Piece.TheVariants as pieces
 use Rattle.frame_write.specs.declared.tiles.Tile.{Tile}
-use Rattle.frame_write.specs.Pieces.{begin_of, end_of, size_of, IsRun, HasBase, IsPiece, rows_held, moved}
+use Rattle.index_tree.specs.SlotTexts.{moved}
+use Rattle.frame_write.specs.Pieces.{begin_of, end_of, size_of, IsRun, HasBase, IsPiece, rows_held}
 use Rattle.frame_write.specs.Placing.{IsTileOf, AreTilesOf, slot_at, placed}
 use Rattle.frame_write.specs.Laying.{Laid, slots_laid, behind, fresh_laid, rows_in, tiles_in, MayMove, MayLay, IsTiledPiece, laid_pieces}
 use Rattle.frame_write.proofs.RowStamps.{length_slice}
@@ -177,6 +178,12 @@ behind_rows to size xs ys zs within is long =
       within = omega (arith, within, both, long, length-drop to xs);
     }
 
+-- a run ends below the bound of each of its slots
+end_small : (run : List Slot) → AllByRecursion (λ (s : Slot). s.part.first_row + s.part.rows < 2 ^ 32) run → end_of run < 2 ^ 32
+end_small [] all = omega arith
+end_small (s ∷ []) all = all.0
+end_small (s ∷ t ∷ more) all = end_small (t ∷ more) all.1
+
 module _ (h : History) (lawful : ∥ IsLawful h ∥₁) (symbol : Name) (f : Frame) (rows : List Row) (slots : List Slot) (base : (slots ≡ []) ⊎ HasBase h symbol f.schema rows slots) where
   -- how many rows a run has
   run_size : (run : List Slot) → AllByRecursion (λ (s : Slot). Contains slots s × IsSlot (length f.schema.columns) s) run → length (slice_range rows (begin_of run) (end_of run)) ≡ size_of run
@@ -190,20 +197,15 @@ module _ (h : History) (lawful : ∥ IsLawful h ∥₁) (symbol : Name) (f : Fra
 
   -- a run may be moved
   run_may_move : (run : List Slot) → AllByRecursion (λ (s : Slot). Contains slots s × IsSlot (length f.schema.columns) s) run → IsRun (length f.schema.columns) run → MayMove run
-  run_may_move [] each r = (omega arith, tt)
+  run_may_move [] each r = (omega arith, omega arith, tt)
   run_may_move (s ∷ more) each r = elim base [
     | inl none ↦ absurd (contains_none s (subst (λ xs. Contains xs s) none each.0.0))
     | inr b ↦ (
       run_ordered (length f.schema.columns) (s ∷ more) r,
-      both (begin_of (s ∷ more)) (end_of (s ∷ more)) (s ∷ more) (run_between (length f.schema.columns) (s ∷ more) r)
-          (all_weaker _ (λ (t : Slot). t.part.first_row + t.part.rows < 2 ^ 32) (λ t e. small_told h lawful symbol f.schema rows slots b t e.0) (s ∷ more) each),
+      end_small (s ∷ more) (all_weaker _ (λ (t : Slot). t.part.first_row + t.part.rows < 2 ^ 32) (λ t e. small_told h lawful symbol f.schema rows slots b t e.0) (s ∷ more) each),
+      run_between (length f.schema.columns) (s ∷ more) r,
     )
   ]
-    where
-      both : (from end : ℕ) (run : List Slot) → AreBetween from end run → AllByRecursion (λ (t : Slot). t.part.first_row + t.part.rows < 2 ^ 32) run
-          → AllByRecursion (λ (t : Slot). (from ≤ t.part.first_row) × (t.part.first_row + t.part.rows < 2 ^ 32)) run
-      both from end [] a b = tt
-      both from end (t ∷ run) a b = ((a.0.0, b.0), both from end run a.1 b.1)
 
   -- the pieces may be laid out, and have as many rows as they hold
   pub pieces_may_lay : (list : List Piece) → AllByRecursion (IsPiece f.schema slots) list → AllByRecursion MayLay list

@@ -16,7 +16,8 @@ use Rattle.reply_model.specs.Tries.{IsKeyOf}
 use Rattle.frame_write.specs.declared.pieces.Piece.{Piece}
 use Rattle.frame_write.specs.declared.pieces.Piece.TheVariants as pieces
 use Rattle.frame_write.specs.declared.tiles.Tile.{Tile}
-use Rattle.frame_write.specs.Pieces.{begin_of, size_of, moved, part_first, part_last, fresh_slot, fresh_slots, laid, new_tiles}
+use Rattle.index_tree.specs.SlotTexts.{moved}
+use Rattle.frame_write.specs.Pieces.{begin_of, size_of, part_first, part_last, fresh_slot, fresh_slots, laid, new_tiles}
 use Rattle.frame_write.specs.Placing.{IsTileOf, AreTilesOf, slot_at, placed, tile_puts}
 use Rattle.frame_write.specs.Plans.{ArePutsFrom}
 use Rattle.frame_write.specs.Laying.{Laid, slots_laid, puts_laid, behind, fresh_laid, IsTiledPiece, laid_pieces, tiles_in}

@@ -1,20 +1,34 @@
 -- One piece more is laid out.
-use Rattle.std.proofs.Common.{◌≡◌, ℕ, zero, suc, ◌+◌, ◌-◌, ◌<◌, ◌≤◌, ◌^◌, map, Ok, Err, Result, List, [], ◌∷◌, ◌++◌, length, take, refl, ap, sym, ◌∙◌, subst, arith, append_assoc, Some}
-use Rattle.std.specs.Prelude.{slice_get, OnOk}
+use Rattle.std.proofs.Common.{◌≡◌, ℕ, zero, suc, ◌+◌, ◌-◌, ◌<◌, ◌≤◌, ◌^◌, map, Ok, Err, Result, List, [], ◌∷◌, ◌++◌, length, take, refl, ap, sym, ◌∙◌, subst, arith, append_assoc, Option, Some, None}
+use Rattle.std.specs.Prelude.{slice_get, option_map, pos, OnOk}
+use Rattle.std.proofs.lemmas.Option.{slice_get-get_or}
 use Rattle.std.specs.List.{AllByRecursion, AllZip}
 use Rattle.std.proofs.lemmas.List.{append-nil}
+use Rattle.frame_core.specs.declared.part.Part.{Part}
+use Rattle.frame_core.specs.Frames.{Frame}
+use Rattle.frame_core.specs.Limits.{IsStorable}
 use Rattle.segment_cut.specs.Cuttings.{Cutting}
+use Rattle.segment_cut.specs.Grids.{parts, grid_of}
+use Rattle.segment_cut.specs.Tiles.{LiesIn, cut}
+use Rattle.segment_cut.specs.Tiles.{Tile as CutTile}
+use Rattle.segment_cut.proofs.GridLemmas.{tiled-grid}
+use Rattle.index_tree.specs.declared.span.Span.{Span}
+use Rattle.index_tree.specs.SlotTexts.{span_of}
+use Rattle.index_tree.specs.SlotTexts.{MayMove as MoveFits}
 use Rattle.index_tree.specs.declared.index.Slot.{Slot}
 use Rattle.key_kind.specs.Names.{Name}
 use Rattle.frame_write.specs.declared.laying.Layout.{Layout}
 use Rattle.frame_write.specs.declared.pieces.Piece.{Piece}
 use Rattle.frame_write.specs.declared.pieces.Piece.TheVariants as pieces
 use Rattle.frame_write.specs.declared.tiles.Tile.{Tile}
-use Rattle.frame_write.specs.Pieces.{begin_of, end_of, size_of, moved}
+use Rattle.index_tree.specs.SlotTexts.{moved}
+use Rattle.frame_write.specs.Pieces.{begin_of, end_of, size_of}
 use Rattle.frame_write.specs.Plans.{puts_seen}
-use Rattle.frame_write.specs.Laying.{Laid, slots_laid, puts_laid, piece_rows, rows_in, IsTiledPiece, laid_piece, laid_pieces, tiles_in}
+use Rattle.frame_write.specs.Placing.{IsTileOf, AreTilesOf}
+use Rattle.frame_write.proofs.CutLimits.{frame_within}
+use Rattle.frame_write.specs.Laying.{FitsAt, MayMove, Laid, slots_laid, puts_laid, piece_rows, rows_in, IsTiledPiece, laid_piece, laid_pieces, tiles_in}
 use Rattle.frame_write.specs.Layouts.{AddsPiece, IsLaid}
-use Rattle.frame_write.specs.SlotKeys.{last_of}
+use Rattle.frame_write.specs.SlotKeys.{first_of, last_of}
 use Rattle.frame_write.proofs.ListLemmas.{map_append}
 use Rattle.frame_write.proofs.LaidPuts.{puts_append, shared_puts, run_slots}
 
@@ -115,11 +129,92 @@ last_at (x ∷ y ∷ more) s e =
     let place : length (x ∷ y ∷ more) - 1 ≡ suc (length (y ∷ more) - 1) = omega arith in
     last_at (y ∷ more) s (e ∙ ap (slice_get (x ∷ y ∷ more)) place)
 
--- its rows end below the bound of each
-pub end_small : (from : ℕ) (run : List Slot) → AllByRecursion (λ (s : Slot). (from ≤ s.part.first_row) × (s.part.first_row + s.part.rows < 2 ^ 32)) run → end_of run < 2 ^ 32
-end_small from [] all = omega arith
-end_small from (s ∷ []) all = all.0.1
-end_small from (s ∷ t ∷ more) all = end_small from (t ∷ more) all.1
+-- ---- the ends of slots, as a text of them tells them
+
+-- the span that is seen is that of a slot
+seen : (o : Option Slot) (span : Span) → Some span ≡ option_map span_of o → (s : Slot) × (Some s ≡ o) × (span ≡ span_of s)
+seen None span e = absurd cc
+seen (Some s) span e = let same : span ≡ span_of s = cc in (s, refl, same)
+
+unseen : (o : Option Slot) → option_map span_of o ≡ None → o ≡ None
+unseen None e = refl
+unseen (Some s) e = absurd cc
+
+-- no slot is the first, nor the last, only where there is none
+none_first : (slots : List Slot) → slice_get slots 0 ≡ None → slots ≡ []
+none_first [] e = refl
+none_first (s ∷ more) e = absurd cc
+
+none_last : (slots : List Slot) → slice_get slots (length slots - 1) ≡ None → slots ≡ []
+none_last [] e = refl
+none_last (s ∷ more) e =
+    let there = slice_get-get_or (s ∷ more) (length (s ∷ more) - 1) s (omega arith) in
+    absurd cc
+
+pub begin_seen : (slots : List Slot) (span : Span) → Some span ≡ option_map span_of (slice_get slots 0) → span.part.first_row ≡ begin_of slots
+begin_seen [] span e = absurd cc
+begin_seen (s ∷ more) span e = let same : span ≡ span_of s = cc in ap (λ (x : Span). x.part.first_row) same
+
+pub begin_none : (slots : List Slot) → None ≡ option_map span_of (slice_get slots 0) → 0 ≡ begin_of slots
+begin_none slots e = ap begin_of (sym (none_first slots (unseen _ (sym e))))
+
+pub first_seen : (slots : List Slot) (span : Span) → Some span ≡ option_map span_of (slice_get slots 0) → span.first ≡ first_of slots
+first_seen [] span e = absurd cc
+first_seen (s ∷ more) span e = let same : span ≡ span_of s = cc in ap (λ (x : Span). x.first) same
+
+pub first_none : (slots : List Slot) → None ≡ option_map span_of (slice_get slots 0) → pos 0 ≡ first_of slots
+first_none slots e = ap first_of (sym (none_first slots (unseen _ (sym e))))
+
+pub end_seen : (slots : List Slot) (span : Span) → Some span ≡ option_map span_of (slice_get slots (length slots - 1)) → span.part.first_row + span.part.rows ≡ end_of slots
+end_seen slots span e =
+    let s = seen _ span e in
+    ap (λ (x : Span). x.part.first_row + x.part.rows) s.2 ∙ end_at slots s.0 s.1
+
+pub end_none : (slots : List Slot) → None ≡ option_map span_of (slice_get slots (length slots - 1)) → 0 ≡ end_of slots
+end_none slots e = ap end_of (sym (none_last slots (unseen _ (sym e))))
+
+pub last_seen : (slots : List Slot) (span : Span) → Some span ≡ option_map span_of (slice_get slots (length slots - 1)) → span.last ≡ last_of slots
+last_seen slots span e =
+    let s = seen _ span e in
+    ap (λ (x : Span). x.last) s.2 ∙ last_at slots s.0 s.1
+
+pub last_none : (slots : List Slot) → None ≡ option_map span_of (slice_get slots (length slots - 1)) → pos 0 ≡ last_of slots
+last_none slots e = ap last_of (sym (none_last slots (unseen _ (sym e))))
+
+-- ---- what fits an index
+
+-- the tiles of a frame that may be written fit an index behind few rows
+pub tiles_fit : (frame : Frame) (cutting : Cutting) (tiles : List Tile) (begin : ℕ) → IsStorable frame → AreTilesOf frame cutting tiles → begin + length frame.rows ≤ 2000000 → AllByRecursion (FitsAt begin) tiles
+tiles_fit frame cutting tiles begin storable are few = each tiles (subst (AllByRecursion (LiesIn frame)) (sym are.parts_are) (on_parts (parts (grid_of frame cutting)) (tiled-grid frame cutting are.cutting_is).inside)) are.each
+  where
+    columns : length frame.schema.columns ≤ 4096
+    columns = (frame_within frame storable.within).columns_are
+
+    on_parts : (ps : List Part) → AllByRecursion (λ (t : CutTile). LiesIn frame t.0) (map (λ (p : Part). (p, cut frame p)) ps) → AllByRecursion (LiesIn frame) ps
+    on_parts [] all = tt
+    on_parts (p ∷ ps) all = (all.0, on_parts ps all.1)
+
+    each : (ts : List Tile) → AllByRecursion (LiesIn frame) (map (λ (t : Tile). t.part) ts) → AllByRecursion (IsTileOf frame) ts → AllByRecursion (FitsAt begin) ts
+    each [] lie tiled = tt
+    each (t ∷ ts) lie tiled = (
+      record {
+        first_row = omega (arith, lie.0.0);
+        rows = omega (arith, lie.0.0);
+        first_col = omega (arith, lie.0.1, columns);
+        cols = omega (arith, lie.0.1, columns);
+        first = tiled.0.first_fits;
+        last = tiled.0.last_fits;
+      },
+      each ts lie.1 tiled.1,
+    )
+
+-- the slots of a run may be moved to a row from which on they are few
+pub run_moves : (run : List Slot) (to : ℕ) → MayMove run → to + size_of run < 2 ^ 32 → AllByRecursion (MoveFits (begin_of run) to) run
+run_moves run to may few = each (begin_of run) (end_of run) may.0 few run may.2
+  where
+    each : (from end : ℕ) → from ≤ end → to + (end - from) < 2 ^ 32 → (slots : List Slot) → AllByRecursion (λ (s : Slot). (from ≤ s.part.first_row) × (s.part.first_row + s.part.rows ≤ end)) slots → AllByRecursion (MoveFits from to) slots
+    each from end le small [] all = tt
+    each from end le small (s ∷ slots) all = ((all.0.0, omega (arith, all.0.0, all.0.1)), each from end le small slots all.1)
 
 -- a moved run is laid out
 pub shared_adds : {A E : Type 0} (client : ℕ) (symbol : Name) (version : ℕ) (cutting : Cutting) (p : Piece) (run : List Slot) (old new : Layout) (r : Result A E) → p ≡ pieces.Shared run

@@ -9,7 +9,8 @@ use Rattle.segment_cut.specs.Tiles.{cut}
 use Rattle.index_tree.specs.declared.index.Slot.{Slot}
 use Rattle.index_tree.specs.IndexRules.{SameBlock, NextBlock, LeadOn}
 use Rattle.store_model.specs.Commits.{HasSlotStamps}
-use Rattle.frame_write.specs.Pieces.{end_of, IsRun, moved}
+use Rattle.index_tree.specs.SlotTexts.{moved}
+use Rattle.frame_write.specs.Pieces.{end_of, IsRun}
 use Rattle.frame_write.proofs.RowStamps.{slices_ordered, length_slice}
 
 -- ---- moved slots

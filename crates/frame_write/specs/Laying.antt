@@ -5,21 +5,24 @@
 --     IsTiledPiece        the tiles of a piece
 --     tiles_in            how many tiles several pieces have
 --     MayMove, MayLay     a run that may be moved; a run that may be moved, or a frame that may be cut
+--     FitsAt              a tile whose numbers fit an index
 --     fresh_laid          the slots of tiles, with their bodies
 --     laid_piece, laid_pieces      the slots of a piece and of several, with their tiles
-use Rattle.std.specs.Prelude.{◌≡◌, ◌≤◌, ◌<◌, ◌^◌, ℕ, suc, ◌+◌, List, [], ◌∷◌, ◌++◌, map, length, Option, Some, None}
+use Rattle.std.specs.Prelude.{◌≡◌, ◌≤◌, ◌<◌, ◌^◌, ℕ, suc, ◌+◌, List, [], ◌∷◌, ◌++◌, map, length, Option, Some, None, FitsSigned}
+use Rattle.std.specs.Int.{w64}
 use Rattle.std.specs.Arc.{arc_value}
 use Rattle.std.specs.List.{cons_option, AllByRecursion}
 use Rattle.frame_core.specs.Limits.{IsStorable}
 use Rattle.segment_cut.specs.Cuttings.{Cutting}
 use Rattle.index_tree.specs.declared.index.Slot.{Slot}
+use Rattle.index_tree.specs.SlotTexts.{moved}
 use Rattle.key_kind.specs.declared.key.Key.{Key}
 use Rattle.key_kind.specs.Names.{Name}
 use Rattle.bucket_core.specs.History.{Bytes}
 use Rattle.frame_write.specs.declared.pieces.Piece.{Piece}
 use Rattle.frame_write.specs.declared.pieces.Piece.TheVariants as pieces
 use Rattle.frame_write.specs.declared.tiles.Tile.{Tile}
-use Rattle.frame_write.specs.Pieces.{begin_of, end_of, size_of, moved}
+use Rattle.frame_write.specs.Pieces.{begin_of, end_of, size_of}
 use Rattle.frame_write.specs.Placing.{AreTilesOf, slot_at}
 
 -- how many rows a piece has
@@ -64,9 +67,18 @@ abbrev pub tiles_in : List (List Tile) → ℕ
 tiles_in [] = 0
 tiles_in (t ∷ tiles) = length t + tiles_in tiles
 
--- the slots begin with the first, and their numbers are small enough to be moved
+-- the slots lie between the first row of the first and the end of the last, and their numbers are small enough to be moved
 abbrev pub MayMove : List Slot → Type 0
-MayMove run = (begin_of run ≤ end_of run) × AllByRecursion (λ (s : Slot). (begin_of run ≤ s.part.first_row) × (s.part.first_row + s.part.rows < 2 ^ 32)) run
+MayMove run = (begin_of run ≤ end_of run) × (end_of run < 2 ^ 32) × AllByRecursion (λ (s : Slot). (begin_of run ≤ s.part.first_row) × (s.part.first_row + s.part.rows ≤ end_of run)) run
+
+-- the tile of a frame that begins at a row has numbers that fit their fields in an index
+pub record FitsAt (begin : ℕ) (t : Tile) : Type 0 where
+  pub first_row : t.part.first_row + begin < 2 ^ 32
+  pub rows : t.part.rows < 2 ^ 32
+  pub first_col : t.part.first_col < 2 ^ 16
+  pub cols : t.part.cols < 2 ^ 16
+  pub first : FitsSigned w64 t.first
+  pub last : FitsSigned w64 t.last
 
 -- a run that may be moved, or a frame that may be cut
 abbrev pub MayLay : Piece → Type 0

@@ -4,7 +4,7 @@
 --     HasBase             the schema, the rows and the slots of the newest live version
 --     IsPiece, rows_held      a piece, and its rows
 --     ArePieces           the pieces of a frame
---     moved, fresh_slots, laid      the slots of the new index
+--     fresh_slots, laid   the slots of the new index
 --     new_tiles           the parts of the fresh pieces, which get tiles
 use Rattle.std.specs.Prelude.{◌≡◌, ◌⊎◌, ℕ, suc, ◌+◌, ◌-◌, ℤ, pos, List, [], ◌∷◌, ◌++◌, map, flat_map, length, slice_range, unwrap_or, Some, Contains, ⊤}
 use Rattle.std.specs.List.{AllByRecursion}
@@ -16,6 +16,7 @@ use Rattle.segment_cut.specs.Cuttings.{Cutting}
 use Rattle.segment_cut.specs.Grids.{parts, grid_of}
 use Rattle.index_tree.specs.declared.index.Slot.{Slot}
 use Rattle.index_tree.specs.IndexRules.{IsSlot, LeadOn}
+use Rattle.index_tree.specs.SlotTexts.{moved}
 use Rattle.key_kind.specs.declared.key.KeyKind.TheVariants as kinds
 use Rattle.key_kind.specs.Names.{Name}
 use Rattle.bucket_core.specs.History.{History}
@@ -78,10 +79,6 @@ pub record ArePieces (h : History) (symbol : Name) (frame : Frame) (list : List 
   pub held : frame.rows ≡ flat_map (rows_held rows) list
 
 -- ---- the new index
-
--- the slot of a run that begins with the row `from`, where the run begins with the row `to` instead
-abbrev pub moved : ℕ → ℕ → Slot → Slot
-moved from to s = record s { part = record s.part { first_row = (s.part.first_row - from) + to } }
 
 -- the stamps of a part's rows
 abbrev pub part_first : Frame → Part → ℤ

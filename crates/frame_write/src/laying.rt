@@ -5,9 +5,10 @@ ghost use Rattle.index_tree.specs.IndexText.{index_of};
 ghost use Rattle.index_tree.specs.IndexRules.{IsIndex};
 ghost use Rattle.key_kind.specs.Names.{IsName};
 ghost use Rattle.frame_write.specs.Plans.{puts_seen};
-ghost use Rattle.frame_write.specs.Pieces.{begin_of, end_of, size_of, moved};
+ghost use Rattle.frame_write.specs.Pieces.{begin_of, end_of, size_of};
+ghost use Rattle.index_tree.specs.SlotTexts.{moved};
 ghost use Rattle.frame_write.specs.Placing.{slot_at};
-ghost use Rattle.frame_write.specs.Laying.{behind, fresh_laid, slots_laid, puts_laid, piece_rows, rows_in, MayMove, MayLay};
+ghost use Rattle.frame_write.specs.Laying.{behind, fresh_laid, slots_laid, puts_laid, piece_rows, rows_in, FitsAt, MayMove, MayLay};
 ghost use Rattle.frame_write.specs.Layouts.{AddsPiece, IsLaid};
 ghost use Rattle.frame_write.specs.SlotKeys.{first_of, last_of, slots_key};
 
@@ -17,7 +18,7 @@ use crate::tiles::{Tile, tiles_of};
 use base_types::{Items, Keep, NoMemory};
 use bucket_core::Body;
 use frame_core::{Part, Schema};
-use index_tree::{Index, Slot, build};
+use index_tree::{Slot, SlotText, build_packed};
 use key_kind::{Key, KeyKind, Name, Symbol};
 use segment_cut::Cutting;
 use std::alloc::Global;
@@ -27,7 +28,7 @@ use std::sync::Arc;
 #[derive(Drop)]
 pub(crate) struct Layout {
     /// The slots, from row 0 on.
-    pub(crate) slots: Items<Slot>,
+    pub(crate) slots: SlotText,
     /// The new tiles under keys of their own, as they are put.
     pub(crate) puts: Items<Prepared>,
     /// How many rows the slots have.
@@ -42,7 +43,7 @@ impl Layout {
         ensures { result ≡ record { slots = []; puts = []; rows = 0; next = serial } }
     {
         Layout {
-            slots: Items::new(alloc),
+            slots: SlotText::new(alloc),
             puts: Items::new(alloc),
             rows: 0,
             next: serial,
@@ -59,7 +60,8 @@ impl Layout {
         begin: u64,
         tile: &Tile,
     ) -> Result<(), NoMemory>
-        requires { tile.now.part.first_row + begin < 2 ^ 64 }
+        requires is_name { IsName name.now }
+        requires fits { FitsAt begin tile.now }
         ensures slots { OnOk result (self.new.slots ≡ self.old.slots ++ behind begin (slot_at client name.now version self.old.next tile.now) ∷ []) }
         ensures puts { OnOk result (puts_seen self.new.puts ≡ puts_seen self.old.puts ++ ((slot_at client name.now version self.old.next tile.now).key, arc_value tile.now.body) ∷ []) }
         ensures rows { OnOk result (self.new.rows ≡ self.old.rows) }
@@ -82,12 +84,13 @@ impl Layout {
             key: key.copy(alloc)?,
             body: Arc::try_clone(&tile.body)?,
         })?;
-        self.slots.push(Slot {
+        let slot = Slot {
             key,
             part: moved_by(tile.part, begin),
             first: tile.first,
             last: tile.last,
-        })?;
+        };
+        self.slots.push(alloc, &slot)?;
         self.next = next;
         Ok(())
     }
@@ -102,7 +105,8 @@ impl Layout {
         rows: u64,
         tiles: &[Tile],
     ) -> Result<(), NoMemory>
-        requires each { AllByRecursion (λ (tile : Tile). tile.part.first_row ≤ rows) tiles.now }
+        requires is_name { IsName name.now }
+        requires each { AllByRecursion (FitsAt self.old.rows) tiles.now }
         requires few { self.old.rows + rows < 2 ^ 64 }
         ensures slots { OnOk result (self.new.slots ≡ self.old.slots ++ slots_laid (fresh_laid client name.now version self.old.rows self.old.next tiles.now)) }
         ensures puts { OnOk result (puts_seen self.new.puts ≡ puts_seen self.old.puts ++ puts_laid (fresh_laid client name.now version self.old.rows self.old.next tiles.now)) }
@@ -119,9 +123,9 @@ impl Layout {
     }
 
     /// Adds the slots of a run, moved so that it begins behind the rows so far.
-    fn add_shared(&mut self, alloc: Global, run: &[Slot]) -> Result<(), NoMemory>
+    fn add_shared(&mut self, alloc: Global, run: &SlotText) -> Result<(), NoMemory>
         requires run { MayMove run.now }
-        requires few { self.old.rows < 2 ^ 32 }
+        requires few { self.old.rows + size_of run.now < 2 ^ 32 }
         ensures slots { OnOk result (self.new.slots ≡ self.old.slots ++ map (moved (begin_of run.now) self.old.rows) run.now) }
         ensures puts { OnOk result (self.new.puts ≡ self.old.puts) }
         ensures rows { OnOk result (self.new.rows ≡ self.old.rows + size_of run.now) }
@@ -129,9 +133,7 @@ impl Layout {
     {
         let from = begin_of(run);
         let to = self.rows;
-        for slot in run {
-            self.slots.push(moved(alloc, from, to, slot)?)?;
-        }
+        self.slots.extend_moved(alloc, from, to, run)?;
         self.rows = to + (end_of(run) - from);
         Ok(())
     }
@@ -148,35 +150,23 @@ fn moved_by(part: Part, rows: u64) -> Part
     }
 }
 
-/// The slot of a run that begins with the row `from`, where the run begins with the row `to` instead.
-fn moved(alloc: Global, from: u64, to: u64, slot: &Slot) -> Result<Slot, NoMemory>
-    requires later { from ≤ slot.now.part.first_row }
-    requires few { slot.now.part.first_row < 2 ^ 32 }
-    requires fits { to < 2 ^ 32 }
-    ensures { IfOk result (λ copy. copy ≡ moved from to slot.now) }
-{
-    let mut copy = slot.copy(alloc)?;
-    copy.part.first_row = (slot.part.first_row - from) + to;
-    Ok(copy)
-}
-
 /// The first row of a run, or 0.
-fn begin_of(run: &[Slot]) -> u64
+fn begin_of(run: &SlotText) -> u64
     ensures { result ≡ begin_of run.now }
 {
     match run.first() {
-        Some(slot) => slot.part.first_row,
+        Some(span) => span.part.first_row,
         None => 0,
     }
 }
 
 /// The row behind the last of a run, or 0.
-fn end_of(run: &[Slot]) -> u64
+fn end_of(run: &SlotText) -> u64
     requires { MayMove run.now }
     ensures { result ≡ end_of run.now }
 {
     match run.last() {
-        Some(slot) => slot.part.first_row + slot.part.rows,
+        Some(span) => span.part.first_row + span.part.rows,
         None => 0,
     }
 }
@@ -191,12 +181,13 @@ fn add_piece(
     piece: &Piece,
     layout: &mut Layout,
 ) -> Result<(), NoMemory>
+    requires is_name { IsName name.now }
     requires piece { MayLay piece.now }
     requires few { layout.old.rows + piece_rows piece.now ≤ 2000000 }
     ensures { OnOk result (AddsPiece client name.now version cutting piece.now layout.old layout.new) }
 {
     match piece {
-        Piece::Shared(run) => layout.add_shared(alloc, run.items()),
+        Piece::Shared(run) => layout.add_shared(alloc, run),
         Piece::Fresh(frame) => {
             let tiles = tiles_of(alloc, frame, cutting)?;
             layout.add_fresh(alloc, client, name, version, frame.rows(), tiles.items())
@@ -236,11 +227,11 @@ pub(crate) fn place_slots(
     version: u64,
     schema: &Schema,
     rows: u64,
-    slots: Items<Slot>,
+    slots: &SlotText,
 ) -> Result<Prepared, NoMemory>
-    requires { IsIndex (record { schema = schema.now; rows = rows; slots = slots }) }
-    ensures key { IfOk result (λ put. put.key ≡ slots_key client symbol.now version serial slots) }
-    ensures body { IfOk result (λ put. index_of (arc_value put.body) ≡ Ok (record { schema = schema.now; rows = rows; slots = slots })) }
+    requires { IsIndex (record { schema = schema.now; rows = rows; slots = slots.now }) }
+    ensures key { IfOk result (λ put. put.key ≡ slots_key client symbol.now version serial slots.now) }
+    ensures body { IfOk result (λ put. index_of (arc_value put.body) ≡ Ok (record { schema = schema.now; rows = rows; slots = slots.now })) }
     ensures is_name { OnOk result (IsName symbol.now) }
 {
     let key = Key {
@@ -249,34 +240,30 @@ pub(crate) fn place_slots(
         client,
         serial,
         version,
-        first: first_of(slots.items()),
-        last: last_of(slots.items()),
+        first: first_of(slots),
+        last: last_of(slots),
     };
-    let index = Index {
-        schema: schema.copy(alloc)?,
-        rows,
-        slots,
-    };
-    let body = Arc::new(alloc, Body::make(build(alloc, &index)?))?;
+    let bytes = build_packed(alloc, schema, rows, slots)?;
+    let body = Arc::new(alloc, Body::make(bytes))?;
     Ok(Prepared { key, body })
 }
 
 /// The stamp of the first row of these slots, or 0.
-fn first_of(slots: &[Slot]) -> i64
+fn first_of(slots: &SlotText) -> i64
     ensures { result ≡ first_of slots.now }
 {
     match slots.first() {
-        Some(slot) => slot.first,
+        Some(span) => span.first,
         None => 0,
     }
 }
 
 /// The stamp of their last row, or 0.
-fn last_of(slots: &[Slot]) -> i64
+fn last_of(slots: &SlotText) -> i64
     ensures { result ≡ last_of slots.now }
 {
     match slots.last() {
-        Some(slot) => slot.last,
+        Some(span) => span.last,
         None => 0,
     }
 }

@@ -1,7 +1,7 @@
 use base_types::Items;
 use bucket_core::Change;
 use frame_core::{Frame, Schema};
-use index_tree::Slot;
+use index_tree::SlotText;
 
 /// Rows of a new version, from column 0 to the last: some that the newest live version has already, or new ones.
 #[derive(Drop)]
@@ -9,7 +9,7 @@ pub enum Piece {
     /// Whole row blocks of the newest live version, one behind the other, by the slots that its index has for them: each with
     /// all its slices. Their tiles keep their keys. The first block begins where the pieces before it end, and the others
     /// follow it as they did.
-    Shared(Items<Slot>),
+    Shared(SlotText),
     /// Rows that get tiles of their own.
     Fresh(Frame),
 }

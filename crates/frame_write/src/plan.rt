@@ -143,7 +143,7 @@ pub(crate) fn plan_link(
         version,
         &link.schema,
         rows,
-        slots,
+        &slots,
     )?;
     let index_key = index.key.copy(alloc)?;
     puts.push(index)?;

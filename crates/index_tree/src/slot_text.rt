@@ -10,7 +10,7 @@ ghost use Rattle.index_tree.specs.SlotTexts.{span_of, slot_with, plain_slot_at, 
 use crate::index::Slot;
 use crate::span::{SPAN_BYTES, Span, read_span};
 use crate::writing::{put_slot, put_slots, slots_len};
-use base_types::{Items, NoMemory};
+use base_types::{Items, Keep, NoMemory};
 use byte_fields::{put_bytes, put_u32};
 use key_kind::{KeyView, view_key};
 use std::alloc::Global;
@@ -187,6 +187,15 @@ impl SlotText {
             rest = after;
         }
         Ok(slots)
+    }
+}
+
+impl Keep for SlotText {
+    fn copy(&self, alloc: Global) -> Result<SlotText, NoMemory> {
+        Ok(SlotText {
+            bytes: Vec::from_slice(alloc, self.bytes.as_slice())?,
+            count: self.count,
+        })
     }
 }
 
