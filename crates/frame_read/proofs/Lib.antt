@@ -1,5 +1,6 @@
 pub mod ChoosingLemmas
 pub mod ResolvingLemmas
+pub mod NewestLemmas
 pub mod FetchLemmas
 pub mod PlaceLemmas
 pub mod LoopLemmas

@@ -42,14 +42,16 @@ use Rattle.frame_read.proofs.ChoosingLemmas.{IsLike, row_in, alike_told, truth_p
 
 -- ---- at the place of a walk
 
+-- the history at a place is what came before it
+pub place_at : (h later before : History) (place : ℕ) → h ≡ later ++ before → place ≡ length before → history_at h place ≡ before
+place_at h later before place split is =
+    ap (λ g. history_at g place) split
+    ∙ (ap (λ n. history_at (later ++ before) n) is
+    ∙ (history_at_later before later (length before) (omega arith) ∙ history_at_end before))
+
 -- the state is that of the history at its place
 pub state_at : (h : History) (symbol : Name) (state : SymbolState) → IsStateAt h symbol state → IsStateOf (history_at h state.place) symbol state
-state_at h symbol state at = subst (λ g. IsStateOf g symbol state) (sym same) at.is
-  where
-    same : history_at h state.place ≡ at.before
-    same = ap (λ g. history_at g state.place) at.split
-        ∙ (ap (λ n. history_at (at.later ++ at.before) n) at.place
-        ∙ (history_at_later at.before at.later (length at.before) (omega arith) ∙ history_at_end at.before))
+state_at h symbol state at = subst (λ g. IsStateOf g symbol state) (sym (place_at h at.later at.before state.place at.split at.place)) at.is
 
 lawful_before : (n : ℕ) (h : History) → IsLawful h → IsLawful (drop n h)
 lawful_before zero h lawful = lawful

@@ -1,14 +1,17 @@
 //! The version that a read takes, by a walk along the symbol's chain or by a snapshot.
 
-ghost use Rattle.std.specs.Prelude.{◌≡◌, ℕ, find, option_copied, IfOk, IfErr};
+ghost use Rattle.std.specs.Prelude.{◌≡◌, ℕ, false, find, option_copied, IfOk, IfErr, Err};
 ghost use Rattle.key_kind.specs.Names.{Name, same_name};
 ghost use Rattle.key_kind.specs.Keys.{snapshot_key};
 ghost use Rattle.bucket_core.specs.History.{History};
 ghost use Rattle.bucket_core.specs.Laws.{Looks};
 ghost use Rattle.bucket_core.specs.Calls.{IsSteady, IsFound};
 ghost use Rattle.store_model.specs.Law.{IsClaimed, IsLawful};
+ghost use Rattle.store_model.specs.Snapshots.{library_of};
 ghost use Rattle.version_chain.specs.States.{IsWithin};
-ghost use Rattle.frame_read.specs.Targets.{asked_as, IsTarget, RefusesResolve};
+ghost use Rattle.version_chain.specs.Tips.{IsTipOf};
+ghost use Rattle.reply_model.specs.ReadAnswers.{read_version};
+ghost use Rattle.frame_read.specs.Targets.{asked_as, IsChosen, IsTarget, RefusesResolve};
 
 use crate::choosing::choose;
 use crate::target::Target;
@@ -19,13 +22,14 @@ use frame_core::{Asked, Refusal, Refused};
 use key_kind::{Key, SnapName, Symbol};
 use std::alloc::Global;
 use std::sync::Wait;
-use store_model::SnapRow;
-use version_chain::{StoreLaw, snap_read, walk};
+use store_model::{LinkRow, SnapRow};
+use version_chain::{ChainTip, StoreLaw, snap_read, walk, walk_tip};
 
 /// The version that a read takes.
 ///
 /// A version that is not asked by a snapshot is found by one walk along the symbol's chain, and the place is that of the look at its
-/// reference; one of a snapshot by one look at the snapshot, whose place it is. It may wait for the store.
+/// reference; the walk for the newest live version ends at its link. One of a snapshot is found by one look at the snapshot, whose
+/// place it is. It may wait for the store.
 pub fn resolve<R: Wait, B: Bucket<StoreLaw>>(
     rt: &R,
     alloc: Global,
@@ -41,10 +45,49 @@ pub fn resolve<R: Wait, B: Bucket<StoreLaw>>(
     ensures refused { IfErr result (RefusesResolve (B.faults bucket.old) (B.faults bucket.new) (B.seen bucket.old) (B.seen bucket.new) symbol.now as_of.now) }
 {
     match as_of {
+        AsOf::Back(1) => by_tip(rt, alloc, bucket, symbol),
         AsOf::Back(back) => by_walk(rt, alloc, bucket, symbol, Asked::Back(*back)),
         AsOf::Number(number) => by_walk(rt, alloc, bucket, symbol, Asked::Number(*number)),
         AsOf::Moment(moment) => by_walk(rt, alloc, bucket, symbol, Asked::Moment(*moment)),
         AsOf::Snapshot(snap) => by_snapshot(rt, alloc, bucket, symbol, snap),
+    }
+}
+
+/// The newest live version, by a walk along the symbol's chain that ends at its link.
+fn by_tip<R: Wait, B: Bucket<StoreLaw>>(
+    rt: &R,
+    alloc: Global,
+    bucket: &mut B,
+    symbol: &Symbol,
+) -> Result<Target, Refused>
+    ensures looks { Looks IsClaimed (B.number bucket.old) (B.sole bucket.old) (B.seen bucket.old) (B.seen bucket.new) }
+    ensures steady { IsSteady B.number B.limit B.faults B.sole bucket.old bucket.new }
+    ensures target { IfOk result (IsTarget (B.seen bucket.old) (B.seen bucket.new) symbol.now (AsOf.Back 1)) }
+    ensures refused { IfErr result (RefusesResolve (B.faults bucket.old) (B.faults bucket.new) (B.seen bucket.old) (B.seen bucket.new) symbol.now (AsOf.Back 1)) }
+{
+    let tip = walk_tip(rt, alloc, bucket, symbol, false)?;
+    match newest_of(&tip) {
+        Ok(row) => target(alloc, symbol, row.version, &row.index, tip.place),
+        Err(why) => Err(Refused {
+            place: tip.place,
+            why,
+        }),
+    }
+}
+
+/// The link of the newest live version, where the tip is that of a symbol in a lawful history.
+fn newest_of(tip: &ChainTip) -> Result<&LinkRow, Refusal>
+    ensures chosen { (h : History) (symbol : Name) → ∥ IsLawful h ∥₁ → IsTipOf h symbol false tip.now → IfOk result (λ row. IsChosen h symbol (AsOf.Back 1) row.now.version row.now.index) }
+    ensures refused { (h : History) (symbol : Name) → ∥ IsLawful h ∥₁ → IsTipOf h symbol false tip.now → IfErr result (λ why. read_version (library_of h) symbol (AsOf.Back 1) ≡ Err why) }
+{
+    if tip.was.is_none() {
+        return Err(Refusal::NoSuchSymbol);
+    }
+    match &tip.newest {
+        Some(row) => Ok(row),
+        None => Err(Refusal::NoSuchVersion {
+            asked: Asked::Back(1),
+        }),
     }
 }
 
