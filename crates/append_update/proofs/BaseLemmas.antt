@@ -24,12 +24,13 @@ use Rattle.store_model.specs.Holders.{has_index}
 use Rattle.store_model.specs.Law.{IsLawful}
 use Rattle.store_model.proofs.Lawful.{lawful_as_put}
 use Rattle.store_model.proofs.Lists.{passes}
-use Rattle.version_chain.specs.declared.state.SymbolState.{SymbolState}
-use Rattle.version_chain.specs.States.{newest_link, IsStateAt, IsLookRefusal, RefusesWalk}
+use Rattle.version_chain.specs.declared.tip.ChainTip.{ChainTip}
+use Rattle.version_chain.specs.States.{IsLookRefusal, RefusesWalk}
+use Rattle.version_chain.specs.Tips.{IsTipOf, IsTipAt}
 use Rattle.frame_read.specs.declared.target.Target.{Target}
 use Rattle.frame_read.specs.Fetches.{IsTargetIndex}
 use Rattle.frame_read.proofs.FetchLemmas.{links_later}
-use Rattle.frame_read.proofs.ResolvingLemmas.{state_at, lawful_at}
+use Rattle.frame_read.proofs.ResolvingLemmas.{lawful_at}
 use Rattle.version_chain.specs.Marking.{own_refers}
 use Rattle.frame_write.specs.Tries.{IsMet}
 use Rattle.frame_write.proofs.MeetLemmas.{met_here, none_in_both, others_refer_not}
@@ -78,30 +79,40 @@ row_indexed ls l there = passes (λ (m : Linked). nat_eq l.row.version m.row.ver
 goes_on : (h : History) (place : ℕ) → h ≡ take (length h - place) h ++ history_at h place
 goes_on h place = sym (take-append-drop (length h - place) h)
 
-module _ (h : History) (symbol : Name) (state : SymbolState) (at : IsStateAt h symbol state) (lawful : ∥ IsLawful h ∥₁) where
-  pub none_found : newest_link state ≡ None → base_of (state_of (history_at h state.place) symbol) ≡ None
-  none_found e = no_newest (history_at h state.place) symbol state (lawful_at h state.place lawful) (state_at h symbol state at) e
+-- the history at the place of a walk
+pub walked_here : (h : History) (symbol : Name) (prune : Bool) (tip : ChainTip) (at : IsTipAt h symbol prune tip) → history_at h tip.place ≡ at.before
+walked_here h symbol prune tip at =
+    ap (λ g. history_at g tip.place) at.split
+    ∙ (ap (history_at (at.later ++ at.before)) at.place
+    ∙ (history_at_later at.before at.later (length at.before) (omega arith) ∙ history_at_end at.before))
 
-  module _ (row : LinkRow) (newest : newest_link state ≡ Some row) where
+module _ (h : History) (symbol : Name) (prune : Bool) (tip : ChainTip) (at : IsTipAt h symbol prune tip) (lawful : ∥ IsLawful h ∥₁) where
+  tip_there : IsTipOf (history_at h tip.place) symbol prune tip
+  tip_there = subst (λ g. IsTipOf g symbol prune tip) (sym (walked_here h symbol prune tip at)) at.is
+
+  pub none_found : tip.newest ≡ None → base_of (state_of (history_at h tip.place) symbol) ≡ None
+  none_found e = no_newest (history_at h tip.place) symbol prune tip (lawful_at h tip.place lawful) tip_there e
+
+  module _ (row : LinkRow) (newest : tip.newest ≡ Some row) where
     -- a link of the symbol has the row's index
     pub is_linked : has_index (links h symbol) row.version row.index ≡ true
     is_linked =
-        let found = (newest_linked (history_at h state.place) symbol state row (lawful_at h state.place lawful) (state_at h symbol state at) newest).0 in
-        let there : Contains (links h symbol) found.0 = subst (λ g. Contains (links g symbol) found.0) (sym (goes_on h state.place)) (links_later (take (length h - state.place) h) (history_at h state.place) symbol found.0 found.1) in
+        let found = (newest_linked (history_at h tip.place) symbol prune tip row (lawful_at h tip.place lawful) tip_there newest).0 in
+        let there : Contains (links h symbol) found.0 = subst (λ g. Contains (links g symbol) found.0) (sym (goes_on h tip.place)) (links_later (take (length h - tip.place) h) (history_at h tip.place) symbol found.0 found.1) in
         subst (λ (r : LinkRow). has_index (links h symbol) r.version r.index ≡ true) found.2 (row_indexed (links h symbol) found.0 there)
 
     -- and its version is live
-    pub lives : is_buried (state_of (history_at h state.place) symbol) row.version ≡ false
-    lives = (newest_linked (history_at h state.place) symbol state row (lawful_at h state.place lawful) (state_at h symbol state at) newest).1
+    pub lives : is_buried (state_of (history_at h tip.place) symbol) row.version ≡ false
+    lives = (newest_linked (history_at h tip.place) symbol prune tip row (lawful_at h tip.place lawful) tip_there newest).1
 
     -- the index that was got is that of the newest live version
     pub one_found : (more new : History) (target : Target) (index : Index) → new ≡ more ++ h → ∥ IsLawful new ∥₁ → target.symbol ≡ symbol → target.index ≡ row.index → IsIndex index → IsTargetIndex new target index
-        → (v : Version) × IsNewest (history_at h state.place) symbol v index
+        → (v : Version) × IsNewest (history_at h tip.place) symbol v index
     one_found more new target index is lawful_new symbol_is key rules got =
-        newest_is (history_at h state.place) symbol state row index (lawful_at h state.place lawful) (state_at h symbol state at) newest rules (λ l there row_is.
-        let whole : new ≡ (more ++ take (length h - state.place) h) ++ history_at h state.place =
-        is ∙ (ap (λ g. more ++ g) (goes_on h state.place) ∙ sym (append_assoc more (take (length h - state.place) h) (history_at h state.place))) in
-        let later : Contains (links new symbol) l = subst (λ g. Contains (links g symbol) l) (sym whole) (links_later (more ++ take (length h - state.place) h) (history_at h state.place) symbol l there) in
+        newest_is (history_at h tip.place) symbol prune tip row index (lawful_at h tip.place lawful) tip_there newest rules (λ l there row_is.
+        let whole : new ≡ (more ++ take (length h - tip.place) h) ++ history_at h tip.place =
+        is ∙ (ap (λ g. more ++ g) (goes_on h tip.place) ∙ sym (append_assoc more (take (length h - tip.place) h) (history_at h tip.place))) in
+        let later : Contains (links new symbol) l = subst (λ g. Contains (links g symbol) l) (sym whole) (links_later (more ++ take (length h - tip.place) h) (history_at h tip.place) symbol l there) in
         let link : Contains (links new symbol) got.link = subst (λ n. Contains (links new n) got.link) symbol_is got.link_is in
         same_index new symbol l got.link lawful_new later link (ap (λ (r : LinkRow). r.index) row_is ∙ (sym key ∙ sym got.key)) ∙ got.is)
 
@@ -170,12 +181,6 @@ gone_was_met client symbol before more place number refused lawful none le live 
       met = subst (IsMet client symbol (length before) (more ++ before)) (sym (m.place ∙ since_told (more ++ before) symbol lawful)) (met_here client symbol before more none all);
       why = m.why;
     }
-
-pub walked_here : (h : History) (symbol : Name) (state : SymbolState) (at : IsStateAt h symbol state) → history_at h state.place ≡ at.before
-walked_here h symbol state at =
-    ap (λ g. history_at g state.place) at.split
-    ∙ (ap (history_at (at.later ++ at.before)) at.place
-    ∙ (history_at_later at.before at.later (length at.before) (omega arith) ∙ history_at_end at.before))
 
 gone_of : (before now : ℕ) (h : History) (symbol : Name) (version number : ℕ) (why : Refusal) → IsGetRefusal before now h symbol version why → why ≡ refusals.VersionGone number → IsGone h symbol version
 gone_of before now h symbol version number why is e = (subst (IsGetRefusal before now h symbol version) e is).1

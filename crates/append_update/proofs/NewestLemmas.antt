@@ -26,8 +26,9 @@ use Rattle.store_model.proofs.Lawful.{lawful_is_intact}
 use Rattle.store_model.proofs.Linking.{refer_makes}
 use Rattle.store_model.proofs.Referring.{at_symbol}
 use Rattle.store_model.proofs.Lists.{contains_first, contains_later}
-use Rattle.version_chain.specs.declared.state.SymbolState.{SymbolState}
-use Rattle.version_chain.specs.States.{is_tomb, newest_link, IsStateOf}
+use Rattle.version_chain.specs.declared.tip.ChainTip.{ChainTip}
+use Rattle.version_chain.specs.States.{is_tomb}
+use Rattle.version_chain.specs.Tips.{IsTipOf}
 use Rattle.reply_model.specs.Keyed.{block_keys}
 use Rattle.reply_model.specs.Standing.{row_sizes, rows_of_version, base_rows, keys_of_version, base_keys}
 use Rattle.frame_read.proofs.StampLemmas.{IsStamped, lawful_is_stamped}
@@ -162,17 +163,15 @@ module _ (tombs : List ℕ) where
           ap (λ b. first_of (cond b (v ∷ filter (λ (v : Version). lives v.number) vs) (filter (λ (v : Version). lives v.number) vs))) gone
           ∙ rest (sym (ap (λ b. cond b (Some l.row) (find (λ (r : LinkRow). lives r.version) (map (λ (l : Linked). l.row) ls))) dead) ∙ e)
 
--- ---- of a walked state
+-- ---- of a walked tip
 
-newest_found : (h : History) (symbol : Name) (state : SymbolState) → IsStateOf h symbol state → (o : Option LinkRow) → newest_link state ≡ o
+newest_found : (h : History) (symbol : Name) (prune : Bool) (tip : ChainTip) → IsTipOf h symbol prune tip → (o : Option LinkRow) → tip.newest ≡ o
     → find (λ (r : LinkRow). not (is_tomb (state_of h symbol).buried r.version)) (map (λ (l : Linked). l.row) (links h symbol)) ≡ o
-newest_found h symbol state is o e =
-    ap (find (λ (r : LinkRow). not (is_tomb (state_of h symbol).buried r.version))) (sym (ap reverse is.links ∙ reverse-reverse (map (λ (l : Linked). l.row) (links h symbol))))
-    ∙ (ap (λ (tombs : List ℕ). find (λ (r : LinkRow). not (is_tomb tombs r.version)) (reverse state.links)) (sym is.tombs) ∙ e)
+newest_found h symbol prune tip is o e = sym is.newest ∙ e
 
--- the newest live version of a state without a live link
-pub no_newest : (h : History) (symbol : Name) (state : SymbolState) → ∥ IsLawful h ∥₁ → IsStateOf h symbol state → newest_link state ≡ None → base_of (state_of h symbol) ≡ None
-no_newest h symbol state lawful is e = none_live (state_of h symbol).buried (links h symbol) (state_of h symbol).versions (lawful_is_paired h symbol lawful) (newest_found h symbol state is None e)
+-- the newest live version where the tip has none
+pub no_newest : (h : History) (symbol : Name) (prune : Bool) (tip : ChainTip) → ∥ IsLawful h ∥₁ → IsTipOf h symbol prune tip → tip.newest ≡ None → base_of (state_of h symbol) ≡ None
+no_newest h symbol prune tip lawful is e = none_live (state_of h symbol).buried (links h symbol) (state_of h symbol).versions (lawful_is_paired h symbol lawful) (newest_found h symbol prune tip is None e)
 
 -- what the index of the base's link tells
 module _ (h : History) (symbol : Name) (v : Version) (link : Linked) (index : Index) (is : base_of (state_of h symbol) ≡ Some v) (number : link.row.version ≡ v.number)
@@ -191,10 +190,10 @@ module _ (h : History) (symbol : Name) (v : Version) (link : Linked) (index : In
   base_keeps = ap (keys_of_version (links h symbol)) is ∙ told_of_base (λ i. block_keys i.slots)
 
 -- and with one, whose index was put under its key
-pub newest_is : (h : History) (symbol : Name) (state : SymbolState) (row : LinkRow) (index : Index) → ∥ IsLawful h ∥₁ → IsStateOf h symbol state → newest_link state ≡ Some row
+pub newest_is : (h : History) (symbol : Name) (prune : Bool) (tip : ChainTip) (row : LinkRow) (index : Index) → ∥ IsLawful h ∥₁ → IsTipOf h symbol prune tip → tip.newest ≡ Some row
     → IsIndex index → ((l : Linked) → Contains (links h symbol) l → l.row ≡ row → l.index ≡ index) → (v : Version) × IsNewest h symbol v index
-newest_is h symbol state row index lawful is e rules same =
-    let found = first_live (state_of h symbol).buried (links h symbol) (state_of h symbol).versions (lawful_is_paired h symbol lawful) row (newest_found h symbol state is (Some row) e) in
+newest_is h symbol prune tip row index lawful is e rules same =
+    let found = first_live (state_of h symbol).buried (links h symbol) (state_of h symbol).versions (lawful_is_paired h symbol lawful) row (newest_found h symbol prune tip is (Some row) e) in
     let index_is : found.link.index ≡ index = same found.link found.link_is found.row_is in
     let v = found.version in
     let number : found.link.row.version ≡ v.number = nat_told found.link.row.version v.number (∥∥₁_map found.pair (λ p. p.link.number)) in
@@ -221,10 +220,10 @@ newest_is h symbol state row index lawful is e rules same =
     )
 
 -- the newest live link is a link of the symbol, and its version is not buried
-pub newest_linked : (h : History) (symbol : Name) (state : SymbolState) (row : LinkRow) → ∥ IsLawful h ∥₁ → IsStateOf h symbol state → newest_link state ≡ Some row
+pub newest_linked : (h : History) (symbol : Name) (prune : Bool) (tip : ChainTip) (row : LinkRow) → ∥ IsLawful h ∥₁ → IsTipOf h symbol prune tip → tip.newest ≡ Some row
     → ((l : Linked) × Contains (links h symbol) l × (l.row ≡ row)) × (is_buried (state_of h symbol) row.version ≡ false)
-newest_linked h symbol state row lawful is e =
-    let found = first_live (state_of h symbol).buried (links h symbol) (state_of h symbol).versions (lawful_is_paired h symbol lawful) row (newest_found h symbol state is (Some row) e) in
+newest_linked h symbol prune tip row lawful is e =
+    let found = first_live (state_of h symbol).buried (links h symbol) (state_of h symbol).versions (lawful_is_paired h symbol lawful) row (newest_found h symbol prune tip is (Some row) e) in
     ((found.link, found.link_is, found.row_is), not_true (is_tomb (state_of h symbol).buried row.version) found.live)
   where
     not_true : (b : Bool) → not b ≡ true → b ≡ false

@@ -13,8 +13,8 @@ use Rattle.bucket_core.specs.declared.event.Change.{Change}
 use Rattle.bucket_core.specs.declared.event.Change.TheVariants as changes
 use Rattle.bucket_core.specs.History.{History, AllByOthers, history_at}
 use Rattle.store_model.specs.Library.{Version, state_of, base_of, version_of, new_version, on_base, is_buried}
-use Rattle.version_chain.specs.declared.state.SymbolState.{SymbolState}
-use Rattle.version_chain.specs.States.{IsStateAt, IsStateOf}
+use Rattle.version_chain.specs.declared.tip.ChainTip.{ChainTip}
+use Rattle.version_chain.specs.Tips.{IsTipOf, IsTipAt}
 use Rattle.version_chain.specs.Marking.{own_refers}
 use Rattle.reply_model.specs.CommitAnswers.{append_answer, update_answer, update_range, outside}
 use Rattle.frame_read.specs.Fetches.{IsTargetIndex}
@@ -136,13 +136,13 @@ append_over_is h symbol options v base frame plan n f may is =
       keys = λ cut small. appended_keep (run_cutting options.cutting) h symbol base.index.slots frame options.at n.keys_are;
     })
 
--- ---- the base of a walked state
+-- ---- the base of a walked tip
 
-abbrev pub base_found : (client : ℕ) (old new others : History) (symbol : Name) (state : SymbolState) (base : Base) (at : IsStateAt old symbol state) → list_any (own_refers client symbol) at.later ≡ false → new ≡ others ++ old → AllByOthers client others
-    → (v : Version) × IsNewest (history_at old state.place) symbol v base.index → IsTargetIndex new base.target base.index → base.target.symbol ≡ symbol → base.target.place ≡ state.place
-    → is_buried (state_of (history_at old state.place) symbol) base.target.version ≡ false → IsBaseAt client new symbol base
-base_found client old new others symbol state base at none is by_others found target symbol_is place live =
-    let here = walked_here old symbol state at in
+abbrev pub base_found : (client : ℕ) (old new others : History) (symbol : Name) (prune : Bool) (tip : ChainTip) (base : Base) (at : IsTipAt old symbol prune tip) → list_any (own_refers client symbol) at.later ≡ false → new ≡ others ++ old → AllByOthers client others
+    → (v : Version) × IsNewest (history_at old tip.place) symbol v base.index → IsTargetIndex new base.target base.index → base.target.symbol ≡ symbol → base.target.place ≡ tip.place
+    → is_buried (state_of (history_at old tip.place) symbol) base.target.version ≡ false → IsBaseAt client new symbol base
+base_found client old new others symbol prune tip base at none is by_others found target symbol_is place live =
+    let here = walked_here old symbol prune tip at in
     record {
       later = others ++ at.later;
       before = at.before;
@@ -167,10 +167,10 @@ some_same x y e = cc
 pub inside_range : (range : Range) (frame : Frame) → outside 1 range frame.rows ≡ None → update_range (Some range) frame ≡ Ok range
 inside_range range frame e = rw e refl
 
-has_reference_is : (h : History) (symbol : Name) (state : SymbolState) → IsStateOf h symbol state → (state_of h symbol).has_reference ≡ is_some state.was
-has_reference_is h symbol state is = has_reference_told h symbol ∙ ap is_some (sym is.was)
+has_reference_is : (h : History) (symbol : Name) (prune : Bool) (tip : ChainTip) → IsTipOf h symbol prune tip → (state_of h symbol).has_reference ≡ is_some tip.was
+has_reference_is h symbol prune tip is = has_reference_told h symbol ∙ ap is_some (sym is.was)
 
-module _ (h : History) (symbol : Name) (state : SymbolState) (walked : IsStateOf h symbol state) (options : Options) (none : base_of (state_of h symbol) ≡ None) where
+module _ (h : History) (symbol : Name) (prune : Bool) (tip : ChainTip) (walked : IsTipOf h symbol prune tip) (options : Options) (none : base_of (state_of h symbol) ≡ None) where
   -- an update without a live version
   module _ (frame : Frame) (range : Range) (f : IsStorable frame) (order : IsRange range) (inside : outside 1 range frame.rows ≡ None) where
     replaced_alone : (plan : LinkPlan) → Some plan ≡ Some (record { schema = frame.schema; pieces = pieces.Fresh frame ∷ []; change = changes.Updated frame range options.at })
@@ -182,15 +182,15 @@ module _ (h : History) (symbol : Name) (state : SymbolState) (walked : IsStateOf
       keys = λ cut small. updated_alone_keep (run_cutting options.cutting) h symbol none frame range options.at;
     })
 
-    missing_alone : update_answer (state_of h symbol) false options.prune options.at (Some range) frame ≡ Err (why_missing (is_some state.was))
-    missing_alone = by (is_some state.was) (has_reference_is h symbol state walked)
+    missing_alone : update_answer (state_of h symbol) false options.prune options.at (Some range) frame ≡ Err (why_missing (is_some tip.was))
+    missing_alone = by (is_some tip.was) (has_reference_is h symbol prune tip walked)
       where
         by : (b : Bool) → (state_of h symbol).has_reference ≡ b → update_answer (state_of h symbol) false options.prune options.at (Some range) frame ≡ Err (why_missing b)
         by true e = update_unlinked (state_of h symbol) false options.prune options.at (Some range) frame range (inside_range range frame inside) refl none e
         by false e = update_unreferred (state_of h symbol) false options.prune options.at (Some range) frame range (inside_range range frame inside) refl none e
 
-  clear_missing : (range : Range) → answer_to (wishes.Clear range) options.prune options.at (state_of h symbol) ≡ Err (why_missing (is_some state.was))
-  clear_missing range = by (is_some state.was) (has_reference_is h symbol state walked)
+  clear_missing : (range : Range) → answer_to (wishes.Clear range) options.prune options.at (state_of h symbol) ≡ Err (why_missing (is_some tip.was))
+  clear_missing range = by (is_some tip.was) (has_reference_is h symbol prune tip walked)
     where
       by : (b : Bool) → (state_of h symbol).has_reference ≡ b → answer_to (wishes.Clear range) options.prune options.at (state_of h symbol) ≡ Err (why_missing b)
       by true e = rw (e, none) refl
@@ -204,7 +204,7 @@ module _ (h : History) (symbol : Name) (state : SymbolState) (walked : IsStateOf
   alone_plan (wishes.Clear range) plan f is = absurd (none_some plan (sym is))
 
   -- where there is none the library refuses
-  pub alone_refused : (wish : Wish) → IsWish wish → IsAlone wish options.at None → answer_to wish options.prune options.at (state_of h symbol) ≡ Err (why_missing (is_some state.was))
+  pub alone_refused : (wish : Wish) → IsWish wish → IsAlone wish options.at None → answer_to wish options.prune options.at (state_of h symbol) ≡ Err (why_missing (is_some tip.was))
   alone_refused (wishes.Append frame) f is = absurd (none_some _ is)
   alone_refused (wishes.Replace frame range true) f is = absurd (none_some _ is)
   alone_refused (wishes.Replace frame range false) f is = missing_alone frame.now range f.0 f.1 f.2

@@ -19,8 +19,9 @@ use Rattle.reply_model.specs.Answering.{Answer, committed}
 use Rattle.reply_model.specs.Blocks.{tiles_across, parts_of}
 use Rattle.reply_model.specs.Keyed.{block_keys, IsKeyedPart}
 use Rattle.reply_model.specs.Standing.{row_sizes, fresh_in, slices, parts_laid}
-use Rattle.version_chain.specs.declared.state.SymbolState.{SymbolState}
-use Rattle.version_chain.specs.States.{IsStateAt, IsLookRefusal, RefusesWalk}
+use Rattle.version_chain.specs.declared.tip.ChainTip.{ChainTip}
+use Rattle.version_chain.specs.States.{IsLookRefusal, RefusesWalk}
+use Rattle.version_chain.specs.Tips.{IsTipAt}
 use Rattle.version_chain.specs.Traces.{Went}
 use Rattle.version_chain.proofs.TraceLemmas.{went_looks}
 use Rattle.frame_write.specs.declared.options.Options.{Options}
@@ -45,10 +46,10 @@ use Rattle.append_update.proofs.MadeLemmas.{makes_version, try_on}
 use Rattle.append_update.proofs.LaidKeys.{HasKept, laid_keys, parts_keyed}
 use Rattle.append_update.proofs.RowSizes.{laid_rows, tiles_counted}
 
--- ---- a state that was walked, later
+-- ---- a tip that was walked, later
 
-abbrev pub state_later : (old new others : History) (symbol : Name) (state : SymbolState) → new ≡ others ++ old → IsStateAt old symbol state → IsStateAt new symbol state
-state_later old new others symbol state is at = record {
+abbrev pub tip_later : (old new others : History) (symbol : Name) (prune : Bool) (tip : ChainTip) → new ≡ others ++ old → IsTipAt old symbol prune tip → IsTipAt new symbol prune tip
+tip_later old new others symbol prune tip is at = record {
   later = others ++ at.later;
   before = at.before;
   split = is ∙ (ap (λ h. others ++ h) at.split ∙ sym (append_assoc others at.later at.before));
@@ -129,9 +130,9 @@ module _ (client : ℕ) (sole : Bool) (symbol : Name) (wish : Wish) (options : O
       inr (inr (inl (inl (walk_stops client sole symbol limit before now (length old) old new refused looks r), look_busy (Wants symbol wish options) before now old new refused.place refused.why r.why)))
 
   -- there is no plan
-  pub plan_ends : (new : History) (state : SymbolState) (refused : Refused) → Looks IsClaimed client sole old new → (at : IsStateAt new symbol state) → length old ≤ state.place
+  pub plan_ends : (new : History) (tip : ChainTip) (refused : Refused) → Looks IsClaimed client sole old new → (at : IsTipAt new symbol options.prune tip) → length old ≤ tip.place
       → RefusesPlan client symbol (answer_to wish options.prune options.at) at.before before now old new refused → Did new (Err refused)
-  plan_ends new state refused looks at from r = elim r [
+  plan_ends new tip refused looks at from r = elim r [
     | inl look ↦ elim look [
       | inl w ↦ look_ends new refused looks w
       | inr m ↦ inr (inl (record {
@@ -142,7 +143,7 @@ module _ (client : ℕ) (sole : Bool) (symbol : Name) (wish : Wish) (options : O
     ]
     | inr d ↦
         let size : length new ≡ length at.later + length at.before = ap length at.split ∙ length-append at.later at.before in
-        let here : history_at new refused.place ≡ at.before = ap (history_at new) (d.place ∙ sym at.place) ∙ walked_here new symbol state at in
+        let here : history_at new refused.place ≡ at.before = ap (history_at new) (d.place ∙ sym at.place) ∙ walked_here new symbol options.prune tip at in
         inr (inr (inr (record {
           went = went_looks client sole old new looks;
           place = record { from = omega (arith, from, at.place, d.place); to = omega (arith, size, d.place) };
@@ -151,7 +152,7 @@ module _ (client : ℕ) (sole : Bool) (symbol : Name) (wish : Wish) (options : O
   ]
 
   -- a commit was tried
-  module _ (mid new : History) (looks : Went client sole old mid []) (state : SymbolState) (at : IsStateAt mid symbol state) (from : length old ≤ state.place)
+  module _ (mid new : History) (looks : Went client sole old mid []) (tip : ChainTip) (at : IsTipAt mid symbol options.prune tip) (from : length old ≤ tip.place)
       (plan : LinkPlan) (of : IsPlanOf at.before symbol options (answer_to wish options.prune options.at) plan) (more : History) (is : new ≡ more ++ mid) where
     abbrev across : ℕ
     across = tiles_across (run_cutting options.cutting) (length of.fits.version.frame.schema.columns)
@@ -160,11 +161,11 @@ module _ (client : ℕ) (sole : Bool) (symbol : Name) (wish : Wish) (options : O
     slices_are = ap (λ o. option_map_or (λ (v : Version). tiles_across (run_cutting options.cutting) (length v.frame.schema.columns)) o 0) (sym of.fits.makes)
 
     -- the index that was made has the keys of its parts
-    keys_made : (serial : ℕ) (m : Made) → IsCutting options.cutting → AreSmall (run_cutting options.cutting) at.before symbol → IsLinkMade client serial symbol (state_of (history_at mid state.place) symbol) plan options m
+    keys_made : (serial : ℕ) (m : Made) → IsCutting options.cutting → AreSmall (run_cutting options.cutting) at.before symbol → IsLinkMade client serial symbol (state_of (history_at mid tip.place) symbol) plan options m
         → HavePartKeys (run_cutting options.cutting) at.before symbol plan.change m.index.slots
     keys_made serial m cut small i blocks names rows_is names_is =
         let parts = parts_of (run_cutting options.cutting) (base_of (state_of at.before symbol)) blocks plan.change in
-        let version : ℕ = next_number (state_of (history_at mid state.place) symbol) in
+        let version : ℕ = next_number (state_of (history_at mid tip.place) symbol) in
         let keys : List (List Key) = block_keys (laid options.cutting client symbol version 0 serial plan.pieces) in
         let kept : AllZip (HasKept across) (map (kept_keys names) parts) keys =
         subst (λ (l : List (Option (List Key))). AllZip (HasKept across) l keys) (of.keys cut small blocks names rows_is names_is)
@@ -172,9 +173,9 @@ module _ (client : ℕ) (sole : Bool) (symbol : Name) (wish : Wish) (options : O
         subst (λ (slots : List Slot). AllZip (IsKeyedPart names (slices (run_cutting options.cutting) (state_of at.before symbol) plan.change)) parts (block_keys slots)) (sym i.slots)
         (subst (λ k. AllZip (IsKeyedPart names k) parts keys) slices_are (parts_keyed names across parts keys kept))
 
-    made : (serial : ℕ) (m : Made) (added : History) → m.before ≡ added ++ mid → IsLinkMade client serial symbol (state_of (history_at mid state.place) symbol) plan options m → IsAnswered symbol wish options m
+    made : (serial : ℕ) (m : Made) (added : History) → m.before ≡ added ++ mid → IsLinkMade client serial symbol (state_of (history_at mid tip.place) symbol) plan options m → IsAnswered symbol wish options m
     made serial m added before_is i =
-        let same : state_of (history_at mid state.place) symbol ≡ state_of at.before symbol = ap (λ h. state_of h symbol) (walked_here mid symbol state at) in
+        let same : state_of (history_at mid tip.place) symbol ≡ state_of at.before symbol = ap (λ h. state_of h symbol) (walked_here mid symbol options.prune tip at) in
         record {
           change = plan.change;
           list = i.list;
@@ -197,28 +198,28 @@ module _ (client : ℕ) (sole : Bool) (symbol : Name) (wish : Wish) (options : O
           };
         }
 
-    within : (Asked : Made → Type 0) (refused : Refused) → DidFail client sole symbol Asked limit before now state.place mid new refused → length mid ≤ refused.place
+    within : (Asked : Made → Type 0) (refused : Refused) → DidFail client sole symbol Asked limit before now tip.place mid new refused → length mid ≤ refused.place
     within Asked refused f = elim f [
       | inl s ↦ omega (arith, s.stops.place, s.stops.later)
       | inr s ↦ omega (arith, s.stops.place, s.stops.later)
     ]
 
     pub commit_ends : (serial : ℕ) (r : Result Committed Refused)
-        → DidTry client sole symbol (IsLinkMade client serial symbol (state_of (history_at mid state.place) symbol) plan options) limit before now state.place mid new r → Did new r
-    commit_ends serial r d = by r (try_on client sole symbol _ (IsAnswered symbol wish options) mid (made serial) limit before now state.place new r d)
+        → DidTry client sole symbol (IsLinkMade client serial symbol (state_of (history_at mid tip.place) symbol) plan options) limit before now tip.place mid new r → Did new r
+    commit_ends serial r d = by r (try_on client sole symbol _ (IsAnswered symbol wish options) mid (made serial) limit before now tip.place new r d)
       where
-        by : (r : Result Committed Refused) → DidTry client sole symbol (IsAnswered symbol wish options) limit before now state.place mid new r → Did new r
-        by (Ok done) d = try_from client sole symbol (IsAnswered symbol wish options) limit before now state.place (length old) old mid new from looks (Ok done) d
+        by : (r : Result Committed Refused) → DidTry client sole symbol (IsAnswered symbol wish options) limit before now tip.place mid new r → Did new r
+        by (Ok done) d = try_from client sole symbol (IsAnswered symbol wish options) limit before now tip.place (length old) old mid new from looks (Ok done) d
         by (Err refused) d =
             let size : length mid ≡ length at.later + length at.before = ap length at.split ∙ length-append at.later at.before in
-            let here : history_at new state.place ≡ at.before = walked_here new symbol state (state_later mid new more symbol state is at) in
-            let wants : Wants symbol wish options (history_at new state.place) =
+            let here : history_at new tip.place ≡ at.before = walked_here new symbol options.prune tip (tip_later mid new more symbol options.prune tip is at) in
+            let wants : Wants symbol wish options (history_at new tip.place) =
             (plan.change, subst (λ h. answer_to wish options.prune options.at (state_of h symbol) ≡ Ok (committed (state_of h symbol) options.prune plan.change)) (sym here) of.answered) in
             let busy : IsBusy (Wants symbol wish options) old new refused.place refused.why = elim d [
               | inl m ↦ subst (IsBusy (Wants symbol wish options) old new refused.place) (sym m.why) tt
-              | inr f ↦ busy_else (Wants symbol wish options) old new refused.place refused.why (state.place, from, omega (arith, within (IsAnswered symbol wish options) refused f, size, at.place), wants)
+              | inr f ↦ busy_else (Wants symbol wish options) old new refused.place refused.why (tip.place, from, omega (arith, within (IsAnswered symbol wish options) refused f, size, at.place), wants)
             ] in
-            elim (try_from client sole symbol (IsAnswered symbol wish options) limit before now state.place (length old) old mid new from looks (Err refused) d) [
+            elim (try_from client sole symbol (IsAnswered symbol wish options) limit before now tip.place (length old) old mid new from looks (Err refused) d) [
               | inl m ↦ inl m
               | inr f ↦ inr (inr (inl (f, busy)))
             ]

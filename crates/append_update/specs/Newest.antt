@@ -1,6 +1,6 @@
 -- The newest live version of a symbol, on which a new one is made.
 --     IsNewest            it, with the index of its link
---     IsBase              what a look at a walked state's newest live version finds
+--     IsBase              what a look at a walked symbol's newest live version finds
 --     IsBaseAt            a base that was found, behind whose place no own commit stands
 use Rattle.std.specs.Prelude.{◌≡◌, ℕ, false, ◌++◌, length, Option, Some, None, Contains}
 use Rattle.std.specs.List.{list_any}

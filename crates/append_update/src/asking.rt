@@ -1,4 +1,4 @@
-//! The plan of what is asked, over a walked state.
+//! The plan of what is asked, on a walked tip.
 
 ghost use Rattle.std.specs.Prelude.{◌≡◌, ◌<◌, ◌+◌, ◌↔◌, Bool, [], Some, None, false, is_some, IsTrue, IfOk, IfErr, IfSome};
 ghost use Rattle.std.specs.List.{list_any};
@@ -10,7 +10,7 @@ ghost use Rattle.bucket_core.specs.Laws.{Looks};
 ghost use Rattle.bucket_core.specs.Calls.{IsSteady};
 ghost use Rattle.store_model.specs.Law.{IsClaimed};
 ghost use Rattle.version_chain.specs.Marking.{own_refers};
-ghost use Rattle.version_chain.specs.States.{IsStateAt};
+ghost use Rattle.version_chain.specs.Tips.{IsTipAt};
 ghost use Rattle.reply_model.specs.CommitAnswers.{append_answer, update_answer, outside};
 ghost use Rattle.append_update.specs.Asking.{answer_to, IsWish, IsPlanOf, IsAlone, why_missing};
 ghost use Rattle.append_update.specs.Looking.{RefusesBase, RefusesPlan};
@@ -34,36 +34,36 @@ use frame_write::{LinkPlan, Options};
 use key_kind::Symbol;
 use std::alloc::Global;
 use std::sync::Wait;
-use version_chain::{StoreLaw, SymbolState};
+use version_chain::{ChainTip, StoreLaw};
 
-/// The plan of what is asked over a walked state, or why there is none. It may wait for the store.
+/// The plan of what is asked on a walked tip, or why there is none. It may wait for the store.
 ///
-/// A refusal of the library has the state's place. Where a key of the newest live version is gone, another client's commit has buried
+/// A refusal of the library has the tip's place. Where a key of the newest live version is gone, another client's commit has buried
 /// it since the walk; then the refusal is Moved, with the place of the symbol's newest commit.
 pub(crate) fn plan_on<R: Wait, B: Bucket<StoreLaw>>(
     rt: &R,
     alloc: Global,
     bucket: &mut B,
     symbol: &Symbol,
-    state: &SymbolState,
+    tip: &ChainTip,
     wish: &Wish<'_>,
     options: &Options,
 ) -> Result<LinkPlan, Refused>
-    requires walked { (at : IsStateAt (B.seen bucket.old) symbol.now state.now) × (list_any (own_refers (B.number bucket.old) symbol.now) at.later ≡ false) }
+    requires walked { (at : IsTipAt (B.seen bucket.old) symbol.now options.now.prune tip.now) × (list_any (own_refers (B.number bucket.old) symbol.now) at.later ≡ false) }
     requires wish { IsWish wish.now }
     ensures looks { Looks IsClaimed (B.number bucket.old) (B.sole bucket.old) (B.seen bucket.old) (B.seen bucket.new) }
     ensures steady { IsSteady B.number B.limit B.faults B.sole bucket.old bucket.new }
-    ensures plan { IfOk result (IsPlanOf (history_at (B.seen bucket.old) state.now.place) symbol.now options.now (answer_to wish.now options.now.prune options.now.at)) }
-    ensures refused { IfErr result (RefusesPlan (B.number bucket.old) symbol.now (answer_to wish.now options.now.prune options.now.at) (history_at (B.seen bucket.old) state.now.place) (B.faults bucket.old) (B.faults bucket.new) (B.seen bucket.old) (B.seen bucket.new)) }
+    ensures plan { IfOk result (IsPlanOf (history_at (B.seen bucket.old) tip.now.place) symbol.now options.now (answer_to wish.now options.now.prune options.now.at)) }
+    ensures refused { IfErr result (RefusesPlan (B.number bucket.old) symbol.now (answer_to wish.now options.now.prune options.now.at) (history_at (B.seen bucket.old) tip.now.place) (B.faults bucket.old) (B.faults bucket.new) (B.seen bucket.old) (B.seen bucket.new)) }
 {
-    let base = base_of(rt, alloc, bucket, symbol, state)?;
+    let base = base_of(rt, alloc, bucket, symbol, tip)?;
     match base {
         Some(base) => plan_over(rt, alloc, bucket, symbol, &base, wish, options),
         None => match plan_without(alloc, wish, stamp_of(options)) {
             Ok(Some(plan)) => Ok(plan),
             Ok(None) => Err(Refused {
-                place: state.place,
-                why: missing(state),
+                place: tip.place,
+                why: missing(tip),
             }),
             Err(_) => Err(out_of_memory(bucket.place())),
         },
@@ -71,10 +71,10 @@ pub(crate) fn plan_on<R: Wait, B: Bucket<StoreLaw>>(
 }
 
 /// Why a symbol has no live version.
-fn missing(state: &SymbolState) -> Refusal
-    ensures { result ≡ why_missing (is_some state.now.was) }
+fn missing(tip: &ChainTip) -> Refusal
+    ensures { result ≡ why_missing (is_some tip.now.was) }
 {
-    match state.was {
+    match tip.was {
         Some(_) => Refusal::NoSuchVersion {
             asked: Asked::Back(1),
         },

@@ -15,7 +15,7 @@ use frame_write::{Committed, Options, link_on};
 use key_kind::Symbol;
 use std::alloc::Global;
 use std::sync::Wait;
-use version_chain::{StoreLaw, walk};
+use version_chain::{StoreLaw, walk_tip};
 
 /// Tries what is asked, until a try is not met by another client's commit, or all were. It may wait for the store.
 pub(crate) fn try_all<R: Wait, B: Bucket<StoreLaw>>(
@@ -63,7 +63,7 @@ fn attempt<R: Wait, B: Bucket<StoreLaw>>(
     ensures steady { IsSteady B.number B.limit B.faults B.sole bucket.old bucket.new }
     ensures did { DidAttempt (B.number bucket.old) (B.sole bucket.old) symbol.now (IsAnswered symbol.now wish.now options.now) (Declines symbol.now wish.now options.now) (Wants symbol.now wish.now options.now) (B.limit bucket.old) (B.faults bucket.old) (B.faults bucket.new) (B.seen bucket.old) (B.seen bucket.new) result }
 {
-    let state = walk(rt, alloc, bucket, symbol)?;
-    let plan = plan_on(rt, alloc, bucket, symbol, &state, wish, options)?;
-    link_on(rt, alloc, bucket, symbol, &state, &plan, options)
+    let tip = walk_tip(rt, alloc, bucket, symbol, options.prune)?;
+    let plan = plan_on(rt, alloc, bucket, symbol, &tip, wish, options)?;
+    link_on(rt, alloc, bucket, symbol, &tip, &plan, options)
 }

@@ -1,13 +1,13 @@
 //! The newest live version, on which a new one is made.
 
-ghost use Rattle.std.specs.Prelude.{◌≡◌, false, IfOk, IfErr, IfSome};
+ghost use Rattle.std.specs.Prelude.{◌≡◌, Bool, false, IfOk, IfErr, IfSome};
 ghost use Rattle.std.specs.List.{list_any};
 ghost use Rattle.bucket_core.specs.History.{history_at};
 ghost use Rattle.bucket_core.specs.Laws.{Looks};
 ghost use Rattle.bucket_core.specs.Calls.{IsSteady};
 ghost use Rattle.store_model.specs.Library.{state_of, is_buried};
 ghost use Rattle.store_model.specs.Law.{IsClaimed};
-ghost use Rattle.version_chain.specs.States.{IsStateAt};
+ghost use Rattle.version_chain.specs.Tips.{IsTipAt};
 ghost use Rattle.frame_read.specs.Fetches.{IsTargetIndex};
 ghost use Rattle.version_chain.specs.Marking.{own_refers};
 ghost use Rattle.append_update.specs.Newest.{IsBase};
@@ -22,9 +22,9 @@ use key_kind::{Key, Symbol};
 use std::alloc::Global;
 use std::sync::Wait;
 use store_model::LinkRow;
-use version_chain::{StoreLaw, SymbolState};
+use version_chain::{ChainTip, StoreLaw};
 
-/// The newest live version of a walked state.
+/// The newest live version of a walked symbol.
 #[derive(Drop)]
 pub(crate) struct Base {
     /// The version, with the key of its index.
@@ -33,7 +33,7 @@ pub(crate) struct Base {
     pub(crate) index: Index,
 }
 
-/// The newest live version of a walked state, by one look at its index; None where the state has none. It may wait for the store.
+/// The newest live version of a walked tip, by one look at its index; None where it has none. It may wait for the store.
 ///
 /// Where a key of the version is gone, another client's commit has buried it since the walk; then the refusal is Moved, with the
 /// place of the symbol's newest commit.
@@ -42,22 +42,22 @@ pub(crate) fn base_of<R: Wait, B: Bucket<StoreLaw>>(
     alloc: Global,
     bucket: &mut B,
     symbol: &Symbol,
-    state: &SymbolState,
+    tip: &ChainTip,
 ) -> Result<Option<Base>, Refused>
-    requires walked { (at : IsStateAt (B.seen bucket.old) symbol.now state.now) × (list_any (own_refers (B.number bucket.old) symbol.now) at.later ≡ false) }
+    requires walked { (prune : Bool) × (at : IsTipAt (B.seen bucket.old) symbol.now prune tip.now) × (list_any (own_refers (B.number bucket.old) symbol.now) at.later ≡ false) }
     ensures looks { Looks IsClaimed (B.number bucket.old) (B.sole bucket.old) (B.seen bucket.old) (B.seen bucket.new) }
     ensures steady { IsSteady B.number B.limit B.faults B.sole bucket.old bucket.new }
-    ensures base { IfOk result (IsBase (history_at (B.seen bucket.old) state.now.place) symbol.now) }
+    ensures base { IfOk result (IsBase (history_at (B.seen bucket.old) tip.now.place) symbol.now) }
     ensures target { IfOk result (λ base. IfSome base (λ it. IsTargetIndex (B.seen bucket.new) it.target it.index)) }
     ensures symbol { IfOk result (λ base. IfSome base (λ it. it.target.symbol ≡ symbol.now)) }
-    ensures place { IfOk result (λ base. IfSome base (λ it. it.target.place ≡ state.now.place)) }
-    ensures live { IfOk result (λ base. IfSome base (λ it. is_buried (state_of (history_at (B.seen bucket.old) state.now.place) symbol.now) it.target.version ≡ false)) }
-    ensures refused { IfErr result (RefusesBase (B.number bucket.old) symbol.now state.now.place (B.faults bucket.old) (B.faults bucket.new) (B.seen bucket.old) (B.seen bucket.new)) }
+    ensures place { IfOk result (λ base. IfSome base (λ it. it.target.place ≡ tip.now.place)) }
+    ensures live { IfOk result (λ base. IfSome base (λ it. is_buried (state_of (history_at (B.seen bucket.old) tip.now.place) symbol.now) it.target.version ≡ false)) }
+    ensures refused { IfErr result (RefusesBase (B.number bucket.old) symbol.now tip.now.place (B.faults bucket.old) (B.faults bucket.new) (B.seen bucket.old) (B.seen bucket.new)) }
 {
-    let Some(row) = state.newest() else {
+    let Some(row) = &tip.newest else {
         return Ok(None);
     };
-    let Ok(target) = target_of(alloc, symbol, row, state.place) else {
+    let Ok(target) = target_of(alloc, symbol, row, tip.place) else {
         return Err(out_of_memory(bucket.place()));
     };
     match index_of(rt, alloc, bucket, &target) {

@@ -9,7 +9,7 @@ use segment_cut::Cutting;
 use std::alloc::Global;
 use std::sync::Wait;
 use std::test::Fail;
-use version_chain::{StoreLaw, walk};
+use version_chain::{StoreLaw, walk_tip};
 
 // What one write of five rows of these columns answers.
 fn written<R: Wait, B: Bucket<StoreLaw>>(
@@ -41,7 +41,7 @@ fn whole(alloc: Global, frame: Frame, options: &Options) -> Result<LinkPlan, Fai
     })
 }
 
-// What one try to link five rows of these columns, as one new piece, answers on the state that a walk gives.
+// What one try to link five rows of these columns, as one new piece, answers on the tip that a walk gives.
 fn linked<R: Wait, B: Bucket<StoreLaw>>(
     rt: &R,
     alloc: Global,
@@ -52,8 +52,8 @@ fn linked<R: Wait, B: Bucket<StoreLaw>>(
     let frame = five_rows(alloc, columns)?;
     let symbol = symbol(alloc)?;
     let plan = whole(alloc, frame, options)?;
-    let state = walk(rt, alloc, bucket, &symbol)?;
-    Ok(link_on(rt, alloc, bucket, &symbol, &state, &plan, options))
+    let tip = walk_tip(rt, alloc, bucket, &symbol, options.prune)?;
+    Ok(link_on(rt, alloc, bucket, &symbol, &tip, &plan, options))
 }
 
 #[test]

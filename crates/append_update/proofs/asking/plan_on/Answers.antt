@@ -2,7 +2,7 @@ use Rattle.std.proofs.Common.{rules, ◌≡◌, length, sym, subst, ap, ◌∙�
 use Rattle.std.specs.List.{list_any}
 use Rattle.std.specs.Prelude.{IfOk, IfErr, IfSome}
 use Rattle.bucket_core.specs.History.{AllByOthers, history_at}
-use Rattle.version_chain.specs.States.{IsStateOf}
+use Rattle.version_chain.specs.Tips.{IsTipOf}
 use Rattle.version_chain.specs.Marking.{own_refers}
 use Rattle.frame_write.specs.declared.pieces.LinkPlan.{LinkPlan}
 use Rattle.store_model.specs.Law.{IsClaimed}
@@ -26,18 +26,21 @@ if_err : {A E : Type 0} (P Q : E → Type 0) (r : Result A E) → ((e : E) → P
 if_err P Q (Ok a) f p = tt
 if_err P Q (Err e) f p = f e p
 
+pub base_of-requires : goal.base_of-requires
+base_of-requires g c = record { walked = (c.args.options.now.prune, c.requires.walked.0, c.requires.walked.1) }
+
 pub plan_over-requires-clause-base : goal.plan_over-requires-clause-base
 plan_over-requires-clause-base g c =
     let number = g.B.Bucket.number c.base_of.new.bucket in
     let same = c.base_of.ensures.steady.same_number in
     let at = c.requires.walked.0 in
-    let b = base_found number (g.B.Bucket.seen c.args.bucket.now) (g.B.Bucket.seen c.base_of.new.bucket) c.base_of.ensures.looks.others c.args.symbol.now c.args.state.now c.in-Some.base at
+    let b = base_found number (g.B.Bucket.seen c.args.bucket.now) (g.B.Bucket.seen c.base_of.new.bucket) c.base_of.ensures.looks.others c.args.symbol.now c.args.options.now.prune c.args.tip.now c.in-Some.base at
     (subst (λ n. list_any (own_refers n c.args.symbol.now) at.later ≡ false) (sym same) c.requires.walked.1) c.base_of.ensures.looks.is (subst (λ n. AllByOthers n c.base_of.ensures.looks.others) (sym same) c.base_of.ensures.looks.by_others)
-    (subst (IsBase (history_at (g.B.Bucket.seen c.args.bucket.now) c.args.state.now.place) c.args.symbol.now) c.in-Some.is c.in_ok-base.ensures.base)
+    (subst (IsBase (history_at (g.B.Bucket.seen c.args.bucket.now) c.args.tip.now.place) c.args.symbol.now) c.in-Some.is c.in_ok-base.ensures.base)
     (if_some (λ (it : Base). IsTargetIndex (g.B.Bucket.seen c.base_of.new.bucket) it.target it.index) c.in_ok-base.base c.in-Some.base c.in-Some.is c.in_ok-base.ensures.target)
     (if_some (λ (it : Base). it.target.symbol ≡ c.args.symbol.now) c.in_ok-base.base c.in-Some.base c.in-Some.is c.in_ok-base.ensures.symbol)
-    (if_some (λ (it : Base). it.target.place ≡ c.args.state.now.place) c.in_ok-base.base c.in-Some.base c.in-Some.is c.in_ok-base.ensures.place)
-    (if_some (λ (it : Base). is_buried (state_of (history_at (g.B.Bucket.seen c.args.bucket.now) c.args.state.now.place) c.args.symbol.now) it.target.version ≡ false) c.in_ok-base.base c.in-Some.base c.in-Some.is c.in_ok-base.ensures.live) in
+    (if_some (λ (it : Base). it.target.place ≡ c.args.tip.now.place) c.in_ok-base.base c.in-Some.base c.in-Some.is c.in_ok-base.ensures.place)
+    (if_some (λ (it : Base). is_buried (state_of (history_at (g.B.Bucket.seen c.args.bucket.now) c.args.tip.now.place) c.args.symbol.now) it.target.version ≡ false) c.in_ok-base.base c.in-Some.base c.in-Some.is c.in_ok-base.ensures.live) in
     b
 
 pub returns-in-Some-clause-looks : goal.returns-in-Some-clause-looks
@@ -51,58 +54,58 @@ returns-in-Some-clause-plan g c =
     let number = g.B.Bucket.number c.base_of.new.bucket in
     let same = c.base_of.ensures.steady.same_number in
     let at = c.requires.walked.0 in
-    let b = base_found number (g.B.Bucket.seen c.args.bucket.now) (g.B.Bucket.seen c.base_of.new.bucket) c.base_of.ensures.looks.others c.args.symbol.now c.args.state.now c.in-Some.base at
+    let b = base_found number (g.B.Bucket.seen c.args.bucket.now) (g.B.Bucket.seen c.base_of.new.bucket) c.base_of.ensures.looks.others c.args.symbol.now c.args.options.now.prune c.args.tip.now c.in-Some.base at
     (subst (λ n. list_any (own_refers n c.args.symbol.now) at.later ≡ false) (sym same) c.requires.walked.1) c.base_of.ensures.looks.is (subst (λ n. AllByOthers n c.base_of.ensures.looks.others) (sym same) c.base_of.ensures.looks.by_others)
-    (subst (IsBase (history_at (g.B.Bucket.seen c.args.bucket.now) c.args.state.now.place) c.args.symbol.now) c.in-Some.is c.in_ok-base.ensures.base)
+    (subst (IsBase (history_at (g.B.Bucket.seen c.args.bucket.now) c.args.tip.now.place) c.args.symbol.now) c.in-Some.is c.in_ok-base.ensures.base)
     (if_some (λ (it : Base). IsTargetIndex (g.B.Bucket.seen c.base_of.new.bucket) it.target it.index) c.in_ok-base.base c.in-Some.base c.in-Some.is c.in_ok-base.ensures.target)
     (if_some (λ (it : Base). it.target.symbol ≡ c.args.symbol.now) c.in_ok-base.base c.in-Some.base c.in-Some.is c.in_ok-base.ensures.symbol)
-    (if_some (λ (it : Base). it.target.place ≡ c.args.state.now.place) c.in_ok-base.base c.in-Some.base c.in-Some.is c.in_ok-base.ensures.place)
-    (if_some (λ (it : Base). is_buried (state_of (history_at (g.B.Bucket.seen c.args.bucket.now) c.args.state.now.place) c.args.symbol.now) it.target.version ≡ false) c.in_ok-base.base c.in-Some.base c.in-Some.is c.in_ok-base.ensures.live) in
+    (if_some (λ (it : Base). it.target.place ≡ c.args.tip.now.place) c.in_ok-base.base c.in-Some.base c.in-Some.is c.in_ok-base.ensures.place)
+    (if_some (λ (it : Base). is_buried (state_of (history_at (g.B.Bucket.seen c.args.bucket.now) c.args.tip.now.place) c.args.symbol.now) it.target.version ≡ false) c.in_ok-base.base c.in-Some.base c.in-Some.is c.in_ok-base.ensures.live) in
     subst (λ h. IfOk c.plan_over.result (IsPlanOf h c.args.symbol.now c.args.options.now (answer_to c.args.wish.now c.args.options.now.prune c.args.options.now.at)))
-    (sym (walked_here (g.B.Bucket.seen c.args.bucket.now) c.args.symbol.now c.args.state.now at)) (c.plan_over.ensures.plan b)
+    (sym (walked_here (g.B.Bucket.seen c.args.bucket.now) c.args.symbol.now c.args.options.now.prune c.args.tip.now at)) (c.plan_over.ensures.plan b)
 
 pub returns-in-Some-clause-refused : goal.returns-in-Some-clause-refused
 returns-in-Some-clause-refused g c =
     let number = g.B.Bucket.number c.base_of.new.bucket in
     let same = c.base_of.ensures.steady.same_number in
     let at = c.requires.walked.0 in
-    let b = base_found number (g.B.Bucket.seen c.args.bucket.now) (g.B.Bucket.seen c.base_of.new.bucket) c.base_of.ensures.looks.others c.args.symbol.now c.args.state.now c.in-Some.base at
+    let b = base_found number (g.B.Bucket.seen c.args.bucket.now) (g.B.Bucket.seen c.base_of.new.bucket) c.base_of.ensures.looks.others c.args.symbol.now c.args.options.now.prune c.args.tip.now c.in-Some.base at
     (subst (λ n. list_any (own_refers n c.args.symbol.now) at.later ≡ false) (sym same) c.requires.walked.1) c.base_of.ensures.looks.is (subst (λ n. AllByOthers n c.base_of.ensures.looks.others) (sym same) c.base_of.ensures.looks.by_others)
-    (subst (IsBase (history_at (g.B.Bucket.seen c.args.bucket.now) c.args.state.now.place) c.args.symbol.now) c.in-Some.is c.in_ok-base.ensures.base)
+    (subst (IsBase (history_at (g.B.Bucket.seen c.args.bucket.now) c.args.tip.now.place) c.args.symbol.now) c.in-Some.is c.in_ok-base.ensures.base)
     (if_some (λ (it : Base). IsTargetIndex (g.B.Bucket.seen c.base_of.new.bucket) it.target it.index) c.in_ok-base.base c.in-Some.base c.in-Some.is c.in_ok-base.ensures.target)
     (if_some (λ (it : Base). it.target.symbol ≡ c.args.symbol.now) c.in_ok-base.base c.in-Some.base c.in-Some.is c.in_ok-base.ensures.symbol)
-    (if_some (λ (it : Base). it.target.place ≡ c.args.state.now.place) c.in_ok-base.base c.in-Some.base c.in-Some.is c.in_ok-base.ensures.place)
-    (if_some (λ (it : Base). is_buried (state_of (history_at (g.B.Bucket.seen c.args.bucket.now) c.args.state.now.place) c.args.symbol.now) it.target.version ≡ false) c.in_ok-base.base c.in-Some.base c.in-Some.is c.in_ok-base.ensures.live) in
+    (if_some (λ (it : Base). it.target.place ≡ c.args.tip.now.place) c.in_ok-base.base c.in-Some.base c.in-Some.is c.in_ok-base.ensures.place)
+    (if_some (λ (it : Base). is_buried (state_of (history_at (g.B.Bucket.seen c.args.bucket.now) c.args.tip.now.place) c.args.symbol.now) it.target.version ≡ false) c.in_ok-base.base c.in-Some.base c.in-Some.is c.in_ok-base.ensures.live) in
     let answer = answer_to c.args.wish.now c.args.options.now.prune c.args.options.now.at in
     if_err _ _ c.plan_over.result (λ e p.
-    plan_wider (g.B.Bucket.number c.args.bucket.now) c.args.symbol.now answer (history_at (g.B.Bucket.seen c.args.bucket.now) c.args.state.now.place) (g.B.Bucket.faults c.args.bucket.now) (g.B.Bucket.faults c.base_of.new.bucket) (g.B.Bucket.faults c.plan_over.new.bucket) c.base_of.ensures.looks.others
+    plan_wider (g.B.Bucket.number c.args.bucket.now) c.args.symbol.now answer (history_at (g.B.Bucket.seen c.args.bucket.now) c.args.tip.now.place) (g.B.Bucket.faults c.args.bucket.now) (g.B.Bucket.faults c.base_of.new.bucket) (g.B.Bucket.faults c.plan_over.new.bucket) c.base_of.ensures.looks.others
     (g.B.Bucket.seen c.args.bucket.now) (g.B.Bucket.seen c.base_of.new.bucket) (g.B.Bucket.seen c.plan_over.new.bucket) e c.base_of.ensures.steady.faults_rise c.base_of.ensures.looks.is
-    (subst (λ n. RefusesPlan n c.args.symbol.now answer (history_at (g.B.Bucket.seen c.args.bucket.now) c.args.state.now.place) (g.B.Bucket.faults c.base_of.new.bucket) (g.B.Bucket.faults c.plan_over.new.bucket) (g.B.Bucket.seen c.base_of.new.bucket) (g.B.Bucket.seen c.plan_over.new.bucket) e) same
+    (subst (λ n. RefusesPlan n c.args.symbol.now answer (history_at (g.B.Bucket.seen c.args.bucket.now) c.args.tip.now.place) (g.B.Bucket.faults c.base_of.new.bucket) (g.B.Bucket.faults c.plan_over.new.bucket) (g.B.Bucket.seen c.base_of.new.bucket) (g.B.Bucket.seen c.plan_over.new.bucket) e) same
     (subst (λ h. RefusesPlan number c.args.symbol.now answer h (g.B.Bucket.faults c.base_of.new.bucket) (g.B.Bucket.faults c.plan_over.new.bucket) (g.B.Bucket.seen c.base_of.new.bucket) (g.B.Bucket.seen c.plan_over.new.bucket) e)
-    (sym (walked_here (g.B.Bucket.seen c.args.bucket.now) c.args.symbol.now c.args.state.now at)) p))) (c.plan_over.ensures.refused b)
+    (sym (walked_here (g.B.Bucket.seen c.args.bucket.now) c.args.symbol.now c.args.options.now.prune c.args.tip.now at)) p))) (c.plan_over.ensures.refused b)
 
 pub returns-in-Ok-Some-clause-plan : goal.returns-in-Ok-Some-clause-plan
 returns-in-Ok-Some-clause-plan g c =
-    let h = history_at (g.B.Bucket.seen c.args.bucket.now) c.args.state.now.place in
+    let h = history_at (g.B.Bucket.seen c.args.bucket.now) c.args.tip.now.place in
     let at = c.requires.walked.0 in
-    let walked = subst (λ x. IsStateOf x c.args.symbol.now c.args.state.now) (sym (walked_here (g.B.Bucket.seen c.args.bucket.now) c.args.symbol.now c.args.state.now at)) at.is in
+    let walked = subst (λ x. IsTipOf x c.args.symbol.now c.args.options.now.prune c.args.tip.now) (sym (walked_here (g.B.Bucket.seen c.args.bucket.now) c.args.symbol.now c.args.options.now.prune c.args.tip.now at)) at.is in
     let none = subst (IsBase h c.args.symbol.now) c.in-None.is c.in_ok-base.ensures.base in
     let stamp : to_z w64 (of_z w64 c.stamp_of.result) ≡ c.args.options.now.at = search rules in
-    alone_plan h c.args.symbol.now c.args.state.now walked c.args.options.now none c.args.wish.now c.in-Ok-Some.plan c.requires.wish
+    alone_plan h c.args.symbol.now c.args.options.now.prune c.args.tip.now walked c.args.options.now none c.args.wish.now c.in-Ok-Some.plan c.requires.wish
     (subst (λ t. IsAlone c.args.wish.now t (Some c.in-Ok-Some.plan)) stamp
     (subst (λ (o : Option LinkPlan). IsAlone c.args.wish.now (to_z w64 (of_z w64 c.stamp_of.result)) o) c.in-Ok-Some.field-0-is c.in-Ok-Some.ensures))
 
 pub returns-in-Ok-None-clause-refused : goal.returns-in-Ok-None-clause-refused
 returns-in-Ok-None-clause-refused g c =
-    let h = history_at (g.B.Bucket.seen c.args.bucket.now) c.args.state.now.place in
+    let h = history_at (g.B.Bucket.seen c.args.bucket.now) c.args.tip.now.place in
     let at = c.requires.walked.0 in
-    let here = walked_here (g.B.Bucket.seen c.args.bucket.now) c.args.symbol.now c.args.state.now at in
-    let walked = subst (λ x. IsStateOf x c.args.symbol.now c.args.state.now) (sym here) at.is in
+    let here = walked_here (g.B.Bucket.seen c.args.bucket.now) c.args.symbol.now c.args.options.now.prune c.args.tip.now at in
+    let walked = subst (λ x. IsTipOf x c.args.symbol.now c.args.options.now.prune c.args.tip.now) (sym here) at.is in
     let none = subst (IsBase h c.args.symbol.now) c.in-None.is c.in_ok-base.ensures.base in
     let stamp : to_z w64 (of_z w64 c.stamp_of.result) ≡ c.args.options.now.at = search rules in
     inr (record {
       place = at.place ∙ ap length (sym here);
-      answered = alone_refused h c.args.symbol.now c.args.state.now walked c.args.options.now none c.args.wish.now c.requires.wish
+      answered = alone_refused h c.args.symbol.now c.args.options.now.prune c.args.tip.now walked c.args.options.now none c.args.wish.now c.requires.wish
           (subst (λ t. IsAlone c.args.wish.now t None) stamp
           (subst (λ (o : Option LinkPlan). IsAlone c.args.wish.now (to_z w64 (of_z w64 c.stamp_of.result)) o) c.in-Ok-None.field-0-is c.in-Ok-None.ensures))
           ∙ ap Err (sym c.missing.ensures);
