@@ -98,7 +98,7 @@ first_same e = cc
 -- ---- a commit
 
 module _ (client : ℕ) (sole : Bool) (symbol : Name) (wish : Wish) (options : Options) (limit before now : ℕ) (old new : History) (done : Committed) (cut : IsCutting options.cutting) (lawful : ∥ IsLawful new ∥₁)
-    (grows : GrowsAlone client old new) (d : DidTries client sole symbol (IsAnswered symbol wish options) (Declines symbol wish options) (Wants symbol wish options) options.tries limit before now old new (Ok done)) where
+    (grows : GrowsAlone client old new) (d : DidTries client sole symbol (IsAnswered client symbol wish options) (Declines symbol wish options) (Wants symbol wish options) options.tries limit before now old new (Ok done)) where
   abbrev c : Cutting
   c = run_cutting options.cutting
 
@@ -128,7 +128,7 @@ module _ (client : ℕ) (sole : Bool) (symbol : Name) (wish : Wish) (options : O
   same = subst (λ h. IsAsItWas old h symbol) (sym before_is) (as_it_was old d.last.went.more symbol quiet)
 
   -- the base that was walked is that of the old history
-  abbrev built : IsBuiltOn options.cutting symbol d.last.asked.change d.last.made
+  abbrev built : IsBuiltOn client options.cutting symbol d.last.asked.change d.last.made
   built = d.last.asked.built
 
   links_same : links old symbol ≡ links built.walked symbol
@@ -165,7 +165,7 @@ module _ (client : ℕ) (sole : Bool) (symbol : Name) (wish : Wish) (options : O
   laid small =
       let change = d.last.asked.change in
       let put : IsPutAs c built.walked symbol change d.last.made = built.put cut (subst (AllByRecursion (λ n. n ≤ c.rows)) rows_same small) in
-      let newest = commit_newest client sole symbol (IsAnswered symbol wish options) d.mid new done d.last change (pruned (state_of d.last.made.before symbol) options.prune) d.last.asked.list built.version lawful in
+      let newest = commit_newest client sole symbol (IsAnswered client symbol wish options) d.mid new done d.last change (pruned (state_of d.last.made.before symbol) options.prune) d.last.asked.list built.version lawful in
       let link = link_with (first_of (links new symbol)) d.last.made.index newest in
       let tiles : fresh_in (parts_laid c built.walked symbol change) * slices c (state_of built.walked symbol) change ≡ fresh_in (parts_laid c old symbol change) * slices c (state_of old symbol) change =
       ap (λ ps. fresh_in ps * slices c (state_of built.walked symbol) change) (parts_same change) ∙ ap (λ k. fresh_in (parts_laid c old symbol change) * k) (slices_same change) in
@@ -193,7 +193,7 @@ module _ (client : ℕ) (sole : Bool) (symbol : Name) (wish : Wish) (options : O
 
 -- a commit of all tries
 pub tries_lay : (client : ℕ) (sole : Bool) (symbol : Name) (wish : Wish) (options : Options) (limit before now : ℕ) (old new : History) (r : Result Committed Refused) → IsCutting options.cutting → ∥ IsLawful new ∥₁ → GrowsAlone client old new
-    → DidTries client sole symbol (IsAnswered symbol wish options) (Declines symbol wish options) (Wants symbol wish options) options.tries limit before now old new r
+    → DidTries client sole symbol (IsAnswered client symbol wish options) (Declines symbol wish options) (Wants symbol wish options) options.tries limit before now old new r
     → (answer : State → Result Answer Refusal) → ((st : State) → answer st ≡ answer_to wish options.prune options.at st) → IfOk r (λ done. LaysAs (run_cutting options.cutting) symbol answer done.place old new)
 tries_lay client sole symbol wish options limit before now old new (Err refused) cut lawful grows d answer same_as = tt
 tries_lay client sole symbol wish options limit before now old new (Ok done) cut lawful grows d answer same_as = commit_lays client sole symbol wish options limit before now old new done cut lawful grows d answer same_as

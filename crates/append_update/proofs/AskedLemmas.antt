@@ -109,7 +109,7 @@ answer_unmoved wish options st now c u e =
 
 pub asked_by : (s : Session) (c : Command) (symbol : Name) (wish : Wish) (options : Options) → MakesVersion c symbol
     → ((listed l : Library) (p : ℕ) → answer s listed l p c ≡ Some (answered (answer_to wish options.prune options.at (l.state symbol))))
-    → IsAskedBy s c symbol (IsAnswered symbol wish options) (Declines symbol wish options) (Wants symbol wish options)
+    → IsAskedBy s c symbol (IsAnswered s.client symbol wish options) (Declines symbol wish options) (Wants symbol wish options)
 asked_by s c symbol wish options makes is = record {
   makes = makes;
   answers = λ m a l p. is l (library_of m.before) p ∙ (ap (λ r. Some (answered r)) a.answered ∙ ap (λ marks. Some (record { outcome = outcomes.Committed (next_number (state_of m.before symbol)); marks = marks })) (sym a.list));

@@ -16,8 +16,11 @@ pub mod LaidKeys
 pub mod PieceBlocks
 pub mod PartKeys
 pub mod ReplacedParts
+pub mod PutCounts
+pub mod ShareLemmas
 pub mod MadeLemmas
 pub mod AloneLemmas
+pub mod AskedChanges
 pub mod NewestLemmas
 pub mod LastLemmas
 pub mod GoneLemmas
@@ -38,6 +41,7 @@ pub mod TryLemmas
 pub mod PlanLemmas
 pub mod LoopLemmas
 pub mod ReplyLemmas
+pub mod SharedCalls
 pub mod WholeBase
 pub mod LaterLemmas
 pub mod EdgeLemmas

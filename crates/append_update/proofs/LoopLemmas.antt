@@ -22,13 +22,13 @@ use Rattle.append_update.proofs.AttemptLemmas.{tries_gone, gone_met}
 -- what a try did, of the bucket as it was before earlier calls
 module _ {B : Type 0} (number limit faults : B → ℕ) (sole : B → Bool) (a b : B) (steady : IsSteady number limit faults sole a b) (symbol : Name) (wish : Wish) (options : Options) (now : ℕ) (x y : History) where
   abbrev Did : ℕ → Bool → ℕ → ℕ → Result Committed Refused → Type 0
-  Did client alone most before r = DidAttempt client alone symbol (IsAnswered symbol wish options) (Declines symbol wish options) (Wants symbol wish options) most before now x y r
+  Did client alone most before r = DidAttempt client alone symbol (IsAnswered client symbol wish options) (Declines symbol wish options) (Wants symbol wish options) most before now x y r
 
   abbrev Tried : ℕ → Bool → ℕ → ℕ → Result Committed Refused → Type 0
-  Tried client alone most before r = DidTry client alone symbol (IsAnswered symbol wish options) most before now (length x) x y r
+  Tried client alone most before r = DidTry client alone symbol (IsAnswered client symbol wish options) most before now (length x) x y r
 
   tried : (r : Result Committed Refused) → Tried (number b) (sole b) (limit b) (faults b) r → Tried (number a) (sole a) (limit a) (faults a) r
-  tried r d = try_steady number limit faults sole a b steady symbol now (length x) x y (λ n. IsAnswered symbol wish options) r d
+  tried r d = try_steady number limit faults sole a b steady symbol now (length x) x y (λ n. IsAnswered n symbol wish options) r d
 
   failed : (refused : Refused) → Tried (number b) (sole b) (limit b) (faults b) (Err refused) → IsBusy (Wants symbol wish options) x y refused.place refused.why → Did (number a) (sole a) (limit a) (faults a) (Err refused)
   failed refused d busy = elim (tried (Err refused) d) [ inl m ↦ inl m | inr f ↦ inr (inr (inl (f, busy))) ]
@@ -45,7 +45,7 @@ module _ {B : Type 0} (number limit faults : B → ℕ) (sole : B → Bool) (a b
       })))
       | inr end ↦ elim end [
         | inl f ↦ failed refused (inr f.0) f.1
-        | inr r ↦ inr (inr (subst (λ n. DidEnd n (sole a) symbol (IsAnswered symbol wish options) (Declines symbol wish options) (Wants symbol wish options) (limit a) (faults a) now x y refused) steady.same_number (inr (record {
+        | inr r ↦ inr (inr (subst (λ n. DidEnd n (sole a) symbol (IsAnswered n symbol wish options) (Declines symbol wish options) (Wants symbol wish options) (limit a) (faults a) now x y refused) steady.same_number (inr (record {
           went = record { more = r.went.more; is = r.went.is; own_are = r.went.own_are; alone = λ t. r.went.alone (steady.stays_sole t); lawful = r.went.lawful };
           place = r.place;
           refuses = r.refuses;
@@ -55,9 +55,9 @@ module _ {B : Type 0} (number limit faults : B → ℕ) (sole : B → Bool) (a b
   ]
 
 module _ (client : ℕ) (sole : Bool) (symbol : Name) (wish : Wish) (options : Options) (limit before now : ℕ) (mid new : History) (refused : Refused)
-    (d : DidAttempt client sole symbol (IsAnswered symbol wish options) (Declines symbol wish options) (Wants symbol wish options) limit before now mid new (Err refused)) where
+    (d : DidAttempt client sole symbol (IsAnswered client symbol wish options) (Declines symbol wish options) (Wants symbol wish options) limit before now mid new (Err refused)) where
   -- a try that was not met came to its end
-  pub end_else : ((at : ℕ) → refused.why ≡ refusals.Moved at → ⊥) → DidEnd client sole symbol (IsAnswered symbol wish options) (Declines symbol wish options) (Wants symbol wish options) limit before now mid new refused
+  pub end_else : ((at : ℕ) → refused.why ≡ refusals.Moved at → ⊥) → DidEnd client sole symbol (IsAnswered client symbol wish options) (Declines symbol wish options) (Wants symbol wish options) limit before now mid new refused
   end_else apart = elim d [
     | inl m ↦ absurd (apart refused.place m.why)
     | inr rest ↦ elim rest [ inl g ↦ absurd (apart refused.place g.why) | inr e ↦ e ]
@@ -70,7 +70,7 @@ module _ (client : ℕ) (sole : Bool) (symbol : Name) (wish : Wish) (options : O
     | inr rest ↦ elim rest [
       | inl g ↦ inr g
       | inr e ↦ elim e [
-        | inl f ↦ inl (met_where_moved client sole symbol (IsAnswered symbol wish options) limit before now (length mid) mid new refused (inr f.0) at is)
+        | inl f ↦ inl (met_where_moved client sole symbol (IsAnswered client symbol wish options) limit before now (length mid) mid new refused (inr f.0) at is)
         | inr r ↦ absurd (true≢false (sym (good_answer wish options.prune options.at (state_of (history_at new refused.place) symbol) refused.why r.refuses) ∙ ap is_answer is))
       ]
     ]

@@ -1,5 +1,5 @@
 -- A commit that makes what is asked, told of the history that it was made on.
-use Rattle.std.proofs.Common.{◌≡◌, ℕ, Bool, true, ◌++◌, refl, inl, inr, Some, Result, Ok, Err}
+use Rattle.std.proofs.Common.{◌≡◌, ℕ, Bool, true, map, refl, inl, inr, Some, Result, Ok, Err}
 use Rattle.frame_core.specs.declared.refusal.Refused.{Refused}
 use Rattle.key_kind.specs.Names.{Name}
 use Rattle.bucket_core.specs.declared.event.Change.{Change}
@@ -7,6 +7,8 @@ use Rattle.bucket_core.specs.declared.event.Change.TheVariants as changes
 use Rattle.bucket_core.specs.History.{History}
 use Rattle.store_model.specs.Commits.{is_version}
 use Rattle.store_model.specs.Library.{State, Version, new_version}
+use Rattle.version_chain.specs.Traces.{Went}
+use Rattle.reply_model.specs.Tries.{put_of}
 use Rattle.frame_write.specs.declared.options.Committed.{Committed}
 use Rattle.frame_write.specs.Tries.{Made, DidCommit, DidFail, DidTry}
 
@@ -21,7 +23,7 @@ makes_version st (changes.Released holder) v e = absurd cc
 makes_version st (changes.Discarded pieces) v e = absurd cc
 
 -- what follows from what was asked, of a commit over this history
-module _ (client : ℕ) (sole : Bool) (symbol : Name) (Asked Other : Made → Type 0) (old : History) (follows : (m : Made) (added : History) → m.before ≡ added ++ old → Asked m → Other m) where
+module _ (client : ℕ) (sole : Bool) (symbol : Name) (Asked Other : Made → Type 0) (old : History) (follows : (m : Made) → Went client sole old m.before (map (put_of client) m.puts) → Asked m → Other m) where
   commit_on : (new : History) (done : Committed) → DidCommit client sole symbol Asked old new done → DidCommit client sole symbol Other old new done
   commit_on new done d = record {
     made = d.made;
@@ -29,7 +31,7 @@ module _ (client : ℕ) (sole : Bool) (symbol : Name) (Asked Other : Made → Ty
     entry = d.entry;
     is_try = d.is_try;
     index = d.index;
-    asked = follows d.made d.went.more d.went.is d.asked;
+    asked = follows d.made d.went d.asked;
     newest = d.newest;
     went = d.went;
     lawful = d.lawful;

@@ -32,6 +32,7 @@ use Rattle.version_chain.specs.Tips.{IsTipOf}
 use Rattle.reply_model.specs.Keyed.{block_keys}
 use Rattle.reply_model.specs.Standing.{row_sizes, rows_of_version, base_rows, keys_of_version, base_keys}
 use Rattle.frame_read.proofs.StampLemmas.{IsStamped, lawful_is_stamped}
+use Rattle.append_update.specs.Shares.{slots_of_version, base_slots}
 use Rattle.append_update.specs.Newest.{IsNewest}
 use Rattle.append_update.proofs.ToldLemmas.{Told, told_prop, told_all, storable_told, stamps_told}
 
@@ -181,7 +182,11 @@ module _ (h : History) (symbol : Name) (v : Version) (link : Linked) (index : In
       ap (λ n. option_map_or (λ (l : Linked). f l.index) (find (λ (l : Linked). nat_eq n l.row.version) (links h symbol)) []) (sym number)
       ∙ (ap (λ o. option_map_or (λ (l : Linked). f l.index) o []) found ∙ ap f index_is)
 
-  -- the rows of the base's row blocks
+  -- the base's slots
+  base_shows : base_slots h symbol ≡ index.slots
+  base_shows = ap (slots_of_version (links h symbol)) is ∙ told_of_base (λ i. i.slots)
+
+  -- the rows of its row blocks
   base_has : base_rows h symbol ≡ row_sizes index.slots
   base_has = ap (rows_of_version (links h symbol)) is ∙ told_of_base (λ i. row_sizes i.slots)
 
@@ -213,6 +218,7 @@ newest_is h symbol prune tip row index lawful is e rules same =
         link_is = found.link_is;
         number = number;
         index_is = index_is;
+        slots_are = base_shows h symbol v found.link index found.first number link_is index_is;
         rows_are = base_has h symbol v found.link index found.first number link_is index_is;
         keys_are = base_keeps h symbol v found.link index found.first number link_is index_is;
         tiled = ∥∥₁_map found.pair (λ p. p.link.assembled);

@@ -39,6 +39,7 @@ use Rattle.append_update.proofs.UpdateAnswers.{upsert_alone, update_unreferred, 
 use Rattle.append_update.proofs.BaseLemmas.{walked_here}
 use Rattle.append_update.proofs.RowSizes.{appended_parts, appended_alone, updated_alone}
 use Rattle.append_update.proofs.PartKeys.{appended_keep, appended_alone_keep, updated_alone_keep}
+use Rattle.append_update.proofs.ShareLemmas.{appends_over, appends_alone, replaces_alone}
 
 -- ---- how large
 
@@ -121,6 +122,7 @@ append_alone_is h symbol options frame f none = record {
   answered = append_alone (state_of h symbol) options.prune options.at frame none;
   blocks = λ cut small. appended_alone (run_cutting options.cutting) h symbol none frame options.at;
   keys = λ cut small. appended_alone_keep (run_cutting options.cutting) h symbol none frame options.at;
+  slots = appends_alone options.cutting h symbol frame none;
 }
 
 -- ---- over the base
@@ -134,6 +136,7 @@ append_over_is h symbol options v base frame plan n f may is =
       answered = append_answers (state_of h symbol) options.prune options.at frame v n.is may;
       blocks = λ cut small. appended_parts (run_cutting options.cutting) h symbol base.index.slots frame options.at n.rows_are;
       keys = λ cut small. appended_keep (run_cutting options.cutting) h symbol base.index.slots frame options.at n.keys_are;
+      slots = appends_over options.cutting h symbol v base.index frame n;
     })
 
 -- ---- the base of a walked tip
@@ -180,6 +183,7 @@ module _ (h : History) (symbol : Name) (prune : Bool) (tip : ChainTip) (walked :
       answered = upsert_alone (state_of h symbol) true options.prune options.at (Some range) frame range (inside_range range frame inside) refl none;
       blocks = λ cut small. updated_alone (run_cutting options.cutting) h symbol none frame range options.at;
       keys = λ cut small. updated_alone_keep (run_cutting options.cutting) h symbol none frame range options.at;
+      slots = replaces_alone options.cutting h symbol range frame none;
     })
 
     missing_alone : update_answer (state_of h symbol) false options.prune options.at (Some range) frame ≡ Err (why_missing (is_some tip.was))

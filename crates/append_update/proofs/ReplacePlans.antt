@@ -28,6 +28,7 @@ use Rattle.append_update.specs.Replacing.{replaced, AreEdges}
 use Rattle.append_update.proofs.PlanLemmas.{inside_range}
 use Rattle.append_update.proofs.UpdateAnswers.{MayReplace, update_plan_fits, update_answers}
 use Rattle.append_update.proofs.ReplacedParts.{replaced_parts, replaced_keep}
+use Rattle.append_update.proofs.ShareLemmas.{replaces_over}
 
 -- the plan of the pieces makes the version
 pub replace_over_is : (h : History) (symbol : Name) (options : Options) (v : Version) (base : Base) (range : Range) (cuts : Cuts) (edges : Edges) (frame : Frame) (plan : LinkPlan) → IsNewest h symbol v base.index → Divides range base.index.slots cuts
@@ -40,6 +41,7 @@ replace_over_is h symbol options v base range cuts edges frame plan n divides ar
       answered = update_answers (state_of h symbol) upsert options.prune options.at (Some range) frame range (inside_range range frame inside) v n.is may;
       blocks = λ cut small. replaced_parts options.cutting cut h symbol v base.index range cuts edges frame options.at n may.order divides are small;
       keys = λ cut small. replaced_keep options.cutting cut h symbol v base.index range cuts edges frame options.at n may.order divides are small;
+      slots = replaces_over options.cutting h symbol v base.index range cuts edges frame n divides are;
     })
 
 -- ---- a version is made behind a reference
@@ -75,7 +77,7 @@ module _ (h : History) (symbol : Name) (options : Options) (v : Version) (is : b
   -- so are its plans
   pub clear_plans : (r : Result LinkPlan Refused) → IfOk r (IsPlanOf h symbol options (λ st. update_answer st false options.prune options.at (Some range) (record v.frame { rows = [] })))
       → IfOk r (IsPlanOf h symbol options (answer_to (wishes.Clear range) options.prune options.at))
-  clear_plans (Ok plan) p = record { fits = p.fits; answered = clear_answer ∙ p.answered; blocks = p.blocks; keys = p.keys }
+  clear_plans (Ok plan) p = record { fits = p.fits; answered = clear_answer ∙ p.answered; blocks = p.blocks; keys = p.keys; slots = p.slots }
   clear_plans (Err refused) p = tt
 
   -- and its refusals

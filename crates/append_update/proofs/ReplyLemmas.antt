@@ -27,16 +27,17 @@ use Rattle.append_update.specs.Asking.{answer_to, IsAnswered, Declines, Wants}
 use Rattle.append_update.specs.Replies.{IsLegalAppend, IsLegalUpdate, IsLegalDelete}
 use Rattle.append_update.proofs.AskedLemmas.{asked_by, good_range}
 
-abbrev AllTries : ℕ → Bool → Name → Wish → Options → ℕ → ℕ → ℕ → ℕ → History → History → Result Committed Refused → Type 0
+-- what all tries did of a wish
+abbrev pub AllTries : ℕ → Bool → Name → Wish → Options → ℕ → ℕ → ℕ → ℕ → History → History → Result Committed Refused → Type 0
 AllTries client sole symbol wish options most limit before now old new result =
-    DidTries client sole symbol (IsAnswered symbol wish options) (Declines symbol wish options) (Wants symbol wish options) most limit before now old new result
+    DidTries client sole symbol (IsAnswered client symbol wish options) (Declines symbol wish options) (Wants symbol wish options) most limit before now old new result
 
 -- the tries of a command that asks so
 wish_is_legal : (s : Session) (c : Command) (sole : Bool) (symbol : Name) (wish : Wish) (options : Options) (client most limit before now : ℕ) (old new : History) (result : Result Committed Refused) → MakesVersion c symbol
     → ((listed l : Library) (p : ℕ) → answer s listed l p c ≡ Some (answered (answer_to wish options.prune options.at (l.state symbol))))
     → s.client ≡ client → s.tries ≡ most → AllTries client sole symbol wish options most limit before now old new result → IsLegalCall s c limit before now old new result
 wish_is_legal s c sole symbol wish options client most limit before now old new result makes is same_client same_tries d =
-    tries_are_legal s limit c sole symbol (IsAnswered symbol wish options) (Declines symbol wish options) (Wants symbol wish options) (asked_by s c symbol wish options makes is) before now old new result
+    tries_are_legal s limit c sole symbol (IsAnswered s.client symbol wish options) (Declines symbol wish options) (Wants symbol wish options) (asked_by s c symbol wish options makes is) before now old new result
     (subst (λ n. AllTries n sole symbol wish options s.tries limit before now old new result) (sym same_client)
     (subst (λ t. AllTries client sole symbol wish options t limit before now old new result) (sym same_tries) d))
 

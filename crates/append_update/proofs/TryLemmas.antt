@@ -11,11 +11,12 @@ use Rattle.segment_cut.specs.Cuttings.{IsCutting}
 use Rattle.index_tree.specs.declared.index.Slot.{Slot}
 use Rattle.key_kind.specs.declared.key.Key.{Key}
 use Rattle.key_kind.specs.Names.{Name}
-use Rattle.bucket_core.specs.History.{History, history_at}
+use Rattle.bucket_core.specs.History.{History, history_at, puts_by}
 use Rattle.bucket_core.specs.Laws.{Looks}
 use Rattle.store_model.specs.Library.{State, Version, state_of, base_of, next_number}
 use Rattle.store_model.specs.Law.{IsClaimed}
 use Rattle.reply_model.specs.Answering.{Answer, committed}
+use Rattle.reply_model.specs.Tries.{put_of}
 use Rattle.reply_model.specs.Blocks.{tiles_across, parts_of}
 use Rattle.reply_model.specs.Keyed.{block_keys, IsKeyedPart}
 use Rattle.reply_model.specs.Standing.{row_sizes, fresh_in, slices, parts_laid}
@@ -40,10 +41,12 @@ use Rattle.append_update.specs.Attempts.{DidAttempt}
 use Rattle.append_update.specs.Looking.{RefusesPlan}
 use Rattle.append_update.proofs.BaseLemmas.{walked_here, walk_wider}
 use Rattle.append_update.specs.RowBlocks.{kept_keys, AreSmall, HavePartKeys}
+use Rattle.append_update.specs.Shares.{MakesSlots}
 use Rattle.reply_model.specs.Blocks.{run_cutting}
 use Rattle.append_update.proofs.AskedLemmas.{answer_unmoved}
 use Rattle.append_update.proofs.MadeLemmas.{makes_version, try_on}
 use Rattle.append_update.proofs.LaidKeys.{HasKept, laid_keys, parts_keyed}
+use Rattle.append_update.proofs.PutCounts.{puts_counted}
 use Rattle.append_update.proofs.RowSizes.{laid_rows, tiles_counted}
 
 -- ---- a tip that was walked, later
@@ -122,7 +125,7 @@ look_busy busy before now old new place (refusals.TooLarge what most) is = tt
 
 module _ (client : ℕ) (sole : Bool) (symbol : Name) (wish : Wish) (options : Options) (limit before now : ℕ) (old : History) where
   abbrev pub Did : History → Result Committed Refused → Type 0
-  Did new r = DidAttempt client sole symbol (IsAnswered symbol wish options) (Declines symbol wish options) (Wants symbol wish options) limit before now old new r
+  Did new r = DidAttempt client sole symbol (IsAnswered client symbol wish options) (Declines symbol wish options) (Wants symbol wish options) limit before now old new r
 
   -- a look failed
   pub look_ends : (new : History) (refused : Refused) → Looks IsClaimed client sole old new → RefusesWalk before now old new refused → Did new (Err refused)
@@ -173,8 +176,8 @@ module _ (client : ℕ) (sole : Bool) (symbol : Name) (wish : Wish) (options : O
         subst (λ (slots : List Slot). AllZip (IsKeyedPart names (slices (run_cutting options.cutting) (state_of at.before symbol) plan.change)) parts (block_keys slots)) (sym i.slots)
         (subst (λ k. AllZip (IsKeyedPart names k) parts keys) slices_are (parts_keyed names across parts keys kept))
 
-    made : (serial : ℕ) (m : Made) (added : History) → m.before ≡ added ++ mid → IsLinkMade client serial symbol (state_of (history_at mid tip.place) symbol) plan options m → IsAnswered symbol wish options m
-    made serial m added before_is i =
+    made : (m : Made) → Went client sole mid m.before (map (put_of client) m.puts) → IsLinkMade client (puts_by client mid) symbol (state_of (history_at mid tip.place) symbol) plan options m → IsAnswered client symbol wish options m
+    made m went i =
         let same : state_of (history_at mid tip.place) symbol ≡ state_of at.before symbol = ap (λ h. state_of h symbol) (walked_here mid symbol options.prune tip at) in
         record {
           change = plan.change;
@@ -183,8 +186,8 @@ module _ (client : ℕ) (sole : Bool) (symbol : Name) (wish : Wish) (options : O
           built = record {
             version = makes_version (state_of at.before symbol) plan.change of.fits.version of.fits.makes;
             walked = at.before;
-            later = added ++ at.later;
-            split = before_is ∙ (ap (λ h. added ++ h) at.split ∙ sym (append_assoc added at.later at.before));
+            later = went.more ++ at.later;
+            split = went.is ∙ (ap (λ h. went.more ++ h) at.split ∙ sym (append_assoc went.more at.later at.before));
             unmoved = subst (λ st. IsUnmoved st (state_of m.before symbol)) same i.unmoved;
             put = λ cut small.
                 let are = of.blocks cut small in
@@ -192,9 +195,13 @@ module _ (client : ℕ) (sole : Bool) (symbol : Name) (wish : Wish) (options : O
                 record {
                   tiles = i.puts ∙ ap (λ n. n + 2) (tiles_counted options.cutting of.fits.version.frame.schema of.fits.pieces.slots plan.pieces of.fits.pieces.each
                       ∙ (ap (λ n. n * across) are.fresh ∙ ap (λ n. fresh_in (parts_laid c at.before symbol plan.change) * n) slices_are));
-                  rows = ap row_sizes i.slots ∙ (laid_rows options.cutting cut client symbol _ 0 serial plan.pieces ∙ are.rows);
-                  keys = keys_made serial m cut small i;
+                  rows = ap row_sizes i.slots ∙ (laid_rows options.cutting cut client symbol _ 0 (puts_by client mid) plan.pieces ∙ are.rows);
+                  keys = keys_made (puts_by client mid) m cut small i;
                 };
+            serial = puts_by client mid;
+            counted = sym (puts_counted client sole mid m.before m.puts went);
+            slots = subst (MakesSlots plan.change symbol options.cutting client (puts_by client mid) at.before) (sym (i.slots ∙ ap (λ st. laid options.cutting client symbol (next_number st) 0 (puts_by client mid) plan.pieces) same))
+                (of.slots client (puts_by client mid));
           };
         }
 
@@ -204,12 +211,12 @@ module _ (client : ℕ) (sole : Bool) (symbol : Name) (wish : Wish) (options : O
       | inr s ↦ omega (arith, s.stops.place, s.stops.later)
     ]
 
-    pub commit_ends : (serial : ℕ) (r : Result Committed Refused)
-        → DidTry client sole symbol (IsLinkMade client serial symbol (state_of (history_at mid tip.place) symbol) plan options) limit before now tip.place mid new r → Did new r
-    commit_ends serial r d = by r (try_on client sole symbol _ (IsAnswered symbol wish options) mid (made serial) limit before now tip.place new r d)
+    pub commit_ends : (r : Result Committed Refused)
+        → DidTry client sole symbol (IsLinkMade client (puts_by client mid) symbol (state_of (history_at mid tip.place) symbol) plan options) limit before now tip.place mid new r → Did new r
+    commit_ends r d = by r (try_on client sole symbol _ (IsAnswered client symbol wish options) mid made limit before now tip.place new r d)
       where
-        by : (r : Result Committed Refused) → DidTry client sole symbol (IsAnswered symbol wish options) limit before now tip.place mid new r → Did new r
-        by (Ok done) d = try_from client sole symbol (IsAnswered symbol wish options) limit before now tip.place (length old) old mid new from looks (Ok done) d
+        by : (r : Result Committed Refused) → DidTry client sole symbol (IsAnswered client symbol wish options) limit before now tip.place mid new r → Did new r
+        by (Ok done) d = try_from client sole symbol (IsAnswered client symbol wish options) limit before now tip.place (length old) old mid new from looks (Ok done) d
         by (Err refused) d =
             let size : length mid ≡ length at.later + length at.before = ap length at.split ∙ length-append at.later at.before in
             let here : history_at new tip.place ≡ at.before = walked_here new symbol options.prune tip (tip_later mid new more symbol options.prune tip is at) in
@@ -217,9 +224,9 @@ module _ (client : ℕ) (sole : Bool) (symbol : Name) (wish : Wish) (options : O
             (plan.change, subst (λ h. answer_to wish options.prune options.at (state_of h symbol) ≡ Ok (committed (state_of h symbol) options.prune plan.change)) (sym here) of.answered) in
             let busy : IsBusy (Wants symbol wish options) old new refused.place refused.why = elim d [
               | inl m ↦ subst (IsBusy (Wants symbol wish options) old new refused.place) (sym m.why) tt
-              | inr f ↦ busy_else (Wants symbol wish options) old new refused.place refused.why (tip.place, from, omega (arith, within (IsAnswered symbol wish options) refused f, size, at.place), wants)
+              | inr f ↦ busy_else (Wants symbol wish options) old new refused.place refused.why (tip.place, from, omega (arith, within (IsAnswered client symbol wish options) refused f, size, at.place), wants)
             ] in
-            elim (try_from client sole symbol (IsAnswered symbol wish options) limit before now tip.place (length old) old mid new from looks (Err refused) d) [
+            elim (try_from client sole symbol (IsAnswered client symbol wish options) limit before now tip.place (length old) old mid new from looks (Err refused) d) [
               | inl m ↦ inl m
               | inr f ↦ inr (inr (inl (f, busy)))
             ]

@@ -4,7 +4,7 @@
 --     IsAnswered, Declines, Wants      a commit that makes what is asked; a refusal; a history in which there is a version to make
 --     IsPlanOf            a plan of what is asked
 --     IsAlone, why_missing        the plan where there is no live version; why there is none
-use Rattle.std.specs.Prelude.{◌≡◌, ℤ, Bool, true, false, if◌then◌else◌, [], ◌∷◌, Option, Some, None, Result, Ok, Err}
+use Rattle.std.specs.Prelude.{◌≡◌, ℕ, ℤ, Bool, true, false, if◌then◌else◌, [], ◌∷◌, Option, Some, None, Result, Ok, Err}
 use Rattle.frame_core.specs.declared.refusal.Asked.TheVariants as asks
 use Rattle.frame_core.specs.declared.refusal.Refusal.{Refusal}
 use Rattle.frame_core.specs.declared.refusal.Refusal.TheVariants as refusals
@@ -15,7 +15,7 @@ use Rattle.key_kind.specs.Names.{Name}
 use Rattle.bucket_core.specs.declared.event.Change.{Change}
 use Rattle.bucket_core.specs.declared.event.Change.TheVariants as changes
 use Rattle.bucket_core.specs.History.{History}
-use Rattle.store_model.specs.Library.{State, state_of}
+use Rattle.store_model.specs.Library.{State, state_of, next_number}
 use Rattle.reply_model.specs.Answering.{Answer, committed, pruned}
 use Rattle.reply_model.specs.CommitAnswers.{append_answer, update_answer, clear_answer, outside}
 use Rattle.reply_model.specs.Standing.{parts_laid}
@@ -23,10 +23,12 @@ use Rattle.frame_write.specs.declared.options.Options.{Options}
 use Rattle.frame_write.specs.declared.pieces.LinkPlan.{LinkPlan}
 use Rattle.frame_write.specs.declared.pieces.Piece.TheVariants as pieces
 use Rattle.frame_write.specs.Links.{FitsPlan}
+use Rattle.frame_write.specs.Pieces.{laid}
 use Rattle.frame_write.specs.Tries.{Made}
 use Rattle.append_update.specs.declared.wish.Wish.{Wish}
 use Rattle.append_update.specs.declared.wish.Wish.TheVariants as wishes
 use Rattle.append_update.specs.RowBlocks.{AreParts, KeepKeys, AreSmall, IsBuiltOn}
+use Rattle.append_update.specs.Shares.{MakesSlots}
 use Rattle.reply_model.specs.Blocks.{run_cutting}
 
 -- the answer in a state of the symbol
@@ -42,11 +44,11 @@ IsWish (wishes.Replace frame range upsert) = IsStorable frame.now × IsRange ran
 IsWish (wishes.Clear range) = IsRange range
 
 -- the commit has one change, and what it buries; the library answers so just before it; its row blocks are those of the change
-pub record IsAnswered (symbol : Name) (wish : Wish) (options : Options) (m : Made) : Type 0 where
+pub record IsAnswered (client : ℕ) (symbol : Name) (wish : Wish) (options : Options) (m : Made) : Type 0 where
   pub change : Change
   pub list : m.list ≡ change ∷ pruned (state_of m.before symbol) options.prune
   pub answered : answer_to wish options.prune options.at (state_of m.before symbol) ≡ Ok (committed (state_of m.before symbol) options.prune change)
-  pub built : IsBuiltOn options.cutting symbol change m
+  pub built : IsBuiltOn client options.cutting symbol change m
 
 -- the library refuses so
 abbrev pub Declines : Name → Wish → Options → History → Refusal → Type 0
@@ -57,12 +59,13 @@ abbrev pub Wants : Name → Wish → Options → History → Type 0
 Wants symbol wish options h = (c : Change) × (answer_to wish options.prune options.at (state_of h symbol) ≡ Ok (committed (state_of h symbol) options.prune c))
 
 -- the plan may be tried in this history, in which the library answers its change; its pieces have the row blocks of the change, with the keys
--- that those keep
+-- that those keep, and they are laid out as its slots
 pub record IsPlanOf (h : History) (symbol : Name) (options : Options) (answer : State → Result Answer Refusal) (plan : LinkPlan) : Type 0 where
   pub fits : FitsPlan h symbol options.at plan
   pub answered : answer (state_of h symbol) ≡ Ok (committed (state_of h symbol) options.prune plan.change)
   pub blocks : IsCutting options.cutting → AreSmall (run_cutting options.cutting) h symbol → AreParts (run_cutting options.cutting) plan.pieces (parts_laid (run_cutting options.cutting) h symbol plan.change)
   pub keys : IsCutting options.cutting → AreSmall (run_cutting options.cutting) h symbol → KeepKeys (run_cutting options.cutting) h symbol plan.change plan.pieces
+  pub slots : (client serial : ℕ) → MakesSlots plan.change symbol options.cutting client serial h (laid options.cutting client symbol (next_number (state_of h symbol)) 0 serial plan.pieces)
 
 -- the plan where there is no live version; none where the command wants one
 abbrev pub IsAlone : Wish → ℤ → Option LinkPlan → Type 0

@@ -1,6 +1,7 @@
 pub mod Bases
 pub mod Replacing
 pub mod Replies
+pub mod Shares
 pub mod Newest
 pub mod Looking
 pub mod Attempts

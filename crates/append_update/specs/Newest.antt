@@ -16,6 +16,7 @@ use Rattle.reply_model.specs.Standing.{row_sizes, base_rows, base_keys}
 use Rattle.frame_read.specs.Fetches.{IsTargetIndex}
 use Rattle.append_update.specs.declared.base.Base.{Base}
 use Rattle.append_update.specs.Bases.{IsIndexOf}
+use Rattle.append_update.specs.Shares.{base_slots}
 
 -- the newest live version, whose frame may be written, and the index of a link of it, which has its row blocks with their keys and whose tiles are those of the frame
 pub record IsNewest (h : History) (symbol : Name) (version : Version) (index : Index) : Type 0 where
@@ -25,6 +26,7 @@ pub record IsNewest (h : History) (symbol : Name) (version : Version) (index : I
   pub link_is : Contains (links h symbol) link
   pub number : link.row.version ≡ version.number
   pub index_is : link.index ≡ index
+  pub slots_are : base_slots h symbol ≡ index.slots
   pub rows_are : base_rows h symbol ≡ row_sizes index.slots
   pub keys_are : base_keys h symbol ≡ block_keys index.slots
   pub tiled : ∥ Tiled version.frame link.tiles ∥₁

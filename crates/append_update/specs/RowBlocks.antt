@@ -14,7 +14,7 @@ use Rattle.index_tree.specs.declared.index.Slot.{Slot}
 use Rattle.key_kind.specs.declared.key.Key.{Key}
 use Rattle.key_kind.specs.Names.{Name}
 use Rattle.bucket_core.specs.declared.event.Change.{Change}
-use Rattle.bucket_core.specs.History.{History}
+use Rattle.bucket_core.specs.History.{History, puts_by}
 use Rattle.store_model.specs.Commits.{is_version}
 use Rattle.store_model.specs.Library.{State, state_of, base_of}
 use Rattle.reply_model.specs.declared.outcome.Outcome.{Outcome}
@@ -26,6 +26,7 @@ use Rattle.frame_write.specs.declared.pieces.Piece.{Piece}
 use Rattle.frame_write.specs.declared.pieces.Piece.TheVariants as pieces
 use Rattle.frame_write.specs.Plans.{IsUnmoved}
 use Rattle.frame_write.specs.Tries.{Made}
+use Rattle.append_update.specs.Shares.{MakesSlots}
 
 -- the rows of the row blocks of pieces
 abbrev pub sizes_in : Cutting → List Piece → List ℕ
@@ -76,14 +77,18 @@ pub record IsPutAs (c : Cutting) (h : History) (symbol : Name) (change : Change)
   pub rows : row_sizes m.index.slots ≡ map part_rows (parts_laid c h symbol change)
   pub keys : HavePartKeys c h symbol change m.index.slots
 
--- the change makes a version on the base of a history that was walked, whose state was left as it was; its row blocks were put
-pub record IsBuiltOn (cutting : Sizes) (symbol : Name) (change : Change) (m : Made) : Type 0 where
+-- the change makes a version on the base of a history that was walked, whose state was left as it was; its row blocks were put, and its
+-- new slots have the serials of these puts
+pub record IsBuiltOn (client : ℕ) (cutting : Sizes) (symbol : Name) (change : Change) (m : Made) : Type 0 where
   pub version : is_version change ≡ true
   pub walked : History
   pub later : History
   pub split : m.before ≡ later ++ walked
   pub unmoved : IsUnmoved (state_of walked symbol) (state_of m.before symbol)
   pub put : IsCutting cutting → AreSmall (run_cutting cutting) walked symbol → IsPutAs (run_cutting cutting) walked symbol change m
+  pub serial : ℕ
+  pub counted : serial + length m.puts ≡ puts_by client m.before
+  pub slots : MakesSlots change symbol cutting client serial walked m.index.slots
 
 -- where no row block of the base has more rows than a full one, the version that the library answers in the old history is laid out by the
 -- commit at the place

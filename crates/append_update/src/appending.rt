@@ -8,6 +8,7 @@ ghost use Rattle.reply_model.specs.CommitAnswers.{append_answer};
 ghost use Rattle.reply_model.specs.Standing.{GrowsAlone};
 ghost use Rattle.append_update.specs.Replies.{IsLegalAppend};
 ghost use Rattle.append_update.specs.RowBlocks.{LaysAs};
+ghost use Rattle.append_update.specs.Shares.{AppendsSlots, SharesAs};
 ghost use Rattle.reply_model.specs.Blocks.{run_cutting};
 
 use crate::attempt::try_all;
@@ -40,6 +41,8 @@ pub fn append<R: Wait, B: Bucket<StoreLaw>>(
     ensures steady { IsSteady B.number B.limit B.faults B.sole bucket.old bucket.new }
     ensures grown { GoesOn (B.number bucket.old) (B.sole bucket.old) (B.seen bucket.old) (B.seen bucket.new) }
     ensures legal { IsLegalAppend (B.limit bucket.old) (B.number bucket.old) symbol.now frame.now options.now (B.faults bucket.old) (B.faults bucket.new) (B.seen bucket.old) (B.seen bucket.new) result }
+    // Whatever other clients do, each slot of the version before stays as it was, and behind them stand those of the frame.
+    ensures shares { IfOk result (λ done. SharesAs (B.number bucket.old) symbol.now (AppendsSlots symbol.now options.now.cutting frame.now) done.place (B.seen bucket.old) (B.seen bucket.new)) }
     // Where nobody else makes events, the place and the row blocks of the commit are known.
     ensures lays { GrowsAlone (B.number bucket.old) (B.seen bucket.old) (B.seen bucket.new) → IfOk result (λ done. LaysAs (run_cutting options.now.cutting) symbol.now (λ st. append_answer st options.now.prune options.now.at frame.now) done.place (B.seen bucket.old) (B.seen bucket.new)) }
 {

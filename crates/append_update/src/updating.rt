@@ -10,6 +10,7 @@ ghost use Rattle.reply_model.specs.Standing.{GrowsAlone};
 ghost use Rattle.reply_model.specs.CommitAnswers.{clear_answer};
 ghost use Rattle.append_update.specs.Replies.{IsLegalUpdate, IsLegalDelete};
 ghost use Rattle.append_update.specs.RowBlocks.{LaysAs};
+ghost use Rattle.append_update.specs.Shares.{UpdatesSlots, ClearsSlots, SharesAs};
 ghost use Rattle.reply_model.specs.Blocks.{run_cutting};
 
 use crate::attempt::try_all;
@@ -46,6 +47,8 @@ pub fn update<R: Wait, B: Bucket<StoreLaw>>(
     ensures steady { IsSteady B.number B.limit B.faults B.sole bucket.old bucket.new }
     ensures grown { GoesOn (B.number bucket.old) (B.sole bucket.old) (B.seen bucket.old) (B.seen bucket.new) }
     ensures legal { IsLegalUpdate (B.limit bucket.old) (B.number bucket.old) symbol.now frame.now range upsert options.now (B.faults bucket.old) (B.faults bucket.new) (B.seen bucket.old) (B.seen bucket.new) result }
+    // Whatever other clients do, the slots of whole row blocks outside the range are shared, and all others are new.
+    ensures shares { IfOk result (λ done. SharesAs (B.number bucket.old) symbol.now (UpdatesSlots symbol.now options.now.cutting range frame.now) done.place (B.seen bucket.old) (B.seen bucket.new)) }
     // Where nobody else makes events, the place and the row blocks of the commit are known.
     ensures lays { GrowsAlone (B.number bucket.old) (B.seen bucket.old) (B.seen bucket.new) → IfOk result (λ done. LaysAs (run_cutting options.now.cutting) symbol.now (λ st. update_answer st upsert options.now.prune options.now.at range frame.now) done.place (B.seen bucket.old) (B.seen bucket.new)) }
 {
@@ -84,6 +87,8 @@ pub fn delete_range<R: Wait, B: Bucket<StoreLaw>>(
     ensures steady { IsSteady B.number B.limit B.faults B.sole bucket.old bucket.new }
     ensures grown { GoesOn (B.number bucket.old) (B.sole bucket.old) (B.seen bucket.old) (B.seen bucket.new) }
     ensures legal { IsLegalDelete (B.limit bucket.old) (B.number bucket.old) symbol.now range options.now (B.faults bucket.old) (B.faults bucket.new) (B.seen bucket.old) (B.seen bucket.new) result }
+    // Whatever other clients do, the slots of whole row blocks outside the range are shared, and all others are new.
+    ensures shares { IfOk result (λ done. SharesAs (B.number bucket.old) symbol.now (ClearsSlots symbol.now options.now.cutting range) done.place (B.seen bucket.old) (B.seen bucket.new)) }
     // Where nobody else makes events, the place and the row blocks of the commit are known.
     ensures lays { GrowsAlone (B.number bucket.old) (B.seen bucket.old) (B.seen bucket.new) → IfOk result (λ done. LaysAs (run_cutting options.now.cutting) symbol.now (clear_answer range options.now.prune options.now.at) done.place (B.seen bucket.old) (B.seen bucket.new)) }
 {

@@ -80,6 +80,6 @@ returns-clause-did g c =
     mid (g.B.Bucket.seen c.link_on.new.bucket) (went_looks (g.B.Bucket.number c.args.bucket.now) (g.B.Bucket.sole c.args.bucket.now) (g.B.Bucket.seen c.args.bucket.now) mid looks) c.in_ok-tip.tip
     (tip_later (g.B.Bucket.seen c.walk_tip.new.bucket) mid c.plan_on.ensures.looks.others c.args.symbol.now c.args.options.now.prune c.in_ok-tip.tip c.plan_on.ensures.looks.is walked) c.in_ok-tip.ensures.place.from c.in_ok-plan.plan
     (subst (λ h. IsPlanOf h c.args.symbol.now c.args.options.now answer c.in_ok-plan.plan) (walked_here (g.B.Bucket.seen c.walk_tip.new.bucket) c.args.symbol.now c.args.options.now.prune c.in_ok-tip.tip walked) c.in_ok-plan.ensures.plan)
-    c.link_on.ensures.grown.more c.link_on.ensures.grown.is (puts_by (g.B.Bucket.number c.args.bucket.now) mid) c.link_on.result
+    c.link_on.ensures.grown.more c.link_on.ensures.grown.is c.link_on.result
     (try_steady g.B.Bucket.number g.B.Bucket.limit g.B.Bucket.faults g.B.Bucket.sole c.args.bucket.now c.plan_on.new.bucket steady c.args.symbol.now (g.B.Bucket.faults c.link_on.new.bucket) c.in_ok-tip.tip.place mid (g.B.Bucket.seen c.link_on.new.bucket)
     (λ n. IsLinkMade n (puts_by n mid) c.args.symbol.now (state_of (history_at mid c.in_ok-tip.tip.place) c.args.symbol.now) c.in_ok-plan.plan c.args.options.now) c.link_on.result c.link_on.ensures.did)

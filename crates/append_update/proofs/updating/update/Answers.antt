@@ -5,6 +5,7 @@ use Rattle.append_update.specs.declared.wish.Wish.TheVariants as wishes
 use Rattle.append_update.specs.Asking.{IsAnswered, Declines, Wants}
 use Rattle.append_update.proofs.AloneLemmas.{tries_lay}
 use Rattle.append_update.proofs.ReplyLemmas.{same_range, update_is_legal, unranged_is_legal}
+use Rattle.append_update.proofs.SharedCalls.{update_shares}
 use Rattle.append_update.proofs.updating.update.Goals as goal
 
 pub try_all-requires-clause-wish : goal.try_all-requires-clause-wish
@@ -13,7 +14,7 @@ try_all-requires-clause-wish g c = (c.requires.storable, c.in-Ok.ensures.order, 
 pub returns-in-Ok-clause-grown : goal.returns-in-Ok-clause-grown
 returns-in-Ok-clause-grown g c =
     let wish = wishes.Replace c.args.frame c.in-Ok.range c.args.upsert in
-    goes_on (g.B.Bucket.number c.args.bucket.now) (g.B.Bucket.sole c.args.bucket.now) c.args.symbol.now (IsAnswered c.args.symbol.now wish c.args.options.now) (Declines c.args.symbol.now wish c.args.options.now) (Wants c.args.symbol.now wish c.args.options.now)
+    goes_on (g.B.Bucket.number c.args.bucket.now) (g.B.Bucket.sole c.args.bucket.now) c.args.symbol.now (IsAnswered (g.B.Bucket.number c.args.bucket.now) c.args.symbol.now wish c.args.options.now) (Declines c.args.symbol.now wish c.args.options.now) (Wants c.args.symbol.now wish c.args.options.now)
     _ _ _ _ _ _ _ c.try_all.ensures.did
 
 pub returns-in-Ok-clause-legal : goal.returns-in-Ok-clause-legal
@@ -35,3 +36,7 @@ returns-in-Ok-clause-lays g c = λ grows.
     tries_lay (g.B.Bucket.number c.args.bucket.now) (g.B.Bucket.sole c.args.bucket.now) c.args.symbol.now (wishes.Replace c.args.frame c.in-Ok.range c.args.upsert) options (g.B.Bucket.limit c.args.bucket.now) _ _ _ _ _
     c.try_all.ensures.cutting (g.met.B.Bucket.lawful c.try_all.new.bucket) grows c.try_all.ensures.did (λ st. update_answer st c.args.upsert options.prune options.at c.args.range c.args.frame.now)
     (λ st. same_range st c.args.upsert options.prune options.at c.args.range c.in-Ok.range c.args.frame.now (sym c.in-Ok.ensures.range) c.in-Ok.ensures.inside)
+
+pub returns-in-Ok-clause-shares : goal.returns-in-Ok-clause-shares
+returns-in-Ok-clause-shares g c =
+    update_shares (g.B.Bucket.number c.args.bucket.now) (g.B.Bucket.sole c.args.bucket.now) c.args.symbol.now c.args.options.now (g.B.Bucket.limit c.args.bucket.now) _ _ _ _ (g.met.B.Bucket.lawful c.try_all.new.bucket) c.args.frame c.args.range c.in-Ok.range c.args.upsert _ c.try_all.ensures.did (sym c.in-Ok.ensures.range)
