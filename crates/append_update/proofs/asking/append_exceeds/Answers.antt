@@ -16,10 +16,10 @@ returns-then-not-has_texts-clause-exceeds g c = λ b.
     let few : text_total (kept_rows None b.version.frame.rows) + text_total c.args.frame.now.rows ≤ 67108864 =
     few_texts None tt b.version.frame c.args.frame.now b.newest.index_of.storable c.requires.storable
     (inr (ap (λ (s : Schema). list_any (λ (h : Head). is_text h.1) s.columns) (sym b.newest.index_of.schema) ∙ (ap (λ (i : Index). list_any (λ (h : Head). is_text h.1) i.schema.columns) (sym c.index.ensures)
-        ∙ (ap (λ (s : Schema). list_any (λ (h : Head). is_text h.1) s.columns) (sym c.schema.ensures) ∙ (ap (list_any (λ (h : Head). is_text h.1)) (sym c.columns.ensures) ∙ (sym c.has_texts.ensures ∙ off)))))) in
+    ∙ (ap (λ (s : Schema). list_any (λ (h : Head). is_text h.1) s.columns) (sym c.schema.ensures) ∙ (ap (list_any (λ (h : Head). is_text h.1)) (sym c.columns.ensures) ∙ (sym c.has_texts.ensures ∙ off)))))) in
     (λ yes. absurd (true≢false (sym yes)), λ many. absurd (omega (arith, few, many)))
 
 pub returns-in-Ok-clause-exceeds : goal.returns-in-Ok-clause-exceeds
 returns-in-Ok-clause-exceeds g c =
     subst (λ (x : Base). (b : IsBaseAt (g.B.Bucket.number c.args.bucket.now) (g.B.Bucket.seen c.args.bucket.now) c.args.symbol.now x)
-        → IfOk c.exceeds_texts.result (λ (exceeds : Bool). IsTrue exceeds ↔ (67108864 < text_total (kept_rows None b.version.frame.rows) + text_total c.args.frame.now.rows))) c.in-Ok.ensures c.exceeds_texts.ensures.exceeds
+    → IfOk c.exceeds_texts.result (λ (exceeds : Bool). IsTrue exceeds ↔ (67108864 < text_total (kept_rows None b.version.frame.rows) + text_total c.args.frame.now.rows))) c.in-Ok.ensures c.exceeds_texts.ensures.exceeds

@@ -19,27 +19,27 @@ returns-in-Append-clause-refused g c = λ b.
 pub returns-in-Ok-clause-plan : goal.returns-in-Ok-clause-plan
 returns-in-Ok-clause-plan g c =
     subst (λ (x : Base). (b : IsBaseAt (g.B.Bucket.number c.args.bucket.now) (g.B.Bucket.seen c.args.bucket.now) c.args.symbol.now x)
-        → IfOk c.replace_over.result (IsPlanOf b.before c.args.symbol.now c.args.options.now (answer_to c.args.wish.now c.args.options.now.prune c.args.options.now.at))) c.in-Ok.ensures (λ b.
-        subst (λ w. IfOk c.replace_over.result (IsPlanOf b.before c.args.symbol.now c.args.options.now (answer_to w c.args.options.now.prune c.args.options.now.at))) (sym c.in-Replace.is)
-        (c.replace_over.ensures.plan b _))
+    → IfOk c.replace_over.result (IsPlanOf b.before c.args.symbol.now c.args.options.now (answer_to c.args.wish.now c.args.options.now.prune c.args.options.now.at))) c.in-Ok.ensures (λ b.
+    subst (λ w. IfOk c.replace_over.result (IsPlanOf b.before c.args.symbol.now c.args.options.now (answer_to w c.args.options.now.prune c.args.options.now.at))) (sym c.in-Replace.is)
+    (c.replace_over.ensures.plan b _))
 
 pub returns-in-Ok-clause-refused : goal.returns-in-Ok-clause-refused
 returns-in-Ok-clause-refused g c =
     subst (λ (x : Base). (b : IsBaseAt (g.B.Bucket.number c.args.bucket.now) (g.B.Bucket.seen c.args.bucket.now) c.args.symbol.now x)
-        → IfErr c.replace_over.result (RefusesPlan (g.B.Bucket.number c.args.bucket.now) c.args.symbol.now (answer_to c.args.wish.now c.args.options.now.prune c.args.options.now.at) b.before (g.B.Bucket.faults c.args.bucket.now) (g.B.Bucket.faults c.replace_over.new.bucket) (g.B.Bucket.seen c.args.bucket.now) (g.B.Bucket.seen c.replace_over.new.bucket))) c.in-Ok.ensures (λ b.
-        subst (λ w. IfErr c.replace_over.result (RefusesPlan (g.B.Bucket.number c.args.bucket.now) c.args.symbol.now (answer_to w c.args.options.now.prune c.args.options.now.at) b.before (g.B.Bucket.faults c.args.bucket.now) (g.B.Bucket.faults c.replace_over.new.bucket) (g.B.Bucket.seen c.args.bucket.now) (g.B.Bucket.seen c.replace_over.new.bucket)))
-        (sym c.in-Replace.is) (c.replace_over.ensures.refused b _))
+    → IfErr c.replace_over.result (RefusesPlan (g.B.Bucket.number c.args.bucket.now) c.args.symbol.now (answer_to c.args.wish.now c.args.options.now.prune c.args.options.now.at) b.before (g.B.Bucket.faults c.args.bucket.now) (g.B.Bucket.faults c.replace_over.new.bucket) (g.B.Bucket.seen c.args.bucket.now) (g.B.Bucket.seen c.replace_over.new.bucket))) c.in-Ok.ensures (λ b.
+    subst (λ w. IfErr c.replace_over.result (RefusesPlan (g.B.Bucket.number c.args.bucket.now) c.args.symbol.now (answer_to w c.args.options.now.prune c.args.options.now.at) b.before (g.B.Bucket.faults c.args.bucket.now) (g.B.Bucket.faults c.replace_over.new.bucket) (g.B.Bucket.seen c.args.bucket.now) (g.B.Bucket.seen c.replace_over.new.bucket)))
+    (sym c.in-Replace.is) (c.replace_over.ensures.refused b _))
 
 pub returns-in-Ok-unpacked-clause-plan : goal.returns-in-Ok-unpacked-clause-plan
 returns-in-Ok-unpacked-clause-plan g c =
     subst (λ (x : Base). (b : IsBaseAt (g.B.Bucket.number c.args.bucket.now) (g.B.Bucket.seen c.args.bucket.now) c.args.symbol.now x)
-        → IfOk c.clear_over.result (IsPlanOf b.before c.args.symbol.now c.args.options.now (answer_to c.args.wish.now c.args.options.now.prune c.args.options.now.at))) c.in-Ok-unpacked.ensures (λ b.
-        subst (λ w. IfOk c.clear_over.result (IsPlanOf b.before c.args.symbol.now c.args.options.now (answer_to w c.args.options.now.prune c.args.options.now.at))) (sym c.in-Clear.is)
-        (clear_plans b.before c.args.symbol.now c.args.options.now b.version b.newest.is c.in-Clear.range c.clear_over.result (c.clear_over.ensures.plan b)))
+    → IfOk c.clear_over.result (IsPlanOf b.before c.args.symbol.now c.args.options.now (answer_to c.args.wish.now c.args.options.now.prune c.args.options.now.at))) c.in-Ok-unpacked.ensures (λ b.
+    subst (λ w. IfOk c.clear_over.result (IsPlanOf b.before c.args.symbol.now c.args.options.now (answer_to w c.args.options.now.prune c.args.options.now.at))) (sym c.in-Clear.is)
+    (clear_plans b.before c.args.symbol.now c.args.options.now b.version b.newest.is c.in-Clear.range c.clear_over.result (c.clear_over.ensures.plan b)))
 
 pub returns-in-Ok-unpacked-clause-refused : goal.returns-in-Ok-unpacked-clause-refused
 returns-in-Ok-unpacked-clause-refused g c =
     subst (λ (x : Base). (b : IsBaseAt (g.B.Bucket.number c.args.bucket.now) (g.B.Bucket.seen c.args.bucket.now) c.args.symbol.now x)
-        → IfErr c.clear_over.result (RefusesPlan (g.B.Bucket.number c.args.bucket.now) c.args.symbol.now (answer_to c.args.wish.now c.args.options.now.prune c.args.options.now.at) b.before (g.B.Bucket.faults c.args.bucket.now) (g.B.Bucket.faults c.clear_over.new.bucket) (g.B.Bucket.seen c.args.bucket.now) (g.B.Bucket.seen c.clear_over.new.bucket))) c.in-Ok-unpacked.ensures (λ b.
-        subst (λ w. IfErr c.clear_over.result (RefusesPlan (g.B.Bucket.number c.args.bucket.now) c.args.symbol.now (answer_to w c.args.options.now.prune c.args.options.now.at) b.before (g.B.Bucket.faults c.args.bucket.now) (g.B.Bucket.faults c.clear_over.new.bucket) (g.B.Bucket.seen c.args.bucket.now) (g.B.Bucket.seen c.clear_over.new.bucket)))
-        (sym c.in-Clear.is) (clear_refusals b.before c.args.symbol.now c.args.options.now b.version b.newest.is c.in-Clear.range (g.B.Bucket.number c.args.bucket.now) (g.B.Bucket.faults c.args.bucket.now) (g.B.Bucket.faults c.clear_over.new.bucket) (g.B.Bucket.seen c.args.bucket.now) (g.B.Bucket.seen c.clear_over.new.bucket) c.clear_over.result (c.clear_over.ensures.refused b)))
+    → IfErr c.clear_over.result (RefusesPlan (g.B.Bucket.number c.args.bucket.now) c.args.symbol.now (answer_to c.args.wish.now c.args.options.now.prune c.args.options.now.at) b.before (g.B.Bucket.faults c.args.bucket.now) (g.B.Bucket.faults c.clear_over.new.bucket) (g.B.Bucket.seen c.args.bucket.now) (g.B.Bucket.seen c.clear_over.new.bucket))) c.in-Ok-unpacked.ensures (λ b.
+    subst (λ w. IfErr c.clear_over.result (RefusesPlan (g.B.Bucket.number c.args.bucket.now) c.args.symbol.now (answer_to w c.args.options.now.prune c.args.options.now.at) b.before (g.B.Bucket.faults c.args.bucket.now) (g.B.Bucket.faults c.clear_over.new.bucket) (g.B.Bucket.seen c.args.bucket.now) (g.B.Bucket.seen c.clear_over.new.bucket)))
+    (sym c.in-Clear.is) (clear_refusals b.before c.args.symbol.now c.args.options.now b.version b.newest.is c.in-Clear.range (g.B.Bucket.number c.args.bucket.now) (g.B.Bucket.faults c.args.bucket.now) (g.B.Bucket.faults c.clear_over.new.bucket) (g.B.Bucket.seen c.args.bucket.now) (g.B.Bucket.seen c.clear_over.new.bucket) c.clear_over.result (c.clear_over.ensures.refused b)))
