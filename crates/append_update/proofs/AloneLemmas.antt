@@ -1,7 +1,6 @@
 -- Where nobody else makes events, a commit stands right behind its puts, and lays out the version that the library answers.
-use Rattle.std.proofs.Common.{◌≡◌, ℕ, suc, ◌+◌, ◌≤◌, Bool, true, false, List, [], ◌∷◌, ◌++◌, length, map, refl, sym, ap, ◌∙◌, subst, arith, cond, Option, Some, None, Result, Ok, Err, length-append}
-use Rattle.std.specs.Prelude.{◌*◌, reverse, find, nat_eq, IfOk}
-use Rattle.std.specs.Option.{option_map_or}
+use Rattle.std.proofs.Common.{◌≡◌, ℕ, suc, ◌+◌, ◌≤◌, Bool, true, false, List, [], ◌∷◌, ◌++◌, length, map, refl, sym, ap, ◌∙◌, subst, arith, Result, Ok, Err, length-append}
+use Rattle.std.specs.Prelude.{◌*◌, reverse, IfOk}
 use Rattle.std.specs.List.{list_any, flat_map, AllByRecursion, AllZip}
 use Rattle.std.proofs.lemmas.List.{length-map, length-reverse}
 use mathlib.Core.Logic.{∥∥₁_map}
@@ -18,8 +17,8 @@ use Rattle.bucket_core.specs.declared.event.Event.TheVariants as events
 use Rattle.bucket_core.specs.History.{History, author}
 use Rattle.bucket_core.specs.Laws.{refers}
 use Rattle.store_model.specs.Law.{IsLawful}
-use Rattle.store_model.specs.Library.{State, Version, Piece, state_of, base_of, first_of}
-use Rattle.store_model.specs.Links.{Linked, links}
+use Rattle.store_model.specs.Library.{State, Piece, state_of, base_of, first_of}
+use Rattle.store_model.specs.Links.{links}
 use Rattle.store_model.proofs.Untouched.{IsAsItWas, as_it_was}
 use Rattle.version_chain.specs.Traces.{own_of, met_in}
 use Rattle.version_chain.proofs.TraceLemmas.{append_assoc, same_front}

@@ -7,7 +7,8 @@ use Rattle.index_tree.specs.declared.index.Slot.{Slot}
 use Rattle.key_kind.specs.declared.key.Key.{Key}
 use Rattle.reply_model.specs.Keyed.{with_key, begins_block, block_keys}
 use Rattle.reply_model.specs.Standing.{row_sizes}
-use Rattle.frame_write.specs.Pieces.{IsRun, moved}
+use Rattle.index_tree.specs.SlotTexts.{moved}
+use Rattle.frame_write.specs.Pieces.{IsRun}
 use Rattle.append_update.proofs.SlotSizes.{begins, row_sizes-cons}
 
 -- ---- where row blocks begin

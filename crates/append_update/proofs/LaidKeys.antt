@@ -19,7 +19,8 @@ use Rattle.reply_model.specs.Keyed.{begins_block, block_keys, IsKeyedPart}
 use Rattle.reply_model.proofs.GridCounts.{across_counted}
 use Rattle.frame_write.specs.declared.pieces.Piece.{Piece}
 use Rattle.frame_write.specs.declared.pieces.Piece.TheVariants as pieces
-use Rattle.frame_write.specs.Pieces.{begin_of, size_of, IsPiece, moved, fresh_slot, fresh_slots, laid}
+use Rattle.index_tree.specs.SlotTexts.{moved}
+use Rattle.frame_write.specs.Pieces.{begin_of, size_of, IsPiece, fresh_slot, fresh_slots, laid}
 use Rattle.append_update.specs.RowBlocks.{keys_in, kept_keys}
 use Rattle.append_update.proofs.KeyedSlots.{begins-append, begins-moved, run_begins_block, block_keys-append, moved_keys, one_block, keys_for_rows}
 use Rattle.append_update.proofs.RowSizes.{new_rows}

@@ -1,12 +1,14 @@
 -- The last stamp of the frame that an index tells.
-use Rattle.std.proofs.Common.{◌≡◌, ℕ, zero, suc, ◌+◌, ◌-◌, ◌≤◌, List, [], ◌∷◌, length, take, drop, None, refl, sym, ap, ◌∙◌, subst, arith}
+use Rattle.std.proofs.Common.{◌≡◌, ℕ, zero, suc, ◌+◌, ◌-◌, ◌≤◌, List, [], ◌∷◌, length, take, drop, Option, Some, None, refl, sym, ap, ◌∙◌, subst, arith}
 use Rattle.std.specs.Prelude.{slice_get, option_map}
 use Rattle.std.specs.List.{AllByRecursion}
 use Rattle.std.proofs.lemmas.List.{take_all, length-drop}
 use Rattle.frame_core.specs.Frames.{Row, Frame, last_stamp}
 use Rattle.index_tree.specs.declared.index.Slot.{Slot}
 use Rattle.index_tree.specs.declared.index.Index.{Index}
+use Rattle.index_tree.specs.declared.span.Span.{Span}
 use Rattle.index_tree.specs.IndexRules.{IsSlot, LeadOn, Cover}
+use Rattle.index_tree.specs.SlotTexts.{span_of}
 use Rattle.store_model.specs.Commits.{HasSlotStamps}
 use Rattle.append_update.specs.Bases.{IsIndexOf}
 
@@ -39,3 +41,12 @@ last_of_index frame index of = by index.slots of.rules.each of.stamps (subst (λ
     by (s ∷ more) each stamps cover =
         let place : length (s ∷ more) - 1 ≡ length more = omega arith in
         ap (λ n. option_map (λ (t : Slot). t.last) (slice_get (s ∷ more) n)) place ∙ last_lead frame (length index.schema.columns) s more each stamps cover.2
+
+-- the last stamp, as the last slot's span tells it
+pub span_last : (o : Option Slot) (span : Span) → Some span ≡ option_map span_of o → Some span.last ≡ option_map (λ (t : Slot). t.last) o
+span_last None span e = absurd cc
+span_last (Some s) span e = let same : span ≡ span_of s = cc in ap (λ (x : Span). Some x.last) same
+
+pub no_span : (o : Option Slot) → None ≡ option_map span_of o → None ≡ option_map (λ (t : Slot). t.last) o
+no_span None e = refl
+no_span (Some s) e = absurd cc

@@ -20,7 +20,8 @@ use Rattle.reply_model.specs.Standing.{row_sizes, base_rows, rows_of_version, ba
 use Rattle.reply_model.proofs.GridCounts.{write_counted, grid_rows}
 use Rattle.frame_write.specs.declared.pieces.Piece.{Piece}
 use Rattle.frame_write.specs.declared.pieces.Piece.TheVariants as pieces
-use Rattle.frame_write.specs.Pieces.{begin_of, size_of, IsPiece, moved, fresh_slot, fresh_slots, laid, new_tiles}
+use Rattle.index_tree.specs.SlotTexts.{moved}
+use Rattle.frame_write.specs.Pieces.{begin_of, size_of, IsPiece, fresh_slot, fresh_slots, laid, new_tiles}
 use Rattle.append_update.specs.Replacing.{appended}
 use Rattle.append_update.specs.RowBlocks.{sizes_in, new_blocks, AreParts}
 use Rattle.reply_model.specs.Blocks.{run_cutting}

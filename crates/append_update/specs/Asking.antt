@@ -8,7 +8,7 @@ use Rattle.std.specs.Prelude.{◌≡◌, ℕ, ℤ, Bool, true, false, if◌then�
 use Rattle.frame_core.specs.declared.refusal.Asked.TheVariants as asks
 use Rattle.frame_core.specs.declared.refusal.Refusal.{Refusal}
 use Rattle.frame_core.specs.declared.refusal.Refusal.TheVariants as refusals
-use Rattle.frame_core.specs.Ranges.{Range, IsRange}
+use Rattle.frame_core.specs.Ranges.{IsRange}
 use Rattle.frame_core.specs.Limits.{IsStorable}
 use Rattle.segment_cut.specs.Cuttings.{IsCutting}
 use Rattle.key_kind.specs.Names.{Name}

@@ -22,6 +22,7 @@ use crate::blocks::block_frame;
 use crate::cuts::Cuts;
 use crate::edges::edges_of;
 use crate::judging::{first_difference, judge_append};
+use crate::packed_base::PackedBase;
 use crate::planning::{plan_alone, plan_append, plan_update};
 use crate::sizes::{
     TEXT_LIMIT, has_texts, kept_text_bytes, replaced_too_large, text_bytes, too_many_texts,
@@ -116,7 +117,7 @@ fn plan_over<R: Wait, B: Bucket<StoreLaw>>(
     alloc: Global,
     bucket: &mut B,
     symbol: &Symbol,
-    base: &Base,
+    base: &PackedBase,
     wish: &Wish<'_>,
     options: &Options,
 ) -> Result<LinkPlan, Refused>
@@ -133,8 +134,14 @@ fn plan_over<R: Wait, B: Bucket<StoreLaw>>(
             frame,
             range,
             upsert: _,
-        } => replace_over(rt, alloc, bucket, symbol, base, frame, range, options),
-        Wish::Clear(range) => clear_over(rt, alloc, bucket, symbol, base, range, options),
+        } => match base.unpacked(alloc) {
+            Ok(base) => replace_over(rt, alloc, bucket, symbol, &base, frame, range, options),
+            Err(_) => Err(out_of_memory(bucket.place())),
+        },
+        Wish::Clear(range) => match base.unpacked(alloc) {
+            Ok(base) => clear_over(rt, alloc, bucket, symbol, &base, range, options),
+            Err(_) => Err(out_of_memory(bucket.place())),
+        },
     }
 }
 
@@ -144,7 +151,7 @@ fn append_over<R: Wait, B: Bucket<StoreLaw>>(
     alloc: Global,
     bucket: &mut B,
     symbol: &Symbol,
-    base: &Base,
+    base: &PackedBase,
     frame: &Frame,
     options: &Options,
 ) -> Result<LinkPlan, Refused>
@@ -155,19 +162,19 @@ fn append_over<R: Wait, B: Bucket<StoreLaw>>(
     ensures plan { (b : IsBaseAt (B.number bucket.old) (B.seen bucket.old) symbol.now base.now) → IfOk result (IsPlanOf b.before symbol.now options.now (λ st. append_answer st options.now.prune options.now.at frame.now)) }
     ensures refused { (b : IsBaseAt (B.number bucket.old) (B.seen bucket.old) symbol.now base.now) → IfErr result (RefusesPlan (B.number bucket.old) symbol.now (λ st. append_answer st options.now.prune options.now.at frame.now) b.before (B.faults bucket.old) (B.faults bucket.new) (B.seen bucket.old) (B.seen bucket.new)) }
 {
-    let place = base.target.place;
-    match judge_append(&base.index, frame) {
+    let place = base.place();
+    match judge_append(base.index(), frame) {
         Ok(()) => {}
         Err(why) => return Err(Refused { place, why }),
     }
-    let exceeds = exceeds_texts(rt, alloc, bucket, symbol, base, frame, None)?;
+    let exceeds = append_exceeds(rt, alloc, bucket, symbol, base, frame)?;
     if exceeds {
         return Err(Refused {
             place,
             why: too_many_texts(),
         });
     }
-    match plan_append(alloc, &base.index, frame, stamp_of(options)) {
+    match plan_append(alloc, base.index(), frame, stamp_of(options)) {
         Ok(plan) => Ok(plan),
         Err(_) => Err(out_of_memory(bucket.place())),
     }
@@ -250,6 +257,32 @@ fn stamp_of(options: &Options) -> i64
     ensures { result ≡ options.now.at }
 {
     options.at
+}
+
+/// Whether the texts of a frame and of the base have too many bytes. The slots of the base's index are read only where it has a
+/// column of text. It may wait for the store.
+fn append_exceeds<R: Wait, B: Bucket<StoreLaw>>(
+    rt: &R,
+    alloc: Global,
+    bucket: &mut B,
+    symbol: &Symbol,
+    base: &PackedBase,
+    frame: &Frame,
+) -> Result<bool, Refused>
+    requires base { IsBaseAt (B.number bucket.old) (B.seen bucket.old) symbol.now base.now }
+    requires storable { IsStorable frame.now }
+    ensures looks { Looks IsClaimed (B.number bucket.old) (B.sole bucket.old) (B.seen bucket.old) (B.seen bucket.new) }
+    ensures steady { IsSteady B.number B.limit B.faults B.sole bucket.old bucket.new }
+    ensures exceeds { (b : IsBaseAt (B.number bucket.old) (B.seen bucket.old) symbol.now base.now) → IfOk result (λ exceeds. IsTrue exceeds ↔ (67108864 < text_total (kept_rows None b.version.frame.rows) + text_total frame.now.rows)) }
+    ensures refused { IfErr result (RefusesBase (B.number bucket.old) symbol.now base.now.target.place (B.faults bucket.old) (B.faults bucket.new) (B.seen bucket.old) (B.seen bucket.new)) }
+{
+    if !has_texts(base.index().schema().columns()) {
+        return Ok(false);
+    }
+    match base.unpacked(alloc) {
+        Ok(base) => exceeds_texts(rt, alloc, bucket, symbol, &base, frame, None),
+        Err(_) => Err(out_of_memory(bucket.place())),
+    }
 }
 
 /// Whether the texts of a frame, and of those rows of the base that lie outside a range, or of all, have too many bytes.

@@ -13,10 +13,11 @@ ghost use Rattle.version_chain.specs.Marking.{own_refers};
 ghost use Rattle.append_update.specs.Newest.{IsBase};
 ghost use Rattle.append_update.specs.Looking.{RefusesMet, RefusesBase};
 
+use crate::packed_base::PackedBase;
 use base_types::{Keep, NoMemory};
 use bucket_core::{Bucket, StoreErr};
 use frame_core::{Refusal, Refused};
-use frame_read::{Target, index_of};
+use frame_read::{Target, packed_index_of};
 use index_tree::Index;
 use key_kind::{Key, Symbol};
 use std::alloc::Global;
@@ -43,7 +44,7 @@ pub(crate) fn base_of<R: Wait, B: Bucket<StoreLaw>>(
     bucket: &mut B,
     symbol: &Symbol,
     tip: &ChainTip,
-) -> Result<Option<Base>, Refused>
+) -> Result<Option<PackedBase>, Refused>
     requires walked { (prune : Bool) × (at : IsTipAt (B.seen bucket.old) symbol.now prune tip.now) × (list_any (own_refers (B.number bucket.old) symbol.now) at.later ≡ false) }
     ensures looks { Looks IsClaimed (B.number bucket.old) (B.sole bucket.old) (B.seen bucket.old) (B.seen bucket.new) }
     ensures steady { IsSteady B.number B.limit B.faults B.sole bucket.old bucket.new }
@@ -60,8 +61,8 @@ pub(crate) fn base_of<R: Wait, B: Bucket<StoreLaw>>(
     let Ok(target) = target_of(alloc, symbol, row, tip.place) else {
         return Err(out_of_memory(bucket.place()));
     };
-    match index_of(rt, alloc, bucket, &target) {
-        Ok(index) => Ok(Some(Base { target, index })),
+    match packed_index_of(rt, alloc, bucket, &target) {
+        Ok(index) => Ok(Some(PackedBase { target, index })),
         Err(refused) => match refused.why {
             Refusal::VersionGone { .. } => Err(met_commit(rt, alloc, bucket, symbol)),
             _ => Err(refused),

@@ -12,22 +12,22 @@ ghost use Rattle.append_update.specs.Bases.{IsIndexOf};
 ghost use Rattle.append_update.specs.Sizes.{FitsBehind};
 
 use frame_core::{ColName, ColType, Extent, Frame, Refusal, Schema};
-use index_tree::Index;
+use index_tree::PackedIndex;
 
 /// Whether a frame may be appended to the base of this index, but for the bytes of all texts.
-pub(crate) fn judge_append(index: &Index, frame: &Frame) -> Result<(), Refusal>
+pub(crate) fn judge_append(index: &PackedIndex, frame: &Frame) -> Result<(), Refusal>
     requires storable { IsStorable frame.now }
     requires rows { index.now.rows ≤ 2000000 }
     ensures judged { IfOk result (λ done. (base : Table) → IsIndexOf base index.now → FitsBehind base frame.now) }
     ensures refused { IfErr result (λ why. (v : Version) (st : State) (prune : Bool) (at : ℤ) → IsIndexOf v.frame index.now → base_of st ≡ Some v → append_answer st prune at frame.now ≡ Err why) }
 {
-    if let Some(column) = first_difference(&index.schema, frame.schema()) {
+    if let Some(column) = first_difference(index.schema(), frame.schema()) {
         return Err(Refusal::SchemaDiffers { column });
     }
     if let Some(ends) = begins_before(last_stamp_of(index), frame.first_stamp()) {
         return Err(early(ends));
     }
-    let rows = index.rows + frame.rows();
+    let rows = index.rows() + frame.rows();
     let columns = frame.schema().len() as u64;
     if let Some((what, limit)) = exceeded(rows, columns, 0) {
         return Err(Refusal::TooLarge { what, limit });
@@ -88,11 +88,11 @@ fn early(ends: (i64, i64)) -> Refusal
 }
 
 /// The stamp of the last row of the frame that an index tells.
-pub(crate) fn last_stamp_of(index: &Index) -> Option<i64>
+pub(crate) fn last_stamp_of(index: &PackedIndex) -> Option<i64>
     ensures { result ≡ option_map (λ (s : Place). s.last) (slice_get index.now.slots (length index.now.slots - 1)) }
 {
-    match index.slots.items().last() {
-        Some(slot) => Some(slot.last),
+    match index.slots().last() {
+        Some(span) => Some(span.last),
         None => None,
     }
 }

@@ -9,6 +9,7 @@ mod blocks;
 mod cuts;
 mod edges;
 mod judging;
+mod packed_base;
 mod pieces;
 mod planning;
 mod sizes;

@@ -1,13 +1,15 @@
 //! The pieces of a new version on a base.
 
 ghost use Rattle.std.specs.Prelude.{◌≡◌, ◌≤◌, ◌++◌, length, IfOk, OnOk};
+ghost use Rattle.std.specs.List.{AllByRecursion};
+ghost use Rattle.index_tree.specs.IndexRules.{FitsSlot};
 ghost use Rattle.append_update.specs.Replacing.{fresh, appended, replaced};
 
 use crate::cuts::Cuts;
 use base_types::{Items, Keep, NoMemory};
 use frame_core::Frame;
 use frame_write::Piece;
-use index_tree::Slot;
+use index_tree::{Slot, SlotText};
 use std::alloc::Global;
 
 /// What is left of the row blocks that a range cuts.
@@ -22,13 +24,13 @@ pub(crate) struct Edges {
 /// All rows of the base, by its slots, and behind them a frame's.
 pub(crate) fn pieces_appended(
     alloc: Global,
-    slots: &[Slot],
+    slots: &SlotText,
     frame: Frame,
 ) -> Result<Items<Piece>, NoMemory>
     ensures { IfOk result (λ pieces. pieces ≡ appended slots.now frame) }
 {
     let mut pieces = Items::new(alloc);
-    pieces.push(Piece::Shared(run(alloc, slots)?))?;
+    pieces.push(Piece::Shared(slots.copy(alloc)?))?;
     pieces.push(Piece::Fresh(frame))?;
     Ok(pieces)
 }
@@ -41,17 +43,18 @@ pub(crate) fn pieces_replaced(
     edges: Edges,
     frame: Frame,
 ) -> Result<Items<Piece>, NoMemory>
+    requires fits { AllByRecursion FitsSlot slots.now }
     requires below { cuts.below ≤ length slots.now }
     requires reached { cuts.reached ≤ length slots.now }
     ensures { IfOk result (λ pieces. pieces ≡ replaced slots.now cuts edges frame) }
 {
     let Edges { below, above } = edges;
     let mut pieces = Items::new(alloc);
-    pieces.push(Piece::Shared(run(alloc, &slots[..cuts.below])?))?;
+    pieces.push(Piece::Shared(SlotText::of(alloc, &slots[..cuts.below])?))?;
     push_fresh(&mut pieces, below)?;
     pieces.push(Piece::Fresh(frame))?;
     push_fresh(&mut pieces, above)?;
-    pieces.push(Piece::Shared(run(alloc, &slots[cuts.reached..])?))?;
+    pieces.push(Piece::Shared(SlotText::of(alloc, &slots[cuts.reached..])?))?;
     Ok(pieces)
 }
 
@@ -63,15 +66,4 @@ fn push_fresh(pieces: &mut Items<Piece>, frame: Option<Frame>) -> Result<(), NoM
         Some(frame) => pieces.push(Piece::Fresh(frame)),
         None => Ok(()),
     }
-}
-
-/// Copies of slots.
-fn run(alloc: Global, slots: &[Slot]) -> Result<Items<Slot>, NoMemory>
-    ensures { IfOk result (λ run. run ≡ slots.now) }
-{
-    let mut run = Items::with_capacity(alloc, slots.len())?;
-    for slot in slots {
-        run.push(slot.copy(alloc)?)?;
-    }
-    Ok(run)
 }

@@ -2,6 +2,7 @@
 
 ghost use Rattle.std.specs.Prelude.{◌≡◌, ◌≤◌, [], ◌∷◌, length, IfOk};
 ghost use Rattle.bucket_core.specs.declared.event.Change.TheVariants.{Appended, Updated};
+ghost use Rattle.index_tree.specs.IndexRules.{IsIndex};
 ghost use Rattle.frame_write.specs.declared.pieces.Piece.TheVariants.{Fresh};
 ghost use Rattle.append_update.specs.Replacing.{appended, replaced};
 
@@ -11,7 +12,7 @@ use base_types::{Items, Keep, NoMemory};
 use bucket_core::Change;
 use frame_core::{Frame, Range};
 use frame_write::{LinkPlan, Piece};
-use index_tree::Index;
+use index_tree::{Index, PackedIndex};
 use std::alloc::Global;
 
 /// The frame as a version of its own, with this change.
@@ -30,7 +31,7 @@ pub(crate) fn plan_alone(alloc: Global, frame: &Frame, change: Change) -> Result
 /// The frame's rows behind those of the base with this index.
 pub(crate) fn plan_append(
     alloc: Global,
-    index: &Index,
+    index: &PackedIndex,
     frame: &Frame,
     at: i64,
 ) -> Result<LinkPlan, NoMemory>
@@ -38,7 +39,7 @@ pub(crate) fn plan_append(
 {
     Ok(LinkPlan {
         schema: frame.schema().copy(alloc)?,
-        pieces: pieces_appended(alloc, index.slots.items(), frame.copy(alloc)?)?,
+        pieces: pieces_appended(alloc, index.slots(), frame.copy(alloc)?)?,
         change: Change::Appended {
             frame: frame.copy(alloc)?,
             at,
@@ -56,6 +57,7 @@ pub(crate) fn plan_update(
     range: Range,
     at: i64,
 ) -> Result<LinkPlan, NoMemory>
+    requires rules { IsIndex index.now }
     requires below { cuts.below ≤ length index.now.slots }
     requires reached { cuts.reached ≤ length index.now.slots }
     ensures { IfOk result (λ plan. plan ≡ record { schema = frame.now.schema; pieces = replaced index.now.slots cuts edges frame.now; change = Updated frame.now range at }) }

@@ -1,5 +1,5 @@
 use frame_core::{ColType, Range};
-use index_tree::{Index, IndexFault, Keep, build, covering, read};
+use index_tree::{Index, IndexFault, Keep, build, build_packed, covering, open, read};
 use key_kind::KeyKind;
 use std::alloc::Global;
 use std::test::Fail;
@@ -30,6 +30,18 @@ fn fault_of(alloc: Global, bytes: &[u8]) -> Option<u64> {
 fn rebuilt(alloc: Global, bytes: &[u8]) -> Result<Vec<u8>, Fail> {
     let index: Index = read(alloc, bytes)?.copy(alloc)?;
     Ok(build(alloc, &index)?)
+}
+
+// The bytes of the index that was opened, of which no slot was read.
+fn reopened(alloc: Global, bytes: &[u8]) -> Result<Vec<u8>, Fail> {
+    let _read = read(alloc, bytes)?;
+    let index = open(alloc, bytes)?;
+    Ok(build_packed(
+        alloc,
+        index.schema(),
+        index.rows(),
+        index.slots(),
+    )?)
 }
 
 // The places of the tiles of `THREE_TILES` that these ends and columns ask for.
@@ -84,10 +96,35 @@ fn an_index_of_one_tile_has_these_84_bytes(rt: HostRuntime) -> Result<(), Fail> 
 fn an_index_that_was_read_and_copied_has_its_bytes_again(rt: HostRuntime) -> Result<(), Fail> {
     for bytes in [ONE_TILE, THREE_TILES] {
         assert_eq!(rt; rebuilt(rt.alloc(), bytes)?.as_slice(), bytes);
+        assert_eq!(rt; reopened(rt.alloc(), bytes)?.as_slice(), bytes);
     }
     // No columns and no rows.
     let empty = b"AIX1\0\0\0\0\0\0\0\0\0\0".as_slice();
     assert_eq!(rt; rebuilt(rt.alloc(), empty)?.as_slice(), empty);
+    assert_eq!(rt; reopened(rt.alloc(), empty)?.as_slice(), empty);
+    Ok(())
+}
+
+#[test]
+fn slots_that_are_spelled_tell_their_ends_and_go_behind_others(rt: HostRuntime) -> Result<(), Fail> {
+    let alloc = rt.alloc();
+    let _read = read(alloc, THREE_TILES)?;
+    let index = open(alloc, THREE_TILES)?;
+    let mut slots = index.slots().copy(alloc)?;
+    slots.extend(index.slots())?;
+    assert!(rt; slots.len() == 6);
+    assert!(rt; slots.first().is_some() && slots.last().is_some());
+    if let Some(first) = slots.first() {
+        assert!(rt; first.part.first_row == 0 && first.part.rows == 2 && first.part.cols == 1);
+        assert!(rt; first.first == 1 && first.last == 2);
+    }
+    if let Some(last) = slots.last() {
+        assert!(rt; last.part.first_row == 2 && last.part.rows == 3 && last.part.cols == 2);
+        assert!(rt; last.first == 2 && last.last == 9);
+    }
+    let items = slots.to_slots(alloc)?;
+    assert!(rt; items.len() == 6);
+    assert!(rt; items.at(4).key.serial == 1 && items.at(4).part.first_col == 1);
     Ok(())
 }
 

@@ -1,7 +1,8 @@
-use Rattle.std.proofs.Common.{rules, ◌≡◌, w64, to_z, of_z, ◌+◌, ◌≤◌, sym, ap, ◌∙◌, inl, inr, Err}
+use Rattle.std.proofs.Common.{rules, ◌≡◌, w64, to_z, of_z, ◌+◌, ◌≤◌, sym, ap, ◌∙◌, subst, inl, inr, Err}
 use Rattle.std.proofs.lemmas.Bool.{true≢false, cases_lt}
 use Rattle.bucket_core.specs.declared.event.Change.TheVariants as changes
 use Rattle.store_model.specs.Library.{state_of}
+use Rattle.append_update.specs.Bases.{IsIndexOf}
 use Rattle.append_update.specs.Replacing.{appended}
 use Rattle.append_update.specs.Sizes.{text_total}
 use Rattle.append_update.proofs.AppendLemmas.{append_large}
@@ -11,9 +12,9 @@ use Rattle.append_update.proofs.asking.append_over.Goals as goal
 pub returns-then-exceeds-clause-refused : goal.returns-then-exceeds-clause-refused
 returns-then-exceeds-clause-refused g c = λ b.
     let v = b.version in
-    let fits = c.in-Ok.ensures.judged v.frame b.newest.index_of in
+    let fits = c.in-Ok.ensures.judged v.frame (subst (IsIndexOf v.frame) (sym c.index.ensures) b.newest.index_of) in
     inr (record {
-      place = b.place;
+      place = c.place-place.ensures ∙ b.place;
       answered = append_large (state_of b.before c.args.symbol.now) c.args.options.now.prune c.args.options.now.at c.args.frame.now v _ b.newest.is fits.same fits.order (behind_texts v.frame c.args.frame.now b.newest.index_of.storable c.requires.storable fits ((c.in_ok-exceeds.ensures.exceeds b).0 c.if-exceeds.true))
           ∙ ap Err (sym c.too_many_texts.ensures);
     })
@@ -21,11 +22,11 @@ returns-then-exceeds-clause-refused g c = λ b.
 pub returns-in-Ok-plan_append-clause-plan : goal.returns-in-Ok-plan_append-clause-plan
 returns-in-Ok-plan_append-clause-plan g c = λ b.
     let v = b.version in
-    let fits = c.in-Ok.ensures.judged v.frame b.newest.index_of in
+    let fits = c.in-Ok.ensures.judged v.frame (subst (IsIndexOf v.frame) (sym c.index.ensures) b.newest.index_of) in
     let few : text_total v.frame.rows + text_total c.args.frame.now.rows ≤ 67108864 = elim (cases_lt 67108864 (text_total v.frame.rows + text_total c.args.frame.now.rows)) [
       | inl many ↦ absurd (true≢false (sym ((c.in_ok-exceeds.ensures.exceeds b).1 many) ∙ c.if-exceeds.false))
       | inr few ↦ few
     ] in
     let at : to_z w64 (of_z w64 c.stamp_of.result) ≡ c.args.options.now.at = search rules in
     append_over_is b.before c.args.symbol.now c.args.options.now v c.args.base.now c.args.frame.now _ b.newest c.requires.storable (behind_fits v.frame c.args.frame.now b.newest.index_of.storable c.requires.storable fits few)
-    (c.in-Ok-plan_append.ensures ∙ ap (λ at. record { schema = c.args.frame.now.schema; pieces = appended c.args.base.now.index.slots c.args.frame.now; change = changes.Appended c.args.frame.now at }) at)
+    (c.in-Ok-plan_append.ensures ∙ (λ i. record { schema = c.args.frame.now.schema; pieces = appended (c.index-2.ensures i).slots c.args.frame.now; change = changes.Appended c.args.frame.now (at i) }))

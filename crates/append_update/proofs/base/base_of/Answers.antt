@@ -14,28 +14,28 @@ pub returns-in_default-clause-base : goal.returns-in_default-clause-base
 returns-in_default-clause-base g c =
     none_found (g.B.Bucket.seen c.args.bucket.now) c.args.symbol.now c.requires.walked.0 c.args.tip.now c.requires.walked.1 (g.met.B.Bucket.lawful c.args.bucket.now) c.in_default.is
 
-pub index_of-requires : goal.index_of-requires
-index_of-requires g c = record {
+pub packed_index_of-requires : goal.packed_index_of-requires
+packed_index_of-requires g c = record {
   linked = subst (λ (t : Target). has_index (links (g.B.Bucket.seen c.args.bucket.now) t.symbol) t.version t.index ≡ true) (sym c.in-Ok.ensures)
       (is_linked (g.B.Bucket.seen c.args.bucket.now) c.args.symbol.now c.requires.walked.0 c.args.tip.now c.requires.walked.1 (g.met.B.Bucket.lawful c.args.bucket.now) c.in-Some.row c.in-Some.is);
 }
 
-pub returns-in-Ok-index_of-clause-base : goal.returns-in-Ok-index_of-clause-base
-returns-in-Ok-index_of-clause-base g c =
+pub returns-in-Ok-packed_index_of-clause-base : goal.returns-in-Ok-packed_index_of-clause-base
+returns-in-Ok-packed_index_of-clause-base g c =
     one_found (g.B.Bucket.seen c.args.bucket.now) c.args.symbol.now c.requires.walked.0 c.args.tip.now c.requires.walked.1 (g.met.B.Bucket.lawful c.args.bucket.now) c.in-Some.row c.in-Some.is
-    c.index_of.ensures.looks.others (g.B.Bucket.seen c.index_of.new.bucket) c.in-Ok.target c.in-Ok-index_of.index c.index_of.ensures.looks.is (g.met.B.Bucket.lawful c.index_of.new.bucket)
-    (ap (λ (t : Target). t.symbol) c.in-Ok.ensures) (ap (λ (t : Target). t.index) c.in-Ok.ensures) c.in-Ok-index_of.ensures.rules c.in-Ok-index_of.ensures.index
+    c.packed_index_of.ensures.looks.others (g.B.Bucket.seen c.packed_index_of.new.bucket) c.in-Ok.target c.in-Ok-packed_index_of.index c.packed_index_of.ensures.looks.is (g.met.B.Bucket.lawful c.packed_index_of.new.bucket)
+    (ap (λ (t : Target). t.symbol) c.in-Ok.ensures) (ap (λ (t : Target). t.index) c.in-Ok.ensures) c.in-Ok-packed_index_of.ensures.rules c.in-Ok-packed_index_of.ensures.index
 
 pub returns-in-VersionGone-clause-looks : goal.returns-in-VersionGone-clause-looks
 returns-in-VersionGone-clause-looks g c =
-    looks_more IsClaimed (g.B.Bucket.number c.args.bucket.now) (g.B.Bucket.sole c.args.bucket.now) (g.B.Bucket.number c.index_of.new.bucket) (g.B.Bucket.sole c.index_of.new.bucket)
-    (g.B.Bucket.seen c.args.bucket.now) (g.B.Bucket.seen c.index_of.new.bucket) (g.B.Bucket.seen c.met_commit.new.bucket)
-    c.index_of.ensures.steady.same_number c.index_of.ensures.steady.stays_sole c.index_of.ensures.looks c.met_commit.ensures.looks
+    looks_more IsClaimed (g.B.Bucket.number c.args.bucket.now) (g.B.Bucket.sole c.args.bucket.now) (g.B.Bucket.number c.packed_index_of.new.bucket) (g.B.Bucket.sole c.packed_index_of.new.bucket)
+    (g.B.Bucket.seen c.args.bucket.now) (g.B.Bucket.seen c.packed_index_of.new.bucket) (g.B.Bucket.seen c.met_commit.new.bucket)
+    c.packed_index_of.ensures.steady.same_number c.packed_index_of.ensures.steady.stays_sole c.packed_index_of.ensures.looks c.met_commit.ensures.looks
 
 pub returns-in-VersionGone-clause-refused : goal.returns-in-VersionGone-clause-refused
 returns-in-VersionGone-clause-refused g c = elim c.met_commit.ensures.refused [
-  | inl w ↦ inl (walk_wider (g.B.Bucket.faults c.args.bucket.now) (g.B.Bucket.faults c.index_of.new.bucket) (g.B.Bucket.faults c.met_commit.new.bucket) c.index_of.ensures.looks.others
-      (g.B.Bucket.seen c.args.bucket.now) (g.B.Bucket.seen c.index_of.new.bucket) (g.B.Bucket.seen c.met_commit.new.bucket) c.met_commit.result c.index_of.ensures.steady.faults_rise c.index_of.ensures.looks.is w)
+  | inl w ↦ inl (walk_wider (g.B.Bucket.faults c.args.bucket.now) (g.B.Bucket.faults c.packed_index_of.new.bucket) (g.B.Bucket.faults c.met_commit.new.bucket) c.packed_index_of.ensures.looks.others
+      (g.B.Bucket.seen c.args.bucket.now) (g.B.Bucket.seen c.packed_index_of.new.bucket) (g.B.Bucket.seen c.met_commit.new.bucket) c.met_commit.result c.packed_index_of.ensures.steady.faults_rise c.packed_index_of.ensures.looks.is w)
   | inr m ↦
       let at = c.requires.walked.1 in
       let row = c.in-Some.row in
@@ -43,14 +43,14 @@ returns-in-VersionGone-clause-refused g c = elim c.met_commit.ensures.refused [
       (subst (λ h. is_buried (state_of h c.args.symbol.now) row.version ≡ false) (walked_here (g.B.Bucket.seen c.args.bucket.now) c.args.symbol.now c.requires.walked.0 c.args.tip.now at)
       (lives (g.B.Bucket.seen c.args.bucket.now) c.args.symbol.now c.requires.walked.0 c.args.tip.now at (g.met.B.Bucket.lawful c.args.bucket.now) row c.in-Some.is)) in
       inr (subst (λ n. MetAt (g.B.Bucket.number c.args.bucket.now) c.args.symbol.now n (g.B.Bucket.seen c.met_commit.new.bucket) c.met_commit.result) (sym at.place)
-      (base_gone (g.B.Bucket.number c.args.bucket.now) (g.B.Bucket.faults c.args.bucket.now) (g.B.Bucket.faults c.index_of.new.bucket) c.args.symbol.now at.later at.before
-      (g.B.Bucket.seen c.args.bucket.now) (g.B.Bucket.seen c.index_of.new.bucket) (g.B.Bucket.seen c.met_commit.new.bucket) c.index_of.ensures.looks.others c.met_commit.ensures.looks.others
-      at.split c.requires.walked.2 (g.met.B.Bucket.lawful c.met_commit.new.bucket) c.index_of.ensures.looks.is c.met_commit.ensures.looks.is
-      c.index_of.ensures.looks.by_others (subst (λ n. AllByOthers n c.met_commit.ensures.looks.others) c.index_of.ensures.steady.same_number c.met_commit.ensures.looks.by_others)
+      (base_gone (g.B.Bucket.number c.args.bucket.now) (g.B.Bucket.faults c.args.bucket.now) (g.B.Bucket.faults c.packed_index_of.new.bucket) c.args.symbol.now at.later at.before
+      (g.B.Bucket.seen c.args.bucket.now) (g.B.Bucket.seen c.packed_index_of.new.bucket) (g.B.Bucket.seen c.met_commit.new.bucket) c.packed_index_of.ensures.looks.others c.met_commit.ensures.looks.others
+      at.split c.requires.walked.2 (g.met.B.Bucket.lawful c.met_commit.new.bucket) c.packed_index_of.ensures.looks.is c.met_commit.ensures.looks.is
+      c.packed_index_of.ensures.looks.by_others (subst (λ n. AllByOthers n c.met_commit.ensures.looks.others) c.packed_index_of.ensures.steady.same_number c.met_commit.ensures.looks.by_others)
       c.in-Ok.target (ap (λ (t : Target). t.symbol) c.in-Ok.ensures) live c.in-Err.refused c.met_commit.result _ c.in-VersionGone.is c.in-Err.ensures.refused m))
 ]
 
-pub returns-in-Ok-index_of-clause-live : goal.returns-in-Ok-index_of-clause-live
-returns-in-Ok-index_of-clause-live g c =
+pub returns-in-Ok-packed_index_of-clause-live : goal.returns-in-Ok-packed_index_of-clause-live
+returns-in-Ok-packed_index_of-clause-live g c =
     subst (λ n. is_buried (state_of (history_at (g.B.Bucket.seen c.args.bucket.now) c.args.tip.now.place) c.args.symbol.now) n ≡ false) (sym (ap (λ (t : Target). t.version) c.in-Ok.ensures))
     (lives (g.B.Bucket.seen c.args.bucket.now) c.args.symbol.now c.requires.walked.0 c.args.tip.now c.requires.walked.1 (g.met.B.Bucket.lawful c.args.bucket.now) c.in-Some.row c.in-Some.is)
