@@ -169,10 +169,12 @@ target_spelled old more new target body lawful is there put =
     let found = one_passes (λ (l : Linked). nat_eq target.version l.row.version && same_key target.index l.row.index) (links old target.symbol) there in
     let parts = and_parts (nat_eq target.version found.0.row.version) (same_key target.index found.0.row.index) found.2 in
     let key : found.0.row.index ≡ target.index = sym (same_key_is target.index found.0.row.index parts.1) in
-    let link_is : Contains (links new target.symbol) found.0 = subst (λ g. Contains (links g target.symbol) found.0) (sym is) (links_later more old target.symbol found.0 found.1) in
-    (found.0.index, ∥∥₁_elim lawful (reading_prop (index_of body) (Ok found.0.index)) (λ l.
-        read_back (index_of body) found.0.index (sym (ap (index_put new) key ∙ ap (λ o. option_and_then (λ body. read_of (index_of body)) o) put)
-        ∙ linked_index new found.0.row found.0 ((lawful_as_put new l).links target.symbol found.0 link_is))))
+    let link_is : Contains (links new target.symbol) found.0 = subst (λ g. Contains (links g target.symbol) found.0) (sym is) (links_later more old target.symbol found.0 found.1) in (
+      found.0.index,
+      ∥∥₁_elim lawful (reading_prop (index_of body) (Ok found.0.index)) (λ l.
+          read_back (index_of body) found.0.index (sym (ap (index_put new) key ∙ ap (λ o. option_and_then (λ body. read_of (index_of body)) o) put)
+          ∙ linked_index new found.0.row found.0 ((lawful_as_put new l).links target.symbol found.0 link_is))),
+    )
   where
     reading_prop : (a b : Result Index ℕ) → IsProp (a ≡ b)
     reading_prop a b = hlevel props
