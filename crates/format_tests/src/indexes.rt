@@ -36,12 +36,7 @@ fn rebuilt(alloc: Global, bytes: &[u8]) -> Result<Vec<u8>, Fail> {
 fn reopened(alloc: Global, bytes: &[u8]) -> Result<Vec<u8>, Fail> {
     let _read = read(alloc, bytes)?;
     let index = open(alloc, bytes)?;
-    Ok(build_packed(
-        alloc,
-        index.schema(),
-        index.rows(),
-        index.slots(),
-    )?)
+    Ok(build_packed(alloc, index.schema(), index.rows(), index.slots())?)
 }
 
 // The places of the tiles of `THREE_TILES` that these ends and columns ask for.
@@ -106,7 +101,9 @@ fn an_index_that_was_read_and_copied_has_its_bytes_again(rt: HostRuntime) -> Res
 }
 
 #[test]
-fn slots_that_are_spelled_tell_their_ends_and_go_behind_others(rt: HostRuntime) -> Result<(), Fail> {
+fn slots_that_are_spelled_tell_their_ends_and_go_behind_others(
+    rt: HostRuntime,
+) -> Result<(), Fail> {
     let alloc = rt.alloc();
     let _read = read(alloc, THREE_TILES)?;
     let index = open(alloc, THREE_TILES)?;
