@@ -1,4 +1,4 @@
-use Rattle.std.proofs.Common.{◌≡◌, sym, ap, ◌∙◌, subst, inl, inr, true, false}
+use Rattle.std.proofs.Common.{◌≡◌, sym, ap, subst, inl, inr, true, false}
 use Rattle.bucket_core.specs.History.{AllByOthers, history_at}
 use Rattle.store_model.specs.Library.{state_of, is_buried}
 use Rattle.store_model.specs.Law.{IsClaimed}

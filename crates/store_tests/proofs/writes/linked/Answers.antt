@@ -28,12 +28,12 @@ whole_fits h symbol at frame plan storable schema_is pieces_are change_is = reco
 
 pub link_on-requires : goal.link_on-requires
 link_on-requires g c =
-    let walked = c.in_ok-state.ensures.state in
+    let walked = c.in_ok-tip.ensures.tip in
     record {
       linkable = record {
         walked = walked;
-        none_own = later_not_own (g.B.Bucket.number c.walk.new.bucket) c.in_ok-symbol.symbol (g.B.Bucket.seen c.args.bucket.now) (g.B.Bucket.seen c.walk.new.bucket) walked.later walked.before (sym walked.split) c.walk.ensures.looks.others c.walk.ensures.looks.is
-            (subst (λ n. AllByOthers n c.walk.ensures.looks.others) (sym c.walk.ensures.steady.same_number) c.walk.ensures.looks.by_others) (subst (λ n. length (g.B.Bucket.seen c.args.bucket.now) ≤ n) walked.place c.in_ok-state.ensures.place.from);
+        none_own = later_not_own (g.B.Bucket.number c.walk_tip.new.bucket) c.in_ok-symbol.symbol (g.B.Bucket.seen c.args.bucket.now) (g.B.Bucket.seen c.walk_tip.new.bucket) walked.later walked.before (sym walked.split) c.walk_tip.ensures.looks.others c.walk_tip.ensures.looks.is
+            (subst (λ n. AllByOthers n c.walk_tip.ensures.looks.others) (sym c.walk_tip.ensures.steady.same_number) c.walk_tip.ensures.looks.by_others) (subst (λ n. length (g.B.Bucket.seen c.args.bucket.now) ≤ n) walked.place c.in_ok-tip.ensures.place.from);
         fits = whole_fits walked.before c.in_ok-symbol.symbol c.args.options.now.at c.in_ok-frame.frame c.in_ok-plan.plan c.in_ok-frame.ensures c.in_ok-plan.ensures.schema c.in_ok-plan.ensures.pieces c.in_ok-plan.ensures.change;
       };
     }
