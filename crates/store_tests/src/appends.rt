@@ -1,7 +1,8 @@
 use crate::stores::{five_rows, rows, store, symbol, write};
 use append_update::{Committed, Options, append};
-use bucket_core::{Bucket, PlainBucket};
+use bucket_core::{Bucket, Counting, PlainBucket};
 use frame_core::{Refusal, Refused};
+use key_kind::KeyKind;
 use segment_cut::Cutting;
 use std::alloc::Global;
 use std::sync::Wait;
@@ -95,5 +96,20 @@ fn an_append_writes_where_there_is_no_version(rt: HostRuntime) -> Result<(), Fai
             })
         )
     );
+    Ok(())
+}
+
+#[test]
+fn an_append_gets_the_newest_element_and_its_index_and_no_tile(
+    rt: HostRuntime,
+) -> Result<(), Fail> {
+    let alloc = rt.alloc();
+    let mut bucket = Counting::make(with_rows(&rt, alloc)?);
+    let columns = ["price", "size"].as_slice();
+    let _ = appended(&rt, alloc, &mut bucket, columns, 9)?;
+    let _ = appended(&rt, alloc, &mut bucket, columns, 10)?;
+    assert!(rt; bucket.gets(KeyKind::Version) == 2);
+    assert!(rt; bucket.gets(KeyKind::TableIndex) == 2);
+    assert!(rt; bucket.gets(KeyKind::TableData) == 0);
     Ok(())
 }
