@@ -23,6 +23,7 @@ use std::marker::Model;
 /// Where bytes are no segment: the place of the first field that is not whole or breaks its rule.
 #[derive(Clone, Copy, Debug, PartialEq, Eq)]
 pub struct SegFault {
+    /// The place of the first field that is not whole or breaks its rule.
     pub at: u64,
 }
 
