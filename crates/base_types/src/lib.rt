@@ -1,6 +1,7 @@
-//! What every crate shares: a list, a text, and want of memory.
+//! What every crate shares: a list, a text, the bytes of an object, and want of memory.
 #![tactic(auto)]
 
+mod body;
 mod items;
 mod keep;
 mod memory;
@@ -8,6 +9,7 @@ mod memory;
 mod tests;
 mod text;
 
+pub use body::Body;
 pub use items::Items;
 pub use keep::Keep;
 pub use memory::NoMemory;

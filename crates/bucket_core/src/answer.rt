@@ -1,5 +1,4 @@
-use crate::body::Body;
-use base_types::Items;
+use base_types::{Body, Items};
 use key_kind::Key;
 use std::sync::Arc;
 

@@ -1,38 +1,9 @@
 ghost use Rattle.std.specs.Prelude.{◌≡◌};
 ghost use Rattle.std.specs.Arc.{arc_value};
 
+use base_types::Body;
 use std::marker::Model;
 use std::sync::Arc;
-
-/// A stored object. Contracts see its bytes.
-#[derive(Debug, Drop)]
-pub struct Body {
-    bytes: Vec<u8>,
-}
-
-impl Model for Body {
-    ghost use Rattle.std.specs.Prelude.{List, ℕ};
-
-    ghost Value = { List ℕ };
-
-    ghost view = { λ b. b.bytes.items };
-}
-
-impl Body {
-    /// Keeps these bytes, and takes no memory.
-    pub fn make(bytes: Vec<u8>) -> Body
-        ensures { result ≡ bytes.items }
-    {
-        Body { bytes }
-    }
-
-    /// The bytes, lent.
-    pub fn bytes(&self) -> &[u8]
-        ensures { result.now ≡ self.now }
-    {
-        self.bytes.as_slice()
-    }
-}
 
 /// A stored object that an event shares with the store and with those who got it. Contracts see its bytes.
 #[derive(Drop)]

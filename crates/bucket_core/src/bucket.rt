@@ -10,8 +10,8 @@ ghost use Rattle.bucket_core.specs.Calls.{put_event, refer_event, name_event, un
 
 use crate::Changes;
 use crate::answer::{Dropped, Found, Listed, StoreErr};
-use crate::body::Body;
 use crate::law::Law;
+use base_types::Body;
 use key_kind::{Key, KeyKind, Name, SnapName, Symbol};
 use std::sync::{Arc, Wait};
 

@@ -9,10 +9,9 @@ ghost use Rattle.bucket_core.specs.Showing.{Shows, ShowsSame, Sets, SetsReferenc
 ghost use Rattle.bucket_core.specs.Calls.{IsFound, keys_that_match, matches};
 
 use crate::answer::Found;
-use crate::body::Body;
 use crate::entry::Entry;
 use crate::head::{Head, Heads};
-use base_types::{Items, Keep, NoMemory};
+use base_types::{Body, Items, Keep, NoMemory};
 use key_kind::{Key, KeyKind, Name, SnapName, Symbol};
 use std::alloc::Global;
 use std::collections::BTreeMap;

@@ -3,9 +3,9 @@ ghost use Rattle.key_kind.specs.Keys.{kind_code};
 
 use crate::Changes;
 use crate::answer::{Dropped, Found, Listed, StoreErr};
-use crate::body::Body;
 use crate::bucket::Bucket;
 use crate::law::Law;
+use base_types::Body;
 use key_kind::{Key, KeyKind, Name, SnapName, Symbol};
 use std::sync::{Arc, Wait};
 

@@ -1,4 +1,4 @@
-use crate::body::Body;
+use base_types::Body;
 use std::sync::Arc;
 
 /// What stands under a key: the body, and the place of the event that set it.

@@ -10,10 +10,10 @@ ghost use Rattle.bucket_core.specs.Calls.{IsFound, keys_that_match, put_event, r
 
 use crate::Changes;
 use crate::answer::Found;
-use crate::body::{Body, SharedBody};
+use crate::body::SharedBody;
 use crate::contents::Contents;
 use crate::event::{Event, SharedChanges};
-use base_types::{Items, Keep, NoMemory};
+use base_types::{Body, Items, Keep, NoMemory};
 use key_kind::{Key, KeyKind, Name, SnapName, Symbol};
 use std::alloc::Global;
 use std::marker::Model;

@@ -3,10 +3,9 @@ ghost use Rattle.bucket_core.specs.Plans.{planned};
 
 use crate::Changes;
 use crate::answer::{Dropped, Found, Listed, StoreErr};
-use crate::body::Body;
 use crate::bucket::Bucket;
 use crate::law::Law;
-use base_types::Items;
+use base_types::{Body, Items};
 use key_kind::{Key, KeyKind, Name, SnapName, Symbol};
 use std::sync::{Arc, Wait};
 

@@ -2,10 +2,10 @@ ghost use Rattle.std.specs.Prelude.{◌≡◌};
 
 use crate::Changes;
 use crate::answer::{Dropped, Found, Listed, StoreErr};
-use crate::body::Body;
 use crate::bucket::Bucket;
 use crate::gate::{Gate, GatePoint, Step};
 use crate::law::Law;
+use base_types::Body;
 use key_kind::{Key, KeyKind, Name, SnapName, Symbol};
 use std::sync::{Arc, Wait};
 

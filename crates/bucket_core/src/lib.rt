@@ -17,8 +17,8 @@ mod law;
 mod plain;
 
 pub use answer::{Dropped, Found, Listed, StoreErr};
-pub use base_types::{Items, Keep, NoMemory};
-pub use body::{Body, SharedBody};
+pub use base_types::{Body, Items, Keep, NoMemory};
+pub use body::SharedBody;
 pub use bucket::Bucket;
 pub use contents::Contents;
 pub use counting::Counting;
