@@ -1,7 +1,6 @@
 //! Rows of the base, by the tiles of its row blocks.
 
-ghost use Rattle.std.specs.Prelude.{◌≡◌, ◌≤◌, ◌-◌, None, length, map, slice_range, IfOk, IfErr};
-ghost use Rattle.std.specs.List.{range_with_len};
+ghost use Rattle.std.specs.Prelude.{◌≡◌, ◌≤◌, None, length, map, slice_range, IfOk, IfErr};
 ghost use Rattle.frame_core.specs.Frames.{Frame as Table, IsFrame};
 ghost use Rattle.bucket_core.specs.Laws.{Looks};
 ghost use Rattle.bucket_core.specs.Calls.{IsSteady};
@@ -49,10 +48,7 @@ pub(crate) fn block_frame<R: Wait, B: Bucket<StoreLaw>>(
     ensures refused { IfErr result (RefusesBase (B.number bucket.old) symbol.now base.now.target.place (B.faults bucket.old) (B.faults bucket.new) (B.seen bucket.old) (B.seen bucket.new)) }
 {
     let slots = &base.index.slots.items()[from..to];
-    let Ok(places) = places_between(alloc, from, to) else {
-        return Err(out_of_memory(bucket.place()));
-    };
-    match get_tiles(rt, alloc, bucket, &base.target, &base.index, places.items()) {
+    match get_tiles(rt, alloc, bucket, &base.target, slots) {
         Ok(tiles) => match run_frame(alloc, &base.index.schema, slots, tiles) {
             Ok(frame) => Ok(frame),
             Err(_) => Err(out_of_memory(bucket.place())),
@@ -62,18 +58,6 @@ pub(crate) fn block_frame<R: Wait, B: Bucket<StoreLaw>>(
             _ => Err(refused),
         },
     }
-}
-
-/// The places from one up to another.
-fn places_between(alloc: Global, from: usize, to: usize) -> Result<Items<u64>, NoMemory>
-    requires { from ≤ to }
-    ensures { IfOk result (λ places. places ≡ range_with_len from (to - from)) }
-{
-    let mut places = Items::new(alloc);
-    for place in from..to {
-        places.push(place as u64)?;
-    }
-    Ok(places)
 }
 
 /// The rows that the tiles of a run of slots have, as a frame of their own.

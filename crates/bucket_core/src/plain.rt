@@ -5,12 +5,11 @@ ghost use Rattle.bucket_core.specs.Laws.{IsLawful};
 
 use crate::Changes;
 use crate::answer::{Dropped, Found, Listed, StoreErr};
-use crate::body::Body;
 use crate::bucket::Bucket;
 use crate::event::Event;
 use crate::event_log::EventLog;
 use crate::law::Law;
-use base_types::NoMemory;
+use base_types::{Body, NoMemory};
 use key_kind::{Key, KeyKind, Name, SnapName, Symbol};
 use std::alloc::Global;
 use std::marker::PhantomData;

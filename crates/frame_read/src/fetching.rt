@@ -1,10 +1,10 @@
 //! The tiles of a version's frame in a range, of the asked columns.
 
-ghost use Rattle.std.specs.Prelude.{◌≡◌, ◌<◌, true, Some, length, option_copied, IfOk, IfErr};
-ghost use Rattle.std.specs.List.{list_any, AllZip, AllByRecursion};
+ghost use Rattle.std.specs.Prelude.{◌≡◌, true, Some, filter, option_copied, IfOk, IfErr};
+ghost use Rattle.std.specs.List.{list_any, Contains, AllZip, AllByRecursion};
 ghost use Rattle.frame_core.specs.Texts.{same_text};
 ghost use Rattle.frame_core.specs.Schemas.{Head, AreColumns};
-ghost use Rattle.frame_core.specs.Selecting.{at_places};
+ghost use Rattle.index_tree.specs.declared.index.Index.{Index};
 ghost use Rattle.index_tree.specs.Covering.{covers, places_where};
 ghost use Rattle.bucket_core.specs.Laws.{Looks};
 ghost use Rattle.bucket_core.specs.Calls.{IsSteady};
@@ -14,14 +14,14 @@ ghost use Rattle.store_model.specs.Holders.{has_index};
 ghost use Rattle.frame_read.specs.Fetches.{RefusesGet, IsTargetIndex};
 ghost use Rattle.frame_read.specs.TileSets.{is_asked, places_asked, IsAskedSchema, RefusesColumns, IsGot, IsFetched, RefusesFetch};
 
-use crate::objects::{get_reached, index_of};
+use crate::objects::{get_reached, packed_index_of};
 use crate::resolving::out_of_memory;
 use crate::target::Target;
 use crate::tiles::{FetchedTile, Tiles};
 use base_types::{Items, Keep, NoMemory};
 use bucket_core::Bucket;
 use frame_core::{ColName, ColType, FrameMaker, Range, Refusal, Refused, Schema};
-use index_tree::{Index, covering};
+use index_tree::{PackedIndex, Slot, covered};
 use std::alloc::Global;
 use std::sync::Wait;
 use version_chain::StoreLaw;
@@ -45,8 +45,8 @@ pub fn fetch<R: Wait, B: Bucket<StoreLaw>>(
     // The version is gone only where it is buried and not held, and a key of it is gone.
     ensures refused { IfErr result (RefusesFetch (B.faults bucket.old) (B.faults bucket.new) (B.seen bucket.old) (B.seen bucket.new) target.now (option_copied columns.entry)) }
 {
-    let index = index_of(rt, alloc, bucket, target)?;
-    let schema = match asked_schema(alloc, &index.schema, columns) {
+    let index = packed_index_of(rt, alloc, bucket, target)?;
+    let schema = match asked_schema(alloc, index.schema(), columns) {
         Ok(schema) => schema,
         Err(Refusal::NoSuchColumn { clause, position }) => {
             return Err(Refused {
@@ -56,10 +56,10 @@ pub fn fetch<R: Wait, B: Bucket<StoreLaw>>(
         }
         Err(_) => return Err(out_of_memory(bucket.place())),
     };
-    let Ok(places) = covering_places(alloc, &index, range, columns) else {
+    let Ok(slots) = covered_slots(alloc, &index, range, columns) else {
         return Err(out_of_memory(bucket.place()));
     };
-    let tiles = get_tiles(rt, alloc, bucket, target, &index, places.items())?;
+    let tiles = get_tiles(rt, alloc, bucket, target, slots.items())?;
     Ok(Tiles {
         schema,
         range,
@@ -67,17 +67,17 @@ pub fn fetch<R: Wait, B: Bucket<StoreLaw>>(
     })
 }
 
-/// The places of the slots that the range and the asked columns want.
-fn covering_places(
+/// The slots that the range and the asked columns want.
+fn covered_slots(
     alloc: Global,
-    index: &Index,
+    index: &PackedIndex,
     range: Range,
     columns: Option<&[ColName]>,
-) -> Result<Items<u64>, NoMemory>
-    ensures { IfOk result (λ places. places ≡ places_where (covers range (places_asked (option_copied columns.entry) index.now)) index.now.slots) }
+) -> Result<Items<Slot>, NoMemory>
+    ensures { IfOk result (λ slots. slots ≡ filter (covers range (places_asked (option_copied columns.entry) index.now)) index.now.slots) }
 {
-    let asked = asked_places(alloc, index.schema.columns(), columns)?;
-    covering(alloc, index, range, asked.items())
+    let asked = asked_places(alloc, index.schema().columns(), columns)?;
+    covered(alloc, index.slots(), range, asked.items())
 }
 
 /// The asked columns of a schema, in the order asked; all of them where none is named.
@@ -146,28 +146,25 @@ fn has_name(names: &[ColName], name: &ColName) -> bool
     names.iter().any(|other| *name == *other)
 }
 
-/// The tiles of the slots at these places of the target's index, counted from 0, one look for each. The bodies are shared with
-/// the store and not copied. It may wait for the store.
+/// The tiles of these slots of the target's index, one look for each. The bodies are shared with the store and not copied. It may
+/// wait for the store.
 pub fn get_tiles<R: Wait, B: Bucket<StoreLaw>>(
     rt: &R,
     alloc: Global,
     bucket: &mut B,
     target: &Target,
-    index: &Index,
-    places: &[u64],
+    slots: &[Slot],
 ) -> Result<Items<FetchedTile>, Refused>
-    requires index { IsTargetIndex (B.seen bucket.old) target.now index.now }
-    requires within { AllByRecursion (λ place. place < length index.now.slots) places.now }
+    requires slots { (index : Index) × IsTargetIndex (B.seen bucket.old) target.now index × AllByRecursion (Contains index.slots) slots.now }
     ensures looks { Looks IsClaimed (B.number bucket.old) (B.sole bucket.old) (B.seen bucket.old) (B.seen bucket.new) }
     ensures steady { IsSteady B.number B.limit B.faults B.sole bucket.old bucket.new }
-    ensures tiles { IfOk result (AllZip (IsGot (B.seen bucket.new)) (at_places places.now index.now.slots)) }
+    ensures tiles { IfOk result (AllZip (IsGot (B.seen bucket.new)) slots.now) }
     ensures refused { IfErr result (RefusesGet (B.faults bucket.old) (B.faults bucket.new) (B.seen bucket.old) (B.seen bucket.new) target.now.symbol target.now.version) }
 {
-    let Ok(mut tiles) = Items::with_capacity(alloc, places.len()) else {
+    let Ok(mut tiles) = Items::with_capacity(alloc, slots.len()) else {
         return Err(out_of_memory(bucket.place()));
     };
-    for place in places {
-        let slot = index.slots.at(*place as usize);
+    for slot in slots {
         let body = get_reached(rt, bucket, target, &slot.key)?;
         let tile = FetchedTile {
             part: slot.part,

@@ -46,7 +46,7 @@ pub fn index_of<R: Wait, B: Bucket<StoreLaw>>(
 
 /// The index of the target's version with its slots as they are spelled, by one look. It may wait for the store.
 ///
-/// What was put under the key of an index spells one, so the slots' bytes are copied whole and no slot is read.
+/// What was put under the key of an index spells one, so no slot is read or copied.
 pub fn packed_index_of<R: Wait, B: Bucket<StoreLaw>>(
     rt: &R,
     alloc: Global,
@@ -62,7 +62,7 @@ pub fn packed_index_of<R: Wait, B: Bucket<StoreLaw>>(
     ensures refused { IfErr result (RefusesGet (B.faults bucket.old) (B.faults bucket.new) (B.seen bucket.old) (B.seen bucket.new) target.now.symbol target.now.version) }
 {
     let body = get_reached(rt, bucket, target, &target.index)?;
-    match open(alloc, body.bytes()) {
+    match open(alloc, &body) {
         Ok(index) => Ok(index),
         Err(_) => Err(out_of_memory(bucket.place())),
     }

@@ -2,7 +2,7 @@ ghost use Rattle.std.specs.Prelude.{◌≡◌, ◌+◌, ◌≤◌, ◌<◌, ◌^
 ghost use Rattle.std.specs.Arc.{arc_value};
 ghost use Rattle.std.specs.List.{AllByRecursion};
 ghost use Rattle.index_tree.specs.IndexText.{index_of};
-ghost use Rattle.index_tree.specs.IndexRules.{IsIndex};
+ghost use Rattle.index_tree.specs.IndexRules.{IsIndex, FitsSlot};
 ghost use Rattle.key_kind.specs.Names.{IsName};
 ghost use Rattle.frame_write.specs.Plans.{puts_seen};
 ghost use Rattle.frame_write.specs.Pieces.{begin_of, end_of, size_of};
@@ -18,7 +18,7 @@ use crate::tiles::{Tile, tiles_of};
 use base_types::{Items, Keep, NoMemory};
 use bucket_core::Body;
 use frame_core::{Part, Schema};
-use index_tree::{Slot, SlotText, build_packed};
+use index_tree::{Slot, SlotRuns, SlotText, build_packed};
 use key_kind::{Key, KeyKind, Name, Symbol};
 use segment_cut::Cutting;
 use std::alloc::Global;
@@ -28,7 +28,7 @@ use std::sync::Arc;
 #[derive(Drop)]
 pub(crate) struct Layout {
     /// The slots, from row 0 on.
-    pub(crate) slots: SlotText,
+    pub(crate) slots: SlotRuns,
     /// The new tiles under keys of their own, as they are put.
     pub(crate) puts: Items<Prepared>,
     /// How many rows the slots have.
@@ -43,14 +43,14 @@ impl Layout {
         ensures { result ≡ record { slots = []; puts = []; rows = 0; next = serial } }
     {
         Layout {
-            slots: SlotText::new(alloc),
+            slots: SlotRuns::new(alloc),
             puts: Items::new(alloc),
             rows: 0,
             next: serial,
         }
     }
 
-    /// Adds a new tile of a frame that begins at this row.
+    /// Adds what is put for a new tile of a frame that begins at this row, and gives its slot.
     fn add_tile(
         &mut self,
         alloc: Global,
@@ -59,10 +59,12 @@ impl Layout {
         version: u64,
         begin: u64,
         tile: &Tile,
-    ) -> Result<(), NoMemory>
+    ) -> Result<Slot, NoMemory>
         requires is_name { IsName name.now }
         requires fits { FitsAt begin tile.now }
-        ensures slots { OnOk result (self.new.slots ≡ self.old.slots ++ behind begin (slot_at client name.now version self.old.next tile.now) ∷ []) }
+        ensures slot { IfOk result (λ slot. slot ≡ behind begin (slot_at client name.now version self.old.next tile.now)) }
+        ensures fits_slot { IfOk result FitsSlot }
+        ensures slots { OnOk result (self.new.slots ≡ self.old.slots) }
         ensures puts { OnOk result (puts_seen self.new.puts ≡ puts_seen self.old.puts ++ ((slot_at client name.now version self.old.next tile.now).key, arc_value tile.now.body) ∷ []) }
         ensures rows { OnOk result (self.new.rows ≡ self.old.rows) }
         ensures next { OnOk result (self.new.next ≡ suc self.old.next) }
@@ -84,15 +86,13 @@ impl Layout {
             key: key.copy(alloc)?,
             body: Arc::try_clone(&tile.body)?,
         })?;
-        let slot = Slot {
+        self.next = next;
+        Ok(Slot {
             key,
             part: moved_by(tile.part, begin),
             first: tile.first,
             last: tile.last,
-        };
-        self.slots.push(alloc, &slot)?;
-        self.next = next;
-        Ok(())
+        })
     }
 
     /// Adds the new tiles of a frame of so many rows, which begins behind the rows so far.
@@ -115,9 +115,11 @@ impl Layout {
         ensures fits { OnOk result (self.old.next < 2 ^ 64 → self.new.next < 2 ^ 64) }
     {
         let begin = self.rows;
+        let mut fresh = Items::with_capacity(alloc, tiles.len())?;
         for tile in tiles {
-            self.add_tile(alloc, client, name, version, begin, tile)?;
+            fresh.push(self.add_tile(alloc, client, name, version, begin, tile)?)?;
         }
+        self.slots.push(SlotText::of(alloc, fresh.items())?)?;
         self.rows = begin + rows;
         Ok(())
     }
@@ -133,7 +135,7 @@ impl Layout {
     {
         let from = begin_of(run);
         let to = self.rows;
-        self.slots.extend_moved(alloc, from, to, run)?;
+        self.slots.push_moved(alloc, from, to, run)?;
         self.rows = to + (end_of(run) - from);
         Ok(())
     }
@@ -227,7 +229,7 @@ pub(crate) fn place_slots(
     version: u64,
     schema: &Schema,
     rows: u64,
-    slots: &SlotText,
+    slots: &SlotRuns,
 ) -> Result<Prepared, NoMemory>
     requires { IsIndex (record { schema = schema.now; rows = rows; slots = slots.now }) }
     ensures key { IfOk result (λ put. put.key ≡ slots_key client symbol.now version serial slots.now) }
@@ -249,7 +251,7 @@ pub(crate) fn place_slots(
 }
 
 /// The stamp of the first row of these slots, or 0.
-fn first_of(slots: &SlotText) -> i64
+fn first_of(slots: &SlotRuns) -> i64
     ensures { result ≡ first_of slots.now }
 {
     match slots.first() {
@@ -259,7 +261,7 @@ fn first_of(slots: &SlotText) -> i64
 }
 
 /// The stamp of their last row, or 0.
-fn last_of(slots: &SlotText) -> i64
+fn last_of(slots: &SlotRuns) -> i64
     ensures { result ≡ last_of slots.now }
 {
     match slots.last() {

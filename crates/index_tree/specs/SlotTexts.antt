@@ -2,9 +2,9 @@
 --     span_of, span_at, span_text      a slot without its key, as it is read and spelled
 --     plain_slot_at       the next slot, by the layout of its fields alone
 --     slots_in            the slots that bytes spell
---     SpellSlots          bytes that are nothing but the spellings of slots
+--     SpellSlots, SpellFrom      bytes that are nothing but the spellings of slots, all and from a place on
 --     moved, MayMove      a slot whose run of slots is moved, and one that may be
-use Rattle.std.specs.Prelude.{◌≡◌, ◌≤◌, ◌<◌, ◌^◌, ℕ, ◌+◌, ◌-◌, List, [], ◌++◌, length, flat_map, Ok}
+use Rattle.std.specs.Prelude.{◌≡◌, ◌≤◌, ◌<◌, ◌^◌, ℕ, ◌+◌, ◌-◌, List, [], ◌++◌, length, drop, flat_map, Ok}
 use Rattle.std.specs.Int.{w16, w32, to_be_bytes}
 use Rattle.std.specs.List.{AllByRecursion}
 use Rattle.std.specs.Result.{result_unwrap_or}
@@ -57,6 +57,11 @@ pub record SpellSlots (count : ℕ) (bytes : List ℕ) (slots : List Slot) : Typ
   pub text : bytes ≡ flat_map slot_text slots
   pub len : length slots ≡ count
   pub fits : AllByRecursion FitsSlot slots
+
+-- the bytes from a place on are the spellings of so many slots
+pub record SpellFrom (from count : ℕ) (bytes : List ℕ) : Type 0 where
+  pub within : from ≤ length bytes
+  pub spelled : SpellSlots count (drop from bytes) (slots_in count (drop from bytes))
 
 -- the slot of a run that begins with the row `from`, where the run begins with the row `to` instead
 abbrev pub moved : ℕ → ℕ → Slot → Slot

@@ -1,3 +1,7 @@
+ghost use Rattle.std.specs.Prelude.{◌≡◌};
+ghost use Rattle.index_tree.specs.SlotTexts.{span_of};
+
+use crate::span::Span;
 use base_types::{Items, Keep, NoMemory};
 use frame_core::{Part, Schema};
 use key_kind::Key;
@@ -14,6 +18,19 @@ pub struct Slot {
     pub first: i64,
     /// The stamp of the tile's last row.
     pub last: i64,
+}
+
+impl Slot {
+    /// The rows, columns and stamps.
+    pub(crate) fn span(&self) -> Span
+        ensures { result ≡ span_of self.now }
+    {
+        Span {
+            part: self.part,
+            first: self.first,
+            last: self.last,
+        }
+    }
 }
 
 impl Keep for Slot {

@@ -1,8 +1,12 @@
-ghost use Rattle.std.specs.Prelude.{◌≡◌, IfOk};
+ghost use Rattle.std.specs.Prelude.{◌≡◌, filter, IfOk};
 ghost use Rattle.std.specs.List.Sorted.{IsNonDecreasing, IsPermutation};
+ghost use Rattle.key_kind.specs.declared.key.Key.{Key};
+ghost use Rattle.index_tree.specs.SlotTexts.{slot_with};
 ghost use Rattle.index_tree.specs.Covering.{shares_stamps as stamps_shared, has_one as one_had, covers, places_where};
 
 use crate::index::{Index, Slot};
+use crate::slot_text::{SlotText, pass_slot, read_slot};
+use crate::span::Span;
 use base_types::{Items, NoMemory};
 use frame_core::{Part, Range};
 use std::alloc::Global;
@@ -22,11 +26,37 @@ pub fn covering(
     let columns = rising(alloc, columns)?;
     let mut places = Items::with_capacity(alloc, index.slots.len())?;
     for place in 0..index.slots.len() {
-        if is_covered(range, &columns, index.slots.at(place)) {
+        if is_covered(range, &columns, &index.slots.at(place).span()) {
             places.push(place as u64)?;
         }
     }
     Ok(places)
+}
+
+/// The slots that share a stamp interval with the range and have one of the columns, in order, in memory of their own. Columns are
+/// counted from 0, in any order. Where none is asked, the first slice of each row block is taken.
+///
+/// Of each other slot only its rows, columns and stamps are read, where they lie.
+pub fn covered(
+    alloc: Global,
+    slots: &SlotText,
+    range: Range,
+    columns: &[u64],
+) -> Result<Items<Slot>, NoMemory>
+    ensures { IfOk result (λ found. found ≡ filter (covers range columns.now) slots.now) }
+{
+    let columns = rising(alloc, columns)?;
+    let mut found = Items::new(alloc);
+    let mut rest = slots.bytes();
+    for _ in 0..slots.len() {
+        let (span, after) = pass_slot(rest);
+        if is_covered(range, &columns, &span) {
+            let (slot, _after) = read_slot(alloc, rest)?;
+            found.push(slot)?;
+        }
+        rest = after;
+    }
+    Ok(found)
 }
 
 /// The columns in rising order.
@@ -39,24 +69,24 @@ fn rising(alloc: Global, columns: &[u64]) -> Result<Vec<u64>, NoMemory>
     Ok(rising)
 }
 
-/// Whether a slot is asked by the range and the columns, which rise.
-fn is_covered(range: Range, columns: &[u64], slot: &Slot) -> bool
+/// Whether a slot of these rows, columns and stamps is asked by the range and the columns, which rise.
+fn is_covered(range: Range, columns: &[u64], span: &Span) -> bool
     requires { IsNonDecreasing columns.now }
-    ensures { result ≡ covers range columns.now slot.now }
+    ensures { (key : Key) → result ≡ covers range columns.now (slot_with key span.now) }
 {
-    shares_stamps(range, slot) && has_one(columns, &slot.part)
+    shares_stamps(range, span) && has_one(columns, &span.part)
 }
 
 /// Whether the stamps of a slot do not all lie below the range, nor all above it.
-fn shares_stamps(range: Range, slot: &Slot) -> bool
-    ensures { result ≡ stamps_shared range slot.now }
+fn shares_stamps(range: Range, span: &Span) -> bool
+    ensures { (key : Key) → result ≡ stamps_shared range (slot_with key span.now) }
 {
     let ends_below = match range.from() {
-        Some(from) => slot.last < from,
+        Some(from) => span.last < from,
         None => false,
     };
     let begins_above = match range.to() {
-        Some(to) => to < slot.first,
+        Some(to) => to < span.first,
         None => false,
     };
     !ends_below && !begins_above

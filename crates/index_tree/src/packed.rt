@@ -1,4 +1,5 @@
 ghost use Rattle.std.specs.Prelude.{◌≡◌, IfOk, Ok};
+ghost use Rattle.std.specs.Arc.{arc_value};
 ghost use Rattle.index_tree.specs.IndexText.{index_of};
 ghost use Rattle.index_tree.specs.IndexRules.{IsIndex};
 ghost use Rattle.index_tree.specs.IndexFaults.{Reads};
@@ -7,14 +8,15 @@ ghost use Rattle.index_tree.specs.declared.index.Index.{Index};
 use crate::fault::Stop;
 use crate::reading::read_schema;
 use crate::slot_text::SlotText;
-use base_types::NoMemory;
+use base_types::{Body, NoMemory};
 use byte_fields::{read_magic, read_u16, read_u32};
 use frame_core::Schema;
 use std::alloc::Global;
 use std::marker::Model;
+use std::sync::Arc;
 
-/// An index whose slots stay as they are spelled. Contracts see the index.
-#[derive(Debug, Drop)]
+/// An index whose slots stay where and as they are spelled. Contracts see the index.
+#[derive(Drop)]
 pub struct PackedIndex {
     schema: Schema,
     rows: u64,
@@ -52,14 +54,13 @@ impl PackedIndex {
     }
 }
 
-/// The index that bytes spell, of which it is known that they do: its columns are read, and the bytes of its slots are copied whole
-/// and not read.
-pub fn open(alloc: Global, bytes: &[u8]) -> Result<PackedIndex, NoMemory>
-    requires spelled { (index : Index) × (index_of bytes.now ≡ Ok index) }
-    ensures found { IfOk result (λ packed. index_of bytes.now ≡ Ok packed) }
+/// The index that a body spells, of which it is known that it does: its columns are read, and its slots stay where they are.
+pub fn open(alloc: Global, body: &Arc<Body>) -> Result<PackedIndex, NoMemory>
+    requires spelled { (index : Index) × (index_of (arc_value body.now) ≡ Ok index) }
+    ensures found { IfOk result (λ packed. index_of (arc_value body.now) ≡ Ok packed) }
     ensures is_index { IfOk result IsIndex }
 {
-    match open_front(alloc, bytes) {
+    match open_front(alloc, body) {
         Ok(packed) => Ok(packed),
         Err(Stop::NoMemory) => Err(NoMemory),
         Err(Stop::Bad { .. }) => unreachable!(),
@@ -67,18 +68,28 @@ pub fn open(alloc: Global, bytes: &[u8]) -> Result<PackedIndex, NoMemory>
 }
 
 #[tactic(auto, unfolding(crate::specs::IndexText::index_of, crate::specs::IndexText::index_at))]
-fn open_front(alloc: Global, bytes: &[u8]) -> Result<PackedIndex, Stop>
-    requires spelled { (index : Index) × (index_of bytes.now ≡ Ok index) }
-    ensures { Reads (λ packed. packed) result (index_of bytes.now) }
+fn open_front(alloc: Global, body: &Arc<Body>) -> Result<PackedIndex, Stop>
+    requires spelled { (index : Index) × (index_of (arc_value body.now) ≡ Ok index) }
+    ensures { Reads (λ packed. packed) result (index_of (arc_value body.now)) }
 {
+    let bytes = body.bytes();
     let rest = read_magic(b"AIX1".as_slice(), bytes)?;
     let (columns, rest) = read_u16(rest)?;
     let (schema, rest) = read_schema(alloc, columns, rest)?;
     let (rows, rest) = read_u32(rest)?;
     let (count, rest) = read_u32(rest)?;
+    let from = bytes.len() - rest.len();
+    let shared = share(body)?;
     Ok(PackedIndex {
         schema,
         rows: rows as u64,
-        slots: SlotText::of_bytes(alloc, count as usize, rest)?,
+        slots: SlotText::within(shared, from, count as usize),
     })
+}
+
+/// One more share of a body.
+fn share(body: &Arc<Body>) -> Result<Arc<Body>, NoMemory>
+    ensures { IfOk result (λ shared. arc_value shared ≡ arc_value body.now) }
+{
+    Ok(Arc::try_clone(body)?)
 }

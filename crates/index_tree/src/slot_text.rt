@@ -1,52 +1,51 @@
-ghost use Rattle.std.specs.Prelude.{◌≡◌, ◌↔◌, ◌-◌, ◌<◌, ℕ, List, [], ◌∷◌, ◌++◌, length, map, flat_map, option_map, slice_get, IsTrue, IfOk, OnOk, OnErr, Ok};
-ghost use Rattle.std.specs.List.{AllByRecursion};
+ghost use Rattle.std.specs.Prelude.{◌≡◌, ◌-◌, ◌<◌, ◌^◌, ℕ, List, ◌++◌, length, map, drop, option_map, slice_get, IfOk, Ok};
+ghost use Rattle.std.specs.Arc.{arc_value};
+ghost use Rattle.std.specs.List.{flat_map, AllByRecursion};
 ghost use Rattle.byte_fields.specs.Readers.{Gives};
 ghost use Rattle.key_kind.specs.KeyViews.{key_of};
 ghost use Rattle.key_kind.specs.Keys.{IsKey};
 ghost use Rattle.index_tree.specs.IndexText.{slot_text};
 ghost use Rattle.index_tree.specs.IndexRules.{FitsSlot};
-ghost use Rattle.index_tree.specs.SlotTexts.{span_of, slot_with, plain_slot_at, slots_in, SpellSlots, moved as shifted, MayMove};
+ghost use Rattle.index_tree.specs.SlotTexts.{span_of, slot_with, plain_slot_at, slots_in, SpellSlots, SpellFrom, moved as shifted, MayMove};
 
 use crate::index::Slot;
 use crate::span::{SPAN_BYTES, Span, read_span};
-use crate::writing::{put_slot, put_slots, slots_len};
-use base_types::{Items, Keep, NoMemory};
+use crate::writing::{put_slots, slots_len};
+use base_types::{Body, Items, Keep, NoMemory};
 use byte_fields::{put_bytes, put_u32};
 use key_kind::{KeyView, view_key};
 use std::alloc::Global;
 use std::marker::Model;
+use std::sync::Arc;
 
-/// Slots as an index spells them, one behind another. Contracts see the list of the slots.
-#[derive(Debug, Drop)]
+/// How many bytes the spelling of a key has beside its name.
+const KEY_BYTES: usize = 38;
+
+/// Slots as an index spells them, one behind another, in bytes that are shared: a copy takes no memory for them. Contracts see the
+/// list of the slots.
+#[derive(Drop)]
 pub struct SlotText {
-    bytes: Vec<u8>,
+    body: Arc<Body>,
+    /// The place of the first slot's first byte.
+    from: usize,
     count: usize,
 }
 
 impl Model for SlotText {
-    ghost use Rattle.std.specs.Prelude.{List};
+    ghost use Rattle.std.specs.Prelude.{List, drop};
+    ghost use Rattle.std.specs.Arc.{arc_value};
     ghost use Rattle.index_tree.specs.declared.index.Slot.{Slot};
 
     ghost Value = { List Slot };
 
-    ghost use Rattle.index_tree.specs.SlotTexts.{slots_in, SpellSlots};
+    ghost use Rattle.index_tree.specs.SlotTexts.{slots_in, SpellFrom};
 
-    ghost view = { λ t. slots_in t.count t.bytes.items };
+    ghost view = { λ t. slots_in t.count (drop t.from (arc_value t.body)) };
 
-    ghost invariant = { λ t. SpellSlots t.count t.bytes.items (slots_in t.count t.bytes.items) };
+    ghost invariant = { λ t. SpellFrom t.from t.count (arc_value t.body) };
 }
 
 impl SlotText {
-    /// No slots. It takes no memory.
-    pub fn new(alloc: Global) -> SlotText
-        ensures { result ≡ [] }
-    {
-        SlotText {
-            bytes: Vec::new(alloc),
-            count: 0,
-        }
-    }
-
     /// The spelling of these slots. Memory is taken once.
     pub fn of(alloc: Global, slots: &[Slot]) -> Result<SlotText, NoMemory>
         requires fits { AllByRecursion FitsSlot slots.now }
@@ -54,21 +53,27 @@ impl SlotText {
     {
         let mut bytes = Vec::with_capacity(alloc, slots_len(slots))?;
         put_slots(&mut bytes, slots)?;
+        SlotText::whole(alloc, slots.len(), bytes)
+    }
+
+    /// Bytes that are nothing but the spellings of so many slots.
+    fn whole(alloc: Global, count: usize, bytes: Vec<u8>) -> Result<SlotText, NoMemory>
+        requires spelled { SpellSlots count bytes.items (slots_in count bytes.items) }
+        ensures { IfOk result (λ text. text ≡ slots_in count bytes.items) }
+    {
         Ok(SlotText {
-            bytes,
-            count: slots.len(),
+            body: Arc::new(alloc, Body::make(bytes))?,
+            from: 0,
+            count,
         })
     }
 
-    /// A copy of bytes that are nothing but the spellings of so many slots.
-    pub(crate) fn of_bytes(alloc: Global, count: usize, bytes: &[u8]) -> Result<SlotText, NoMemory>
-        requires spelled { SpellSlots count bytes.now (slots_in count bytes.now) }
-        ensures { IfOk result (λ text. text ≡ slots_in count bytes.now) }
+    /// So many slots that a body spells from this place on, up to its end.
+    pub(crate) fn within(body: Arc<Body>, from: usize, count: usize) -> SlotText
+        requires spelled { SpellFrom from count (arc_value body) }
+        ensures { result ≡ slots_in count (drop from (arc_value body)) }
     {
-        Ok(SlotText {
-            bytes: Vec::from_slice(alloc, bytes)?,
-            count,
-        })
+        SlotText { body, from, count }
     }
 
     /// The bytes, as they stand in an index.
@@ -76,7 +81,8 @@ impl SlotText {
         ensures text { result.now ≡ flat_map slot_text self.now }
         ensures fits { AllByRecursion FitsSlot self.now }
     {
-        self.bytes.as_slice()
+        let (_, bytes) = self.body.bytes().split_at(self.from);
+        bytes
     }
 
     /// How many slots there are.
@@ -86,62 +92,29 @@ impl SlotText {
         self.count
     }
 
-    /// Adds a slot behind the others.
-    pub fn push(&mut self, alloc: Global, slot: &Slot) -> Result<(), NoMemory>
-        requires fits { FitsSlot slot.now }
-        ensures ok { OnOk result (self.new ≡ self.old ++ slot.now ∷ []) }
-        ensures err { OnErr result (self.new ≡ self.old) }
-    {
-        let mut text = Vec::new(alloc);
-        put_slot(&mut text, slot)?;
-        self.bytes.extend_from_slice(text.as_slice())?;
-        self.count += 1;
-        Ok(())
-    }
-
-    /// Adds the slots of another text behind the others. Its bytes are copied as they are, and no slot is read.
-    pub fn extend(&mut self, more: &SlotText) -> Result<(), NoMemory>
-        ensures ok { OnOk result (self.new ≡ self.old ++ more.now) }
-        ensures err { OnErr result (self.new ≡ self.old) }
-    {
-        self.bytes.extend_from_slice(more.bytes.as_slice())?;
-        self.count += more.count;
-        Ok(())
-    }
-
-    /// Adds a run of slots that begins with the row `from`, moved so that it begins with the row `to`. Where nothing moves, the
-    /// bytes are copied as they are.
-    pub fn extend_moved(
-        &mut self,
-        alloc: Global,
-        from: u64,
-        to: u64,
-        run: &SlotText,
-    ) -> Result<(), NoMemory>
-        requires may { AllByRecursion (MayMove from to) run.now }
-        ensures ok { OnOk result (self.new ≡ self.old ++ map (shifted from to) run.now) }
-        ensures err { OnErr result (self.new ≡ self.old) }
-    {
-        if from == to {
-            return self.extend(run);
-        }
-        self.extend(&run.moved(alloc, from, to)?)
-    }
-
-    /// The slots of a run that begins with the row `from`, moved so that it begins with the row `to`.
-    fn moved(&self, alloc: Global, from: u64, to: u64) -> Result<SlotText, NoMemory>
+    /// The slots of a run that begins with the row `from`, moved so that it begins with the row `to`. Where nothing moves, the bytes
+    /// are shared.
+    pub fn moved(&self, alloc: Global, from: u64, to: u64) -> Result<SlotText, NoMemory>
         requires may { AllByRecursion (MayMove from to) self.now }
         ensures { IfOk result (λ text. text ≡ map (shifted from to) self.now) }
     {
-        let mut bytes = Vec::with_capacity(alloc, self.bytes.len())?;
-        let mut rest = self.bytes.as_slice();
+        if from == to {
+            return self.copy(alloc);
+        }
+        self.rewritten(alloc, from, to)
+    }
+
+    /// The moved slots in bytes of their own.
+    fn rewritten(&self, alloc: Global, from: u64, to: u64) -> Result<SlotText, NoMemory>
+        requires may { AllByRecursion (MayMove from to) self.now }
+        ensures { IfOk result (λ text. text ≡ map (shifted from to) self.now) }
+    {
+        let mut rest = self.bytes();
+        let mut bytes = Vec::with_capacity(alloc, rest.len())?;
         for _ in 0..self.count {
             rest = put_moved(&mut bytes, from, to, rest)?;
         }
-        Ok(SlotText {
-            bytes,
-            count: self.count,
-        })
+        SlotText::whole(alloc, self.count, bytes)
     }
 
     /// The rows, columns and stamps of the first slot.
@@ -151,7 +124,7 @@ impl SlotText {
         if self.count == 0 {
             return None;
         }
-        let (_key, span, _rest) = first_slot(self.bytes.as_slice());
+        let (span, _rest) = pass_slot(self.bytes());
         Some(span)
     }
 
@@ -162,7 +135,7 @@ impl SlotText {
         if self.count == 0 {
             return None;
         }
-        let bytes = self.bytes.as_slice();
+        let bytes = self.bytes();
         let (_, end) = bytes.split_at(bytes.len() - SPAN_BYTES);
         match read_span(end) {
             Ok((span, _)) => Some(span),
@@ -175,15 +148,10 @@ impl SlotText {
         ensures { IfOk result (λ slots. slots ≡ self.now) }
     {
         let mut slots = Items::with_capacity(alloc, self.count)?;
-        let mut rest = self.bytes.as_slice();
+        let mut rest = self.bytes();
         for _ in 0..self.count {
-            let (key, span, after) = first_slot(rest);
-            slots.push(Slot {
-                key: key.to_key(alloc)?,
-                part: span.part,
-                first: span.first,
-                last: span.last,
-            })?;
+            let (slot, after) = read_slot(alloc, rest)?;
+            slots.push(slot)?;
             rest = after;
         }
         Ok(slots)
@@ -191,9 +159,10 @@ impl SlotText {
 }
 
 impl Keep for SlotText {
-    fn copy(&self, alloc: Global) -> Result<SlotText, NoMemory> {
+    fn copy(&self, _alloc: Global) -> Result<SlotText, NoMemory> {
         Ok(SlotText {
-            bytes: Vec::from_slice(alloc, self.bytes.as_slice())?,
+            body: Arc::try_clone(&self.body)?,
+            from: self.from,
             count: self.count,
         })
     }
@@ -217,6 +186,35 @@ fn first_slot(bytes: &[u8]) -> (KeyView<'_>, Span, &[u8])
     ensures is_key { IsKey (key_of result.0) }
 {
     match view_slot(bytes) {
+        Ok(found) => found,
+        Err(_) => unreachable!(),
+    }
+}
+
+/// The slot that the bytes begin with, which they spell, in memory of its own, and what follows.
+pub(crate) fn read_slot(alloc: Global, bytes: &[u8]) -> Result<(Slot, &[u8]), NoMemory>
+    requires spelled { (s : Slot) × (more : List ℕ) × (bytes.now ≡ slot_text s ++ more) × FitsSlot s }
+    ensures { (s : Slot) (more : List ℕ) → bytes.now ≡ slot_text s ++ more → FitsSlot s → IfOk result (λ x. (x.0 ≡ s) × (x.1.now ≡ more)) }
+{
+    let (key, span, rest) = first_slot(bytes);
+    let slot = Slot {
+        key: key.to_key(alloc)?,
+        part: span.part,
+        first: span.first,
+        last: span.last,
+    };
+    Ok((slot, rest))
+}
+
+/// The rows, columns and stamps of the slot that the bytes begin with, which they spell, and what follows the slot. Its key is
+/// passed over by its length.
+pub(crate) fn pass_slot(bytes: &[u8]) -> (Span, &[u8])
+    requires spelled { (s : Slot) × (more : List ℕ) × (bytes.now ≡ slot_text s ++ more) × FitsSlot s }
+    ensures { (s : Slot) (more : List ℕ) → bytes.now ≡ slot_text s ++ more → FitsSlot s → (result.0 ≡ span_of s) × (result.1.now ≡ more) }
+{
+    let name = bytes[1] as usize;
+    let (_key, fields) = bytes.split_at(KEY_BYTES + name);
+    match read_span(fields) {
         Ok(found) => found,
         Err(_) => unreachable!(),
     }

@@ -1,10 +1,11 @@
 ghost use Rattle.std.specs.Prelude.{◌≡◌, ◌<◌, ◌^◌, ◌++◌, length, IfOk, OnOk, Ok};
-ghost use Rattle.std.specs.List.{flat_map, AllByRecursion};
+ghost use Rattle.std.specs.List.{flat_map, concat, AllByRecursion};
 ghost use Rattle.segment_bytes.specs.Heads.{head_text};
 ghost use Rattle.index_tree.specs.IndexText.{slot_text, front_text, index_text, index_of};
 ghost use Rattle.index_tree.specs.IndexRules.{IsIndex, FitsSlot};
 
 use crate::index::{Index, Slot};
+use crate::slot_runs::SlotRuns;
 use crate::slot_text::SlotText;
 use base_types::NoMemory;
 use byte_fields::{put_bytes, put_i64, put_u16, put_u32};
@@ -33,17 +34,17 @@ pub fn build_packed(
     alloc: Global,
     schema: &Schema,
     rows: u64,
-    slots: &SlotText,
+    slots: &SlotRuns,
 ) -> Result<Vec<u8>, NoMemory>
     requires { IsIndex (record { schema = schema.now; rows = rows; slots = slots.now }) }
     ensures text { IfOk result (λ v. v.items ≡ index_text (record { schema = schema.now; rows = rows; slots = slots.now })) }
     ensures read { IfOk result (λ v. index_of v.items ≡ Ok (record { schema = schema.now; rows = rows; slots = slots.now })) }
 {
-    let bytes = slots.bytes();
-    let length = front_len(schema).saturating_add(bytes.len());
+    let runs = slots.runs();
+    let length = front_len(schema).saturating_add(runs_len(runs));
     let mut out = Vec::with_capacity(alloc, length)?;
     put_front(&mut out, schema, rows, slots.len())?;
-    put_bytes(&mut out, bytes)?;
+    put_runs(&mut out, runs)?;
     Ok(out)
 }
 
@@ -62,6 +63,15 @@ pub(crate) fn slots_len(slots: &[Slot]) -> usize {
     for slot in slots {
         let name = slot.key.name.text().len();
         length = length.saturating_add(name).saturating_add(66);
+    }
+    length
+}
+
+/// How many bytes runs of slots have.
+fn runs_len(runs: &[SlotText]) -> usize {
+    let mut length: usize = 0;
+    for run in runs {
+        length = length.saturating_add(run.bytes().len());
     }
     length
 }
@@ -111,6 +121,16 @@ pub(crate) fn put_slots(out: &mut Vec<u8>, slots: &[Slot]) -> Result<(), NoMemor
 {
     for slot in slots {
         put_slot(out, slot)?;
+    }
+    Ok(())
+}
+
+/// Adds the slots of runs, one behind another, as they are spelled.
+fn put_runs(out: &mut Vec<u8>, runs: &[SlotText]) -> Result<(), NoMemory>
+    ensures { OnOk result (out.new.items ≡ out.old.items ++ flat_map slot_text (concat runs.now)) }
+{
+    for run in runs {
+        put_bytes(out, run.bytes())?;
     }
     Ok(())
 }

@@ -5,7 +5,7 @@ use Rattle.index_tree.specs.IndexText.{slot_text}
 use Rattle.index_tree.specs.IndexRules.{FitsSlot}
 use Rattle.index_tree.specs.SlotTexts.{MayMove, moved}
 use Rattle.index_tree.proofs.SlotTextLaws.{slots_are, spell_read, slot_at, all_both, moved_more, moved_all}
-use Rattle.index_tree.proofs.slot_text.SlotText.moved.Goals as goal
+use Rattle.index_tree.proofs.slot_text.SlotText.rewritten.Goals as goal
 
 pub put_moved-requires : goal.put_moved-requires
 put_moved-requires c =

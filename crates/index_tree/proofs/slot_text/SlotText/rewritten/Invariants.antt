@@ -2,7 +2,7 @@ use Rattle.std.proofs.Common.{◌≡◌, map, take, drop}
 use Rattle.std.specs.List.{flat_map}
 use Rattle.index_tree.specs.IndexText.{slot_text}
 use Rattle.index_tree.specs.SlotTexts.{moved}
-use Rattle.index_tree.proofs.slot_text.SlotText.moved.Given as goal
+use Rattle.index_tree.proofs.slot_text.SlotText.rewritten.Given as goal
 
 -- the slots so far were moved, and the others are left
 abbrev pub invariant-loop : goal.invariant-loop
