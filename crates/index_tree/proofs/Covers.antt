@@ -74,6 +74,19 @@ covered_all range a b slots n places moved le so_far =
     so_far ∙ ap (places_where (covers range b)) (take_all n slots le)
     ∙ ap (λ (test : Slot → Bool). places_where test slots) (λ i s. shares_stamps range s && has_one_permuted a b s.part moved i)
 
+-- one slot more was tested
+pub kept_taken : {X : Type 0} (test : X → Bool) (xs : List X) (x : X) → true ≡ test x → filter test xs ++ x ∷ [] ≡ filter test (xs ++ x ∷ [])
+kept_taken {X} test xs x passes = ap (λ (b : Bool). filter test xs ++ cond b (x ∷ []) []) passes ∙ sym (filter-append test xs (x ∷ []))
+
+pub kept_left : {X : Type 0} (test : X → Bool) (xs : List X) (x : X) → false ≡ test x → filter test xs ≡ filter test (xs ++ x ∷ [])
+kept_left {X} test xs x fails = sym (append-nil (filter test xs)) ∙ (ap (λ (b : Bool). filter test xs ++ cond b (x ∷ []) []) fails ∙ sym (filter-append test xs (x ∷ [])))
+
+-- all were tested, and the order of the columns does not matter
+pub covered_kept : (range : Range) (a b : List ℕ) (slots : List Slot) (n : ℕ) (found : List Slot) → IsPermutation a b → length slots ≤ n → found ≡ filter (covers range b) (take n slots) → found ≡ filter (covers range a) slots
+covered_kept range a b slots n found moved le so_far =
+    so_far ∙ ap (filter (covers range b)) (take_all n slots le)
+    ∙ ap (λ (test : Slot → Bool). filter test slots) (λ i s. shares_stamps range s && has_one_permuted a b s.part moved i)
+
 -- ---- the first column that is not below a slice
 
 any_past : (xs : List ℕ) (part : Part) (place : ℕ) → IsPartitionPoint (λ c. nat_lt c part.first_col ≡ true) (λ c. nat_lt c part.first_col ≡ false) xs place → length xs ≤ place → false ≡ list_any (has_column part) xs

@@ -1,8 +1,8 @@
 -- Each index that keeps the rules has one spelling.
-use Rattle.std.proofs.Common.{◌≡◌, ℕ, zero, suc, ◌^◌, ◌<◌, Bool, true, not, ◌||◌, List, [], ◌∷◌, ◌++◌, map, length, Ok, refl, sym, ap, subst, ◌∙◌, append_assoc}
+use Rattle.std.proofs.Common.{◌≡◌, ℕ, zero, suc, ◌^◌, ◌<◌, Bool, true, not, ◌||◌, List, [], ◌∷◌, ◌++◌, ◌+◌, ◌-◌, ◌≤◌, map, length, drop, Ok, refl, sym, ap, subst, ◌∙◌, append_assoc, arith}
 use Rattle.std.specs.Int.{w16, w32, to_be_bytes}
 use Rattle.std.specs.List.{AllByRecursion, flat_map, list_any}
-use Rattle.std.proofs.lemmas.List.{append-nil}
+use Rattle.std.proofs.lemmas.List.{append-nil, length-append, drop_at}
 use Rattle.std.proofs.lemmas.List.Concat.{flat_map-cons}
 use Rattle.byte_fields.specs.Reading.{◌>>=◌, number_at, magic_at}
 use Rattle.byte_fields.specs.Readers.{IsBytes}
@@ -17,8 +17,9 @@ use Rattle.index_tree.specs.declared.index.Slot.{Slot}
 use Rattle.index_tree.specs.declared.index.Index.{Index}
 use Rattle.index_tree.specs.IndexText.{index_magic, slot_text, index_text, heads_at, Reach, no_reach, reach_of, slot_at, slots_at, index_at, index_of}
 use Rattle.index_tree.specs.IndexRules.{FitsSlot, IsSlot, Cover, IsIndex}
-use Rattle.index_tree.specs.SlotTexts.{SpellSlots}
+use Rattle.index_tree.specs.SlotTexts.{slots_in, SpellSlots, SpellFrom}
 use Rattle.index_tree.proofs.SlotLaws.{slot_takes, slot_again}
+use Rattle.index_tree.proofs.SlotTextLaws.{slots_are, spell_read}
 use Rattle.index_tree.proofs.SlotRules.{AllowedFrom, kept_all, allowed_all, fits_all}
 
 -- ---- columns
@@ -206,8 +207,27 @@ index_again i is =
 -- what stands before the slots of a spelled index was read, and the bytes behind it spell slots
 pub record Opened (bytes behind : List ℕ) (schema : Schema) (rows count : ℕ) : Type 0 where
   pub slots : List Slot
+  pub within : length behind ≤ length bytes
+  pub from : SpellFrom (length bytes - length behind) count bytes
+  pub slots_are : slots_in count (drop (length bytes - length behind) bytes) ≡ slots
   pub spelled : SpellSlots count behind slots
   pub is : index_of bytes ≡ Ok (record { schema = schema; rows = rows; slots = slots })
+
+-- two fronts, one behind the other
+fronts : (x y a b c : List ℕ) → a ≡ x ++ b → b ≡ y ++ c → a ≡ (x ++ y) ++ c
+fronts x y a b c e f = e ∙ (ap (λ (l : List ℕ). x ++ l) f ∙ sym (append_assoc x y c))
+
+-- slots that are spelled behind a front
+ends_at : (front bytes behind : List ℕ) (count : ℕ) (slots : List Slot) → bytes ≡ front ++ behind → SpellSlots count behind slots → (length behind ≤ length bytes) × SpellFrom (length bytes - length behind) count bytes × (slots_in count (drop (length bytes - length behind) bytes) ≡ slots)
+ends_at front bytes behind count slots parts spelled =
+    let long : length bytes ≡ length front + length behind = ap length parts ∙ length-append front behind in
+    let place : length front ≡ length bytes - length behind = omega (arith, long) in
+    let rest : drop (length bytes - length behind) bytes ≡ behind = ap (drop (length bytes - length behind)) parts ∙ drop_at front behind (length bytes - length behind) place in
+    let read : SpellSlots count behind (slots_in count behind) = spell_read count behind slots spelled in (
+      omega (arith, long),
+      record { within = omega (arith, long); spelled = subst (λ (b : List ℕ). SpellSlots count b (slots_in count b)) (sym rest) read },
+      ap (slots_in count) rest ∙ slots_are count behind slots spelled,
+    )
 
 pub front_opened : (b0 b1 b2 b3 b4 b5 magic front : List ℕ) (columns rows count : ℕ) (schema : Schema) (i : Index) → IsBytes b0 → magic ≡ index_magic → schema.timed ≡ true
     → magic_at magic b0 ≡ Ok (front, b1)
@@ -229,12 +249,23 @@ front_opened b0 b1 b2 b3 b4 b5 magic front columns rows count schema i fits is_m
     let s = bind_ok (slots_at rows columns no_reach count b5) (λ slots. Ok (made slots.0, slots.1)) (i, []) (sym read ∙ whole_takes (index_at b0) i e) in
     let same : (made s.0.0, s.0.1) ≡ (i, []) = ok_is (made s.0.0, s.0.1) (i, []) s.2 in
     let taken = slots_take rows columns no_reach count b5 s.0 t4.takes.rest_fits s.1 in
+    let n1 = to_be_bytes w16 columns in
+    let n2 = flat_map head_text schema.columns in
+    let n3 = to_be_bytes w32 rows in
+    let n4 = to_be_bytes w32 count in
+    let parts : b0 ≡ (index_magic ++ (n1 ++ (n2 ++ (n3 ++ n4)))) ++ b5 =
+    fronts index_magic (n1 ++ (n2 ++ (n3 ++ n4))) b0 b1 b5 t0.parts (fronts n1 (n2 ++ (n3 ++ n4)) b1 b2 b5 t1.takes.parts (fronts n2 (n3 ++ n4) b2 b3 b5 t2.takes.parts (fronts n3 n4 b3 b4 b5 t3.takes.parts t4.takes.parts))) in
+    let spelled : SpellSlots count b5 s.0.0 = record {
+      text = taken.takes.parts ∙ (ap (λ (x : Index × List ℕ). flat_map slot_text s.0.0 ++ x.1) same ∙ append-nil (flat_map slot_text s.0.0));
+      len = taken.count;
+      fits = taken.fits;
+    } in
+    let at = ends_at (index_magic ++ (n1 ++ (n2 ++ (n3 ++ n4)))) b0 b5 count s.0.0 parts spelled in
     record {
       slots = s.0.0;
-      spelled = record {
-        text = taken.takes.parts ∙ (ap (λ (x : Index × List ℕ). flat_map slot_text s.0.0 ++ x.1) same ∙ append-nil (flat_map slot_text s.0.0));
-        len = taken.count;
-        fits = taken.fits;
-      };
+      spelled = spelled;
+      within = at.0;
+      from = at.1;
+      slots_are = at.2;
       is = e ∙ ((λ j. Ok (sym same j).0) ∙ ap (λ (x : Index). Ok x) (timed_is (record { schema = schema; rows = rows; slots = s.0.0 }) timed));
     }

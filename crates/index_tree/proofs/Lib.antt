@@ -5,3 +5,4 @@ pub mod IndexLoops
 pub mod Covers
 pub mod NameNotes
 pub mod SlotTextLaws
+pub mod RunLaws

@@ -1,6 +1,6 @@
 -- Slots that are spelled one behind another are read again.
 use Rattle.std.proofs.Common.{◌≡◌, ℕ, zero, suc, ◌+◌, ◌-◌, ◌*◌, ◌^◌, ◌<◌, ◌≤◌, List, [], ◌∷◌, ◌++◌, length, take, drop, map, Result, Ok, Err, Some, refl, sym, ap, subst, ◌∙◌, append_assoc, arith}
-use Rattle.std.specs.Prelude.{slice_get}
+use Rattle.std.specs.Prelude.{slice_get, slice_index_or}
 use Rattle.std.specs.Int.{w16, w32, to_be_bytes}
 use Rattle.std.specs.List.{flat_map, AllByRecursion}
 use Rattle.std.specs.Result.{result_unwrap_or}
@@ -66,6 +66,19 @@ length-slot_text s =
     let span = length-span_text (span_of s) in
     omega (arith, whole, span, length-append (slot_text s) [], length-append (key_text s.key) (span_text (span_of s) ++ []), length-append (span_text (span_of s)) [])
 
+-- a key's spelling has 38 bytes beside its name, whose length is its second byte
+length-key_text : (k : Key) → length (key_text k) ≡ 38 + length k.name
+unfolding key_text
+length-key_text k = simp length-append (omega (arith, length-signed_text k.first, length-signed_text k.last))
+
+-- so what is behind the key of a slot is found by that byte
+pub key_passed : (s : Slot) (bytes more : List ℕ) → bytes ≡ slot_text s ++ more → drop (38 + slice_index_or bytes 1 0) bytes ≡ span_text (span_of s) ++ more
+unfolding key_text
+key_passed s bytes more is =
+    let whole : bytes ≡ key_text s.key ++ (span_text (span_of s) ++ more) = is ∙ slot_split s more in
+    let second : slice_index_or bytes 1 0 ≡ length s.key.name = ap (λ (b : List ℕ). slice_index_or b 1 0) whole in
+    (λ i. drop (38 + second i) (whole i)) ∙ drop_at (key_text s.key) (span_text (span_of s) ++ more) (38 + length s.key.name) (length-key_text s.key)
+
 -- ---- slots
 
 slots_again : (slots : List Slot) (rest : List ℕ) → AllByRecursion FitsSlot slots → list_at plain_slot_at (length slots) (flat_map slot_text slots ++ rest) ≡ Ok (slots, rest)
@@ -86,25 +99,6 @@ slots_are count bytes slots spelled =
 -- so what spells slots spells those that are read
 pub spell_read : (count : ℕ) (bytes : List ℕ) (slots : List Slot) → SpellSlots count bytes slots → SpellSlots count bytes (slots_in count bytes)
 spell_read count bytes slots spelled = subst (λ (l : List Slot). SpellSlots count bytes l) (sym (slots_are count bytes slots spelled)) spelled
-
-pub spell_none : SpellSlots 0 [] []
-spell_none = record { text = refl; len = refl; fits = tt }
-
-all_append : {A : Type 0} (P : A → Type 0) (xs ys : List A) → AllByRecursion P xs → AllByRecursion P ys → AllByRecursion P (xs ++ ys)
-all_append P [] ys a b = b
-all_append P (x ∷ xs) ys a b = (a.0, all_append P xs ys a.1 b)
-
--- one text behind another
-pub spell_both : (m n : ℕ) (first more : List ℕ) (xs ys : List Slot) → SpellSlots m first xs → SpellSlots n more ys → SpellSlots (m + n) (first ++ more) (xs ++ ys)
-spell_both m n first more xs ys a b = record {
-  text = (λ i. a.text i ++ b.text i) ∙ sym (flat_map-append slot_text xs ys);
-  len = omega (arith, a.len, b.len, length-append xs ys);
-  fits = all_append FitsSlot xs ys a.fits b.fits;
-}
-
--- the spelling of one slot
-pub spell_one : (s : Slot) → FitsSlot s → SpellSlots 1 (slot_text s) (s ∷ [])
-spell_one s fits = record { text = sym (flat_map-cons slot_text s [] ∙ append-nil (slot_text s)); len = refl; fits = (fits, tt) }
 
 -- there are no more slots than bytes
 pub spell_few : (count : ℕ) (bytes : List ℕ) (slots : List Slot) → SpellSlots count bytes slots → 28 * count ≤ length bytes
@@ -268,7 +262,3 @@ unmoved from to (s ∷ slots) same may =
     let row : s.part.first_row ≡ (s.part.first_row - from) + to = omega (arith, may.0.0) in
     let first : s ≡ moved from to s = ap (λ (n : ℕ). record s { part = record s.part { first_row = n } }) row in
     λ i. first i ∷ unmoved from to slots same may.1 i
-
--- the slots of one text behind those of another
-pub joined_is : (m n : ℕ) (first more all : List ℕ) (xs ys : List Slot) → SpellSlots m first xs → SpellSlots n more ys → all ≡ first ++ more → SpellSlots (m + n) all (xs ++ ys)
-joined_is m n first more all xs ys a b e = subst (λ (bytes : List ℕ). SpellSlots (m + n) bytes (xs ++ ys)) (sym e) (spell_both m n first more xs ys a b)

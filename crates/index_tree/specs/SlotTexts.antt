@@ -3,8 +3,9 @@
 --     plain_slot_at       the next slot, by the layout of its fields alone
 --     slots_in            the slots that bytes spell
 --     SpellSlots, SpellFrom      bytes that are nothing but the spellings of slots, all and from a place on
+--     all_slots           the slots of runs
 --     moved, MayMove      a slot whose run of slots is moved, and one that may be
-use Rattle.std.specs.Prelude.{◌≡◌, ◌≤◌, ◌<◌, ◌^◌, ℕ, ◌+◌, ◌-◌, List, [], ◌++◌, length, drop, flat_map, Ok}
+use Rattle.std.specs.Prelude.{◌≡◌, ◌≤◌, ◌<◌, ◌^◌, ℕ, ◌+◌, ◌-◌, List, [], ◌∷◌, ◌++◌, length, drop, flat_map, Ok}
 use Rattle.std.specs.Int.{w16, w32, to_be_bytes}
 use Rattle.std.specs.List.{AllByRecursion}
 use Rattle.std.specs.Result.{result_unwrap_or}
@@ -62,6 +63,11 @@ pub record SpellSlots (count : ℕ) (bytes : List ℕ) (slots : List Slot) : Typ
 pub record SpellFrom (from count : ℕ) (bytes : List ℕ) : Type 0 where
   pub within : from ≤ length bytes
   pub spelled : SpellSlots count (drop from bytes) (slots_in count (drop from bytes))
+
+-- the slots of runs, one run behind another
+abbrev pub all_slots : List (List Slot) → List Slot
+all_slots [] = []
+all_slots (run ∷ runs) = run ++ all_slots runs
 
 -- the slot of a run that begins with the row `from`, where the run begins with the row `to` instead
 abbrev pub moved : ℕ → ℕ → Slot → Slot

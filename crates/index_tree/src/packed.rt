@@ -60,19 +60,21 @@ pub fn open(alloc: Global, body: &Arc<Body>) -> Result<PackedIndex, NoMemory>
     ensures found { IfOk result (λ packed. index_of (arc_value body.now) ≡ Ok packed) }
     ensures is_index { IfOk result IsIndex }
 {
-    match open_front(alloc, body) {
+    match open_front(alloc, body, body.bytes()) {
         Ok(packed) => Ok(packed),
         Err(Stop::NoMemory) => Err(NoMemory),
         Err(Stop::Bad { .. }) => unreachable!(),
     }
 }
 
+/// As `open`, where the body's bytes are lent beside it.
 #[tactic(auto, unfolding(crate::specs::IndexText::index_of, crate::specs::IndexText::index_at))]
-fn open_front(alloc: Global, body: &Arc<Body>) -> Result<PackedIndex, Stop>
+fn open_front(alloc: Global, body: &Arc<Body>, bytes: &[u8]) -> Result<PackedIndex, Stop>
+    requires bytes { bytes.now ≡ arc_value body.now }
     requires spelled { (index : Index) × (index_of (arc_value body.now) ≡ Ok index) }
-    ensures { Reads (λ packed. packed) result (index_of (arc_value body.now)) }
+    ensures found { Reads (λ packed. packed) result (index_of (arc_value body.now)) }
+    ensures is_index { IfOk result IsIndex }
 {
-    let bytes = body.bytes();
     let rest = read_magic(b"AIX1".as_slice(), bytes)?;
     let (columns, rest) = read_u16(rest)?;
     let (schema, rest) = read_schema(alloc, columns, rest)?;

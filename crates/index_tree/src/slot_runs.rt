@@ -1,6 +1,6 @@
 ghost use Rattle.std.specs.Prelude.{◌≡◌, ◌-◌, [], ◌++◌, length, map, option_map, slice_get, OnOk, OnErr};
-ghost use Rattle.std.specs.List.{concat, AllByRecursion};
-ghost use Rattle.index_tree.specs.SlotTexts.{span_of, moved as shifted, MayMove};
+ghost use Rattle.std.specs.List.{AllByRecursion};
+ghost use Rattle.index_tree.specs.SlotTexts.{span_of, all_slots, moved as shifted, MayMove};
 
 use crate::slot_text::SlotText;
 use crate::span::Span;
@@ -18,14 +18,14 @@ pub struct SlotRuns {
 
 impl Model for SlotRuns {
     ghost use Rattle.std.specs.Prelude.{◌≡◌, List, length};
-    ghost use Rattle.std.specs.List.{concat};
     ghost use Rattle.index_tree.specs.declared.index.Slot.{Slot};
+    ghost use Rattle.index_tree.specs.SlotTexts.{all_slots};
 
     ghost Value = { List Slot };
 
-    ghost view = { λ r. concat r.runs };
+    ghost view = { λ r. all_slots r.runs };
 
-    ghost invariant = { λ r. r.count ≡ length (concat r.runs) };
+    ghost invariant = { λ r. r.count ≡ length (all_slots r.runs) };
 }
 
 impl SlotRuns {
@@ -48,7 +48,7 @@ impl SlotRuns {
 
     /// The runs.
     pub(crate) fn runs(&self) -> &[SlotText]
-        ensures { concat result.now ≡ self.now }
+        ensures { all_slots result.now ≡ self.now }
     {
         self.runs.items()
     }
@@ -86,13 +86,26 @@ impl SlotRuns {
     pub fn first(&self) -> Option<Span>
         ensures { result ≡ option_map span_of (slice_get self.now 0) }
     {
-        self.runs.items().iter().find_map(|run| run.first())
+        let runs = self.runs.items();
+        for run in runs {
+            if let Some(span) = run.first() {
+                return Some(span);
+            }
+        }
+        None
     }
 
     /// The rows, columns and stamps of the last slot.
     pub fn last(&self) -> Option<Span>
         ensures { result ≡ option_map span_of (slice_get self.now (length self.now - 1)) }
     {
-        self.runs.items().iter().rev().find_map(|run| run.last())
+        let mut runs = self.runs.items();
+        while let Some((run, before)) = runs.split_last() {
+            if let Some(span) = run.last() {
+                return Some(span);
+            }
+            runs = before;
+        }
+        None
     }
 }

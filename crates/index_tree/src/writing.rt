@@ -1,8 +1,9 @@
 ghost use Rattle.std.specs.Prelude.{◌≡◌, ◌<◌, ◌^◌, ◌++◌, length, IfOk, OnOk, Ok};
-ghost use Rattle.std.specs.List.{flat_map, concat, AllByRecursion};
+ghost use Rattle.std.specs.List.{flat_map, AllByRecursion};
 ghost use Rattle.segment_bytes.specs.Heads.{head_text};
 ghost use Rattle.index_tree.specs.IndexText.{slot_text, front_text, index_text, index_of};
 ghost use Rattle.index_tree.specs.IndexRules.{IsIndex, FitsSlot};
+ghost use Rattle.index_tree.specs.SlotTexts.{all_slots};
 
 use crate::index::{Index, Slot};
 use crate::slot_runs::SlotRuns;
@@ -127,7 +128,7 @@ pub(crate) fn put_slots(out: &mut Vec<u8>, slots: &[Slot]) -> Result<(), NoMemor
 
 /// Adds the slots of runs, one behind another, as they are spelled.
 fn put_runs(out: &mut Vec<u8>, runs: &[SlotText]) -> Result<(), NoMemory>
-    ensures { OnOk result (out.new.items ≡ out.old.items ++ flat_map slot_text (concat runs.now)) }
+    ensures { OnOk result (out.new.items ≡ out.old.items ++ flat_map slot_text (all_slots runs.now)) }
 {
     for run in runs {
         put_bytes(out, run.bytes())?;

@@ -7,5 +7,5 @@ use Rattle.index_tree.proofs.writing.build_packed.Goals as goal
 pub returns-clause-read : goal.returns-clause-read
 returns-clause-read c =
     let index : Index = record { schema = c.args.schema.now; rows = c.args.rows; slots = c.args.slots.now } in
-    let text : c.put_bytes.new.out.items ≡ index_text index = search rules in
+    let text : c.put_runs.new.out.items ≡ index_text index = search rules in
     ap index_of text ∙ index_again index c.requires

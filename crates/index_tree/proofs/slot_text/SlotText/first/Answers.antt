@@ -1,19 +1,19 @@
-use Rattle.std.proofs.Common.{◌∙◌, ◌<◌, arith, sym, ap, Some, List}
-use Rattle.std.specs.Prelude.{option_map, slice_get}
-use Rattle.index_tree.specs.declared.index.Slot.{Slot}
-use Rattle.index_tree.specs.SlotTexts.{span_of, plain_slot_at}
-use Rattle.index_tree.proofs.SlotTextLaws.{first_is, plain_slot_again, slot_read_is}
+use Rattle.std.proofs.Common.{◌∙◌, ◌<◌, arith, refl, sym, ap, Some, length}
+use Rattle.std.specs.Prelude.{option_map}
+use Rattle.index_tree.specs.SlotTexts.{span_of, SpellSlots}
+use Rattle.index_tree.proofs.SlotTextLaws.{first_is}
 use Rattle.index_tree.proofs.slot_text.SlotText.first.Goals as goal
 
-pub first_slot-requires : goal.first_slot-requires
-first_slot-requires c =
-    let some : 0 < c.self.inside.count = omega arith in
-    let f = first_is _ _ _ c.self.invariant some in
-    record { spelled = ((f.0, f.1), ap plain_slot_at (c.as_slice.ensures.value ∙ f.4) ∙ plain_slot_again f.0 f.1 f.3) }
+pub pass_slot-requires : goal.pass_slot-requires
+pass_slot-requires c =
+    let spelled : SpellSlots (length c.args.self.now) c.bytes.result.now c.args.self.now = record { text = c.bytes.ensures.text; len = refl; fits = c.bytes.ensures.fits } in
+    let some : 0 < length c.args.self.now = omega (arith, c.self.invariant.spelled.len, ap length c.self.view_is) in
+    let f = first_is _ _ _ spelled some in
+    record { spelled = (f.0, f.1, f.4, f.3) }
 
 pub returns : goal.returns
 returns c =
-    let some : 0 < c.self.inside.count = omega arith in
-    let f = first_is _ _ _ c.self.invariant some in
-    let r = slot_read_is f.0 _ f.1 _ _ _ f.3 (c.as_slice.ensures.value ∙ f.4) c.first_slot.ensures.slot in
-    ap (λ x. Some x) r.span_is ∙ (ap (option_map span_of) (sym f.2) ∙ ap (λ (l : List Slot). option_map span_of (slice_get l 0)) c.self.view_is)
+    let spelled : SpellSlots (length c.args.self.now) c.bytes.result.now c.args.self.now = record { text = c.bytes.ensures.text; len = refl; fits = c.bytes.ensures.fits } in
+    let some : 0 < length c.args.self.now = omega (arith, c.self.invariant.spelled.len, ap length c.self.view_is) in
+    let f = first_is _ _ _ spelled some in
+    ap (λ x. Some x) (c.pass_slot.ensures f.0 f.1 f.4 f.3).0 ∙ ap (option_map span_of) (sym f.2)
