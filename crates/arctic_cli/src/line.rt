@@ -1,6 +1,6 @@
 //! The pieces of printed lines, each added to the end of a line.
 
-ghost use Rattle.std.specs.Prelude.{◌≡◌, ◌++◌, ◌∷◌, [], OnOk, decimal, codes};
+ghost use Rattle.std.specs.Prelude.{◌≡◌, ◌++◌, OnOk, decimal, codes};
 ghost use Rattle.std.specs.Fmt.{signed_decimal};
 ghost use Rattle.arctic_cli.specs.Commas.{comma_before};
 ghost use Rattle.arctic_cli.specs.FrameText.{ended};

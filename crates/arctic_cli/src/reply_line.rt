@@ -1,6 +1,6 @@
 //! The line of a reply, and of the end.
 
-ghost use Rattle.std.specs.Prelude.{◌≡◌, ◌++◌, IfOk, OnOk, codes};
+ghost use Rattle.std.specs.Prelude.{◌≡◌, ◌++◌, IfOk, OnOk};
 ghost use Rattle.std.specs.List.{join_with_byte};
 ghost use Rattle.arctic_cli.specs.Transcript.{listed_text, left_text, reply_line, end_line};
 

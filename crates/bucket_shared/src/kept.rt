@@ -6,7 +6,7 @@ ghost use Rattle.turn_cell.specs.declared.badge.Badge.{Badge};
 ghost use Rattle.turn_cell.specs.Badges.{spent_badge};
 ghost use Rattle.bucket_core.specs.Calls.{IsSteady, refers_after};
 ghost use Rattle.bucket_shared.specs.Notes.{HasNoted, NoneAfter, log_of};
-ghost use Rattle.bucket_shared.specs.Passes.{store_of, badge_of, seen_of, number_of, limit_of, sole_of, no_faults};
+ghost use Rattle.bucket_shared.specs.Passes.{store_of, badge_of, seen_of, number_of, limit_of, sole_of};
 ghost use Rattle.bucket_shared.specs.Rows.{row};
 
 use crate::pass::Pass;

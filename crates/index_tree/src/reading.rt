@@ -11,7 +11,7 @@ use crate::reach::Reach;
 use crate::slot_view::read_slot;
 use base_types::{Items, NoMemory};
 use byte_fields::{read_magic, read_u16, read_u32};
-use frame_core::{ColName, ColType, Schema};
+use frame_core::{ColName, Schema};
 use segment_bytes::read_head;
 use std::alloc::Global;
 use std::collections::BTreeSet;

@@ -1,6 +1,6 @@
 //! Versions are buried in one commit, which is tried again where another client's commit came between.
 
-ghost use Rattle.std.specs.Prelude.{◌≡◌, ◌≤◌, option_copied};
+ghost use Rattle.std.specs.Prelude.{◌≤◌, option_copied};
 ghost use Rattle.bucket_core.specs.Calls.{IsSteady};
 ghost use Rattle.expr_clause.specs.declared.command.Command.TheVariants.{Delete, Prune};
 ghost use Rattle.reply_model.specs.declared.outcome.Outcome.TheVariants.{Deleted, Pruned};

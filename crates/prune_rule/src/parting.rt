@@ -1,8 +1,7 @@
 //! Which versions of a symbol are kept.
 
-ghost use Rattle.std.specs.Prelude.{◌≡◌, ◌||◌, ◌++◌, ◌∷◌, [], ℕ, not, filter, reverse, nat_eq, IfOk, OnOk};
+ghost use Rattle.std.specs.Prelude.{◌≡◌, ◌||◌, ℕ, not, nat_eq, IfOk, OnOk};
 ghost use Rattle.std.specs.List.{list_any};
-ghost use Rattle.version_chain.specs.States.{is_tomb};
 ghost use Rattle.prune_rule.specs.DeadKeys.{has_number, AreParted, PartsFrom};
 
 use base_types::{Items, NoMemory};

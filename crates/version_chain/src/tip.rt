@@ -1,4 +1,4 @@
-ghost use Rattle.std.specs.Prelude.{◌≡◌, ◌++◌, [], ◌∷◌, filter, filter_map, find, length, map, reverse, Some, false, IfOk, IfErr, OnOk, option_copied, if◌then◌else◌};
+ghost use Rattle.std.specs.Prelude.{◌≡◌, ◌++◌, [], ◌∷◌, filter_map, find, length, reverse, Some, false, IfOk, IfErr, OnOk, if◌then◌else◌};
 ghost use Rattle.std.specs.List.{list_any};
 ghost use Rattle.bucket_core.specs.History.{reference};
 ghost use Rattle.bucket_core.specs.Laws.{Looks};
