@@ -1,10 +1,9 @@
 -- What a walk answers.
 --     IsStateOf           the state of a symbol in a history
 --     IsStateAt           its state at a place of a history
---     live_links          the live links, the newest first
 --     newest_link, live_link      the live link of the greatest version, and of a version
 --     RefusesWalk         the refusals of a walk
-use Rattle.std.specs.Prelude.{◌≡◌, ℕ, ◌≤◌, Bool, not, List, ◌++◌, length, map, reverse, Option, None, ⊤, nat_eq, filter, find, if◌then◌else◌}
+use Rattle.std.specs.Prelude.{◌≡◌, ℕ, ◌≤◌, Bool, not, List, ◌++◌, length, map, reverse, Option, None, ⊤, nat_eq, find, if◌then◌else◌}
 use Rattle.std.specs.List.{list_any}
 use Rattle.base_types.specs.Faults.{Rose}
 use Rattle.frame_core.specs.declared.refusal.Refusal.{Refusal}
@@ -49,10 +48,6 @@ pub record IsWithin (old new : History) (place : ℕ) : Type 0 where
 -- the version is buried
 abbrev pub is_tomb : List ℕ → ℕ → Bool
 is_tomb tombs version = list_any (nat_eq version) tombs
-
--- the live links, the newest first
-abbrev pub live_links : SymbolState → List LinkRow
-live_links state = filter (λ row. not (is_tomb state.tombs row.version)) (reverse state.links)
 
 -- the live link of the greatest version, where the links rise
 abbrev pub newest_link : SymbolState → Option LinkRow
