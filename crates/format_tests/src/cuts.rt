@@ -1,4 +1,5 @@
 use crate::columns::{cell_of, ints_of, names_of, texts_of};
+use crate::parts::numbers_of;
 use frame_core::{CellRef, Column, Frame, Items, Part, RawFrame};
 use segment_cut::{Cutting, Grid, NoMemory, join, tiles_of};
 use std::alloc::Global;
@@ -56,11 +57,6 @@ fn last_part(rows: u64, cols: u64) -> Option<(u64, u64, Option<Part>)> {
         }
     }
     Some((blocks, slices, None))
-}
-
-// The first row and column of a part, and how many it has.
-fn numbers_of(part: Part) -> (u64, u64, u64, u64) {
-    (part.first_row, part.rows, part.first_col, part.cols)
 }
 
 #[test]

@@ -1,7 +1,11 @@
 use frame_core::{ColType, Range};
-use index_tree::{Index, IndexFault, Keep, build, build_packed, covering, open, read};
+use index_tree::{
+    Body, Index, IndexFault, Keep, PackedIndex, SlotRuns, build, build_packed, covered, covering,
+    open, read,
+};
 use key_kind::KeyKind;
 use std::alloc::Global;
+use std::sync::Arc;
 use std::test::Fail;
 
 // Five rows of the Int column `a`, in one tile of symbol S with the stamps 1 to 9.
@@ -32,15 +36,42 @@ fn rebuilt(alloc: Global, bytes: &[u8]) -> Result<Vec<u8>, Fail> {
     Ok(build(alloc, &index)?)
 }
 
+// The index of these bytes, which are read once so that they are known to spell one, with its slots where they lie.
+fn opened(alloc: Global, bytes: &[u8]) -> Result<PackedIndex, Fail> {
+    let _read = read(alloc, bytes)?;
+    let body = Arc::new(alloc, Body::make(Vec::from_slice(alloc, bytes)?))?;
+    Ok(open(alloc, &body)?)
+}
+
 // The bytes of the index that was opened, of which no slot was read.
 fn reopened(alloc: Global, bytes: &[u8]) -> Result<Vec<u8>, Fail> {
     let _read = read(alloc, bytes)?;
-    let index = open(alloc, bytes)?;
-    Ok(build_packed(alloc, index.schema(), index.rows(), index.slots())?)
+    let body = Arc::new(alloc, Body::make(Vec::from_slice(alloc, bytes)?))?;
+    let index = open(alloc, &body)?;
+    let mut slots = SlotRuns::new(alloc);
+    slots.push(index.slots().copy(alloc)?)?;
+    Ok(build_packed(alloc, index.schema(), index.rows(), &slots)?)
+}
+
+// The serials of the keys of the slots of `THREE_TILES` that these ends and columns ask for: each is the place of its slot.
+fn serials(
+    alloc: Global,
+    from: Option<i64>,
+    to: Option<i64>,
+    columns: &[u64],
+) -> Result<Vec<u64>, Fail> {
+    let mut serials = Vec::new(alloc);
+    if let Some(range) = Range::make(from, to) {
+        let index = opened(alloc, THREE_TILES)?;
+        for slot in covered(alloc, index.slots(), range, columns)?.items() {
+            serials.push(slot.key.serial)?;
+        }
+    }
+    Ok(serials)
 }
 
 // The places of the tiles of `THREE_TILES` that these ends and columns ask for.
-fn covered(
+fn places(
     alloc: Global,
     from: Option<i64>,
     to: Option<i64>,
@@ -105,10 +136,11 @@ fn slots_that_are_spelled_tell_their_ends_and_go_behind_others(
     rt: HostRuntime,
 ) -> Result<(), Fail> {
     let alloc = rt.alloc();
-    let _read = read(alloc, THREE_TILES)?;
-    let index = open(alloc, THREE_TILES)?;
-    let mut slots = index.slots().copy(alloc)?;
-    slots.extend(index.slots())?;
+    let index = opened(alloc, THREE_TILES)?;
+    let mut slots = SlotRuns::new(alloc);
+    assert!(rt; slots.len() == 0 && slots.first().is_none() && slots.last().is_none());
+    slots.push(index.slots().copy(alloc)?)?;
+    slots.push(index.slots().copy(alloc)?)?;
     assert!(rt; slots.len() == 6);
     assert!(rt; slots.first().is_some() && slots.last().is_some());
     if let Some(first) = slots.first() {
@@ -119,9 +151,9 @@ fn slots_that_are_spelled_tell_their_ends_and_go_behind_others(
         assert!(rt; last.part.first_row == 2 && last.part.rows == 3 && last.part.cols == 2);
         assert!(rt; last.first == 2 && last.last == 9);
     }
-    let items = slots.to_slots(alloc)?;
-    assert!(rt; items.len() == 6);
-    assert!(rt; items.at(4).key.serial == 1 && items.at(4).part.first_col == 1);
+    let items = index.slots().to_slots(alloc)?;
+    assert!(rt; items.len() == 3);
+    assert!(rt; items.at(1).key.serial == 1 && items.at(1).part.first_col == 1);
     Ok(())
 }
 
@@ -229,27 +261,27 @@ fn the_edges_of_a_range_take_the_tiles_that_they_touch(rt: HostRuntime) -> Resul
     let alloc = rt.alloc();
     let both = [0, 1];
     assert_eq!(rt;
-        covered(alloc, None, None, &both)?.as_slice(),
+        places(alloc, None, None, &both)?.as_slice(),
         [0, 1, 2].as_slice()
     );
     assert_eq!(rt;
-        covered(alloc, Some(2), Some(2), &both)?.as_slice(),
+        places(alloc, Some(2), Some(2), &both)?.as_slice(),
         [0, 1, 2].as_slice()
     );
     assert_eq!(rt;
-        covered(alloc, Some(3), Some(8), &both)?.as_slice(),
+        places(alloc, Some(3), Some(8), &both)?.as_slice(),
         [2].as_slice()
     );
     assert_eq!(rt;
-        covered(alloc, Some(9), None, &both)?.as_slice(),
+        places(alloc, Some(9), None, &both)?.as_slice(),
         [2].as_slice()
     );
     assert_eq!(rt;
-        covered(alloc, None, Some(1), &both)?.as_slice(),
+        places(alloc, None, Some(1), &both)?.as_slice(),
         [0, 1].as_slice()
     );
-    assert!(rt; covered(alloc, Some(10), None, &both)?.is_empty());
-    assert!(rt; covered(alloc, None, Some(0), &both)?.is_empty());
+    assert!(rt; places(alloc, Some(10), None, &both)?.is_empty());
+    assert!(rt; places(alloc, None, Some(0), &both)?.is_empty());
     Ok(())
 }
 
@@ -257,21 +289,47 @@ fn the_edges_of_a_range_take_the_tiles_that_they_touch(rt: HostRuntime) -> Resul
 fn columns_take_their_slices_and_no_columns_the_first(rt: HostRuntime) -> Result<(), Fail> {
     let alloc = rt.alloc();
     assert_eq!(rt;
-        covered(alloc, None, None, &[])?.as_slice(),
+        places(alloc, None, None, &[])?.as_slice(),
         [0, 2].as_slice()
     );
     assert_eq!(rt;
-        covered(alloc, None, None, &[0])?.as_slice(),
+        places(alloc, None, None, &[0])?.as_slice(),
         [0, 2].as_slice()
     );
     assert_eq!(rt;
-        covered(alloc, None, None, &[1])?.as_slice(),
+        places(alloc, None, None, &[1])?.as_slice(),
         [1, 2].as_slice()
     );
     assert_eq!(rt;
-        covered(alloc, None, None, &[7, 1, 0, 1])?.as_slice(),
+        places(alloc, None, None, &[7, 1, 0, 1])?.as_slice(),
         [0, 1, 2].as_slice()
     );
-    assert!(rt; covered(alloc, None, None, &[2, 7])?.is_empty());
+    assert!(rt; places(alloc, None, None, &[2, 7])?.is_empty());
+    Ok(())
+}
+
+#[test]
+fn slots_are_found_where_they_lie_as_in_an_index_that_was_read(
+    rt: HostRuntime,
+) -> Result<(), Fail> {
+    let alloc = rt.alloc();
+    let both = [0, 1];
+    assert_eq!(rt;
+        serials(alloc, None, None, &both)?,
+        places(alloc, None, None, &both)?
+    );
+    assert_eq!(rt;
+        serials(alloc, Some(3), Some(8), &both)?,
+        places(alloc, Some(3), Some(8), &both)?
+    );
+    assert_eq!(rt;
+        serials(alloc, None, Some(1), &[1])?,
+        places(alloc, None, Some(1), &[1])?
+    );
+    assert_eq!(rt;
+        serials(alloc, None, None, &[])?,
+        places(alloc, None, None, &[])?
+    );
+    assert!(rt; serials(alloc, Some(10), None, &both)?.is_empty());
     Ok(())
 }

@@ -12,7 +12,10 @@ mod frames;
 mod indexes;
 #[cfg(test)]
 mod keys;
+mod parts;
 #[cfg(test)]
 mod scripts;
 #[cfg(test)]
 mod segments;
+
+pub use parts::numbers_of;

@@ -2,6 +2,7 @@
 //! proved twice, and those below are the largest.
 #![tactic(auto)]
 
+mod answers;
 #[cfg(test)]
 mod appends;
 #[cfg(test)]
@@ -18,3 +19,5 @@ mod stores;
 mod updates;
 #[cfg(test)]
 mod writes;
+
+pub use answers::committed;

@@ -89,14 +89,6 @@ pub(crate) fn write<R: Wait, B: Bucket<StoreLaw>>(
     Ok(write_link(rt, alloc, bucket, &symbol, frame, &options))
 }
 
-// The version and the place of a commit.
-pub(crate) fn committed(answer: Result<Committed, Refused>) -> Option<(u64, u64)> {
-    match answer {
-        Ok(Committed { version, place }) => Some((version, place)),
-        Err(_) => None,
-    }
-}
-
 // How many keys of a kind are stored.
 pub(crate) fn stored<R: Wait, B: Bucket<StoreLaw>>(
     rt: &R,

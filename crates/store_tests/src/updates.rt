@@ -1,8 +1,9 @@
 ghost use Rattle.std.specs.Prelude.{◌≡◌, IfOk};
 ghost use Rattle.frame_core.specs.Limits.{IsStorable};
 
+use crate::answers::committed;
 use crate::libraries::{everything, library, read};
-use crate::stores::{committed, five_rows, rows, store, stored, symbol, tiles, write};
+use crate::stores::{five_rows, rows, store, stored, symbol, tiles, write};
 use append_update::{Committed, Options, delete_range, update};
 use base_types::Items;
 use bucket_core::{Bucket, Event, PlainBucket};
