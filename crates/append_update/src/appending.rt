@@ -25,7 +25,7 @@ use version_chain::StoreLaw;
 /// is none, it writes the frame. It may wait for the store.
 ///
 /// Each try walks the symbol's chain and gets the newest index, and no tile unless the bytes of all texts might be too many. The new
-/// version shares all tiles of the one before it; the new rows are cut by themselves. It refuses, in this order, columns that differ
+/// version shares all tiles of that one; the new rows are cut by themselves. It refuses, in this order, columns that differ
 /// from the base's, a first stamp below the base's last, and a whole that is too large.
 pub fn append<R: Wait, B: Bucket<StoreLaw>>(
     rt: &R,
@@ -41,7 +41,8 @@ pub fn append<R: Wait, B: Bucket<StoreLaw>>(
     ensures steady { IsSteady B.number B.limit B.faults B.sole bucket.old bucket.new }
     ensures grown { GoesOn (B.number bucket.old) (B.sole bucket.old) (B.seen bucket.old) (B.seen bucket.new) }
     ensures legal { IsLegalAppend (B.limit bucket.old) (B.number bucket.old) symbol.now frame.now options.now (B.faults bucket.old) (B.faults bucket.new) (B.seen bucket.old) (B.seen bucket.new) result }
-    // Whatever other clients do, each slot of the version before stays as it was, and behind them stand those of the frame.
+    // Whatever other clients do, each slot of the newest live version just before the commit stays as it was, and behind them stand
+    // those of the frame.
     ensures shares { IfOk result (λ done. SharesAs (B.number bucket.old) symbol.now (AppendsSlots symbol.now options.now.cutting frame.now) done.place (B.seen bucket.old) (B.seen bucket.new)) }
     // Where nobody else makes events, the place and the row blocks of the commit are known.
     ensures lays { GrowsAlone (B.number bucket.old) (B.seen bucket.old) (B.seen bucket.new) → IfOk result (λ done. LaysAs (run_cutting options.now.cutting) symbol.now (λ st. append_answer st options.now.prune options.now.at frame.now) done.place (B.seen bucket.old) (B.seen bucket.new)) }

@@ -260,7 +260,7 @@ fn stamp_of(options: &Options) -> i64
 }
 
 /// Whether the texts of a frame and of the base have too many bytes. The slots of the base's index are read only where it has a
-/// column of text. It may wait for the store.
+/// column of text and the frame has rows. It may wait for the store.
 fn append_exceeds<R: Wait, B: Bucket<StoreLaw>>(
     rt: &R,
     alloc: Global,
@@ -276,7 +276,7 @@ fn append_exceeds<R: Wait, B: Bucket<StoreLaw>>(
     ensures exceeds { (b : IsBaseAt (B.number bucket.old) (B.seen bucket.old) symbol.now base.now) → IfOk result (λ exceeds. IsTrue exceeds ↔ (67108864 < text_total (kept_rows None b.version.frame.rows) + text_total frame.now.rows)) }
     ensures refused { IfErr result (RefusesBase (B.number bucket.old) symbol.now base.now.target.place (B.faults bucket.old) (B.faults bucket.new) (B.seen bucket.old) (B.seen bucket.new)) }
 {
-    if !has_texts(base.index().schema().columns()) {
+    if frame.rows() == 0 || !has_texts(base.index().schema().columns()) {
         return Ok(false);
     }
     match base.unpacked(alloc) {

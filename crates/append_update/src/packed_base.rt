@@ -1,4 +1,4 @@
-//! The newest live version with its index as it is spelled.
+//! The newest live version with its index where it lies.
 
 ghost use Rattle.std.specs.Prelude.{◌≡◌, IfOk};
 
@@ -9,7 +9,7 @@ use index_tree::{Index, PackedIndex};
 use std::alloc::Global;
 use std::marker::Model;
 
-/// The newest live version of a walked state, of whose index no slot was read. Contracts see the base.
+/// The newest live version of a walked tip, of whose index no slot was read. Contracts see the base.
 #[derive(Drop)]
 pub(crate) struct PackedBase {
     /// The version, with the key of its index.
@@ -27,7 +27,7 @@ impl Model for PackedBase {
 }
 
 impl PackedBase {
-    /// The place of the state whose newest live version it is.
+    /// The place of the tip whose newest live version it is.
     pub(crate) fn place(&self) -> u64
         ensures { result ≡ self.now.target.place }
     {
