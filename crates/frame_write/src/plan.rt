@@ -11,9 +11,9 @@ ghost use Rattle.frame_write.specs.WritePlans.{IsWritePlan};
 ghost use Rattle.frame_write.specs.Links.{FitsPlan};
 ghost use Rattle.frame_write.specs.Versions.{AddsElement, MayPlan, IsPlanOf};
 
+use crate::changes::{changes_of, changes_with};
 use crate::elements::{mark_of, place_element};
 use crate::laying::{Layout, lay_out, place_slots};
-use crate::numbers::{changes_of, changes_with};
 use crate::options::Options;
 use crate::pieces::LinkPlan;
 use crate::placing::{Placed, place_index, place_tiles};
