@@ -1,5 +1,5 @@
 -- One try on a walked tip: the plan is one for the client's next puts, and its commit makes what was asked.
-use Rattle.std.proofs.Common.{◌≡◌, ℕ, suc, ◌≤◌, ℤ, true, false, cond, [], ◌∷◌, ◌++◌, length, ap, sym, ◌∙◌, subst, arith, nat_eq}
+use Rattle.std.proofs.Common.{◌≡◌, ℕ, suc, ◌≤◌, true, false, cond, [], ◌∷◌, ◌++◌, length, ap, sym, ◌∙◌, subst, arith, nat_eq}
 use Rattle.index_tree.specs.declared.index.Index.{Index}
 use Rattle.key_kind.specs.Names.{Name}
 use Rattle.bucket_core.specs.declared.event.Event.TheVariants as events

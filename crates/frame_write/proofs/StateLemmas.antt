@@ -1,5 +1,5 @@
 -- What a lawful history tells of a walked tip: its reference is an element, and what it buries rises.
-use Rattle.std.proofs.Common.{◌≡◌, Bool, true, false, List, [], ◌∷◌, ◌++◌, map, reverse, ap, sym, subst, ◌∙◌, refl}
+use Rattle.std.proofs.Common.{◌≡◌, Bool, true, false, List, [], ◌∷◌, ◌++◌, map, reverse, ap, sym, subst, refl}
 use Rattle.std.specs.Prelude.{IfSome}
 use mathlib.Core.Logic.{∥∥₁_map}
 use Rattle.key_kind.specs.Names.{Name}

@@ -11,6 +11,7 @@ ghost use Rattle.frame_write.specs.Placing.{slot_at};
 ghost use Rattle.frame_write.specs.Laying.{behind, fresh_laid, slots_laid, puts_laid, piece_rows, rows_in, FitsAt, MayMove, MayLay};
 ghost use Rattle.frame_write.specs.Layouts.{AddsPiece, IsLaid};
 ghost use Rattle.frame_write.specs.SlotKeys.{first_of, last_of, slots_key};
+ghost use Rattle.frame_write.specs.Versions.{index_with};
 
 use crate::pieces::Piece;
 use crate::puts::Prepared;
@@ -220,32 +221,31 @@ pub(crate) fn lay_out(
     Ok(layout)
 }
 
-/// The index of these slots under its key, which has the stamps of the first and of the last slot.
+/// The index of what was laid out. Its key has the serial behind those of the new tiles, and the stamps of the first and of the
+/// last slot.
 pub(crate) fn place_slots(
     alloc: Global,
     client: u32,
-    serial: u64,
     symbol: &Symbol,
     version: u64,
     schema: &Schema,
-    rows: u64,
-    slots: &SlotRuns,
+    layout: &Layout,
 ) -> Result<Prepared, NoMemory>
-    requires { IsIndex (record { schema = schema.now; rows = rows; slots = slots.now }) }
-    ensures key { IfOk result (λ put. put.key ≡ slots_key client symbol.now version serial slots.now) }
-    ensures body { IfOk result (λ put. index_of (arc_value put.body) ≡ Ok (record { schema = schema.now; rows = rows; slots = slots.now })) }
+    requires { IsIndex (index_with schema.now layout.now) }
+    ensures key { IfOk result (λ put. put.key ≡ slots_key client symbol.now version layout.now.next layout.now.slots) }
+    ensures body { IfOk result (λ put. index_of (arc_value put.body) ≡ Ok (index_with schema.now layout.now)) }
     ensures is_name { OnOk result (IsName symbol.now) }
 {
     let key = Key {
         kind: KeyKind::TableIndex,
         name: symbol.name().copy(alloc)?,
         client,
-        serial,
+        serial: layout.next,
         version,
-        first: first_of(slots),
-        last: last_of(slots),
+        first: first_of(&layout.slots),
+        last: last_of(&layout.slots),
     };
-    let bytes = build_packed(alloc, schema, rows, slots)?;
+    let bytes = build_packed(alloc, schema, layout.rows, &layout.slots)?;
     let body = Arc::new(alloc, Body::make(bytes))?;
     Ok(Prepared { key, body })
 }

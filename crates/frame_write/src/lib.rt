@@ -3,12 +3,12 @@
 #![tactic(auto)]
 
 mod attempt;
+mod changes;
 mod commit;
 mod drops;
 mod elements;
 mod laying;
 mod link;
-mod numbers;
 mod options;
 mod pieces;
 mod placing;

@@ -11,9 +11,9 @@ ghost use Rattle.frame_write.specs.WritePlans.{IsWritePlan};
 ghost use Rattle.frame_write.specs.Links.{FitsPlan};
 ghost use Rattle.frame_write.specs.Versions.{AddsElement, MayPlan, IsPlanOf};
 
+use crate::changes::{changes_of, changes_with};
 use crate::elements::{mark_of, place_element};
-use crate::laying::{Layout, lay_out, place_slots};
-use crate::numbers::{changes_of, changes_with};
+use crate::laying::{lay_out, place_slots};
 use crate::options::Options;
 use crate::pieces::LinkPlan;
 use crate::placing::{Placed, place_index, place_tiles};
@@ -118,12 +118,7 @@ pub(crate) fn plan_link(
     ensures { IfOk result (λ made. (before : History) → MayPlan client serial before symbol.now options.now.prune tip.now → FitsPlan before symbol.now options.now.at link.now → IsPlanOf client serial before symbol.now options.now link.now.change link.now.pieces made) }
 {
     let version = tip.next;
-    let Layout {
-        slots,
-        mut puts,
-        rows,
-        next,
-    } = lay_out(
+    let mut layout = lay_out(
         alloc,
         client,
         serial,
@@ -132,21 +127,12 @@ pub(crate) fn plan_link(
         link.pieces.items(),
         options.cutting,
     )?;
-    let Some(last) = next.checked_add(1) else {
+    let Some(last) = layout.next.checked_add(1) else {
         return Err(NoMemory);
     };
-    let index = place_slots(
-        alloc,
-        client,
-        next,
-        symbol,
-        version,
-        &link.schema,
-        rows,
-        &slots,
-    )?;
+    let index = place_slots(alloc, client, symbol, version, &link.schema, &layout)?;
     let index_key = index.key.copy(alloc)?;
-    puts.push(index)?;
+    layout.puts.push(index)?;
     plan_element(
         alloc,
         client,
@@ -154,9 +140,9 @@ pub(crate) fn plan_link(
         symbol,
         tip,
         version,
-        rows,
+        layout.rows,
         index_key,
-        puts,
+        layout.puts,
         &link.change,
         options,
     )

@@ -24,27 +24,27 @@ lay_out-requires c =
 pub place_slots-requires : goal.place_slots-requires
 place_slots-requires c =
     let r = c.requires.fits in
-    let fits : FitsTry c.args.client c.args.symbol.now c.args.tip.now.next = record { client_fits = c.ranges.client.fits; is_name = c.in_ok-slots.ensures.is_name; version_fits = omega (arith, c.ranges) } in
-    let laid = subst (λ (ps : List Piece). IsLaid c.args.client c.args.symbol.now c.args.tip.now.next c.args.options.now.cutting c.args.serial ps c.in_ok-slots.field-0) c.items.ensures c.in_ok-slots.ensures.laid in
-    link_index c.args.client c.args.serial c.args.symbol.now c.args.tip.now.next r.0 c.args.options.now.prune c.args.tip.now c.args.options.now.at c.args.link.now c.args.options.now.cutting c.in_ok-slots.field-0 fits r.1 r.2 laid
+    let fits : FitsTry c.args.client c.args.symbol.now c.args.tip.now.next = record { client_fits = c.ranges.client.fits; is_name = c.in_ok-layout.ensures.is_name; version_fits = omega (arith, c.ranges) } in
+    let laid = subst (λ (ps : List Piece). IsLaid c.args.client c.args.symbol.now c.args.tip.now.next c.args.options.now.cutting c.args.serial ps c.in_ok-layout.layout) c.items.ensures c.in_ok-layout.ensures.laid in
+    link_index c.args.client c.args.serial c.args.symbol.now c.args.tip.now.next r.0 c.args.options.now.prune c.args.tip.now c.args.options.now.at c.args.link.now c.args.options.now.cutting c.in_ok-layout.layout fits r.1 r.2 laid
 
 pub plan_element-requires : goal.plan_element-requires
 plan_element-requires c =
     let r = c.requires.fits in
-    let fits : FitsTry c.args.client c.args.symbol.now c.args.tip.now.next = record { client_fits = c.ranges.client.fits; is_name = c.in_ok-slots.ensures.is_name; version_fits = omega (arith, c.ranges) } in
-    let laid = subst (λ (ps : List Piece). IsLaid c.args.client c.args.symbol.now c.args.tip.now.next c.args.options.now.cutting c.args.serial ps c.in_ok-slots.field-0) c.items.ensures c.in_ok-slots.ensures.laid in
-    let index = link_index c.args.client c.args.serial c.args.symbol.now c.args.tip.now.next r.0 c.args.options.now.prune c.args.tip.now c.args.options.now.at c.args.link.now c.args.options.now.cutting c.in_ok-slots.field-0 fits r.1 r.2 laid in
+    let fits : FitsTry c.args.client c.args.symbol.now c.args.tip.now.next = record { client_fits = c.ranges.client.fits; is_name = c.in_ok-layout.ensures.is_name; version_fits = omega (arith, c.ranges) } in
+    let laid = subst (λ (ps : List Piece). IsLaid c.args.client c.args.symbol.now c.args.tip.now.next c.args.options.now.cutting c.args.serial ps c.in_ok-layout.layout) c.items.ensures c.in_ok-layout.ensures.laid in
+    let index = link_index c.args.client c.args.serial c.args.symbol.now c.args.tip.now.next r.0 c.args.options.now.prune c.args.tip.now c.args.options.now.at c.args.link.now c.args.options.now.cutting c.in_ok-layout.layout fits r.1 r.2 laid in
     record {
       was = c.requires.was;
       rising = c.requires.rising;
       few = index.few_rows;
-      index = slots_key_of c.args.client c.in_ok-slots.field-0.next c.args.symbol.now c.args.tip.now.next c.in_ok-slots.field-0.slots c.in_ok-index_key.index_key c.in_ok-slots.ensures.is_name (c.in_ok-index_key.ensures ∙ c.in_ok-index.ensures.key);
+      index = slots_key_of c.args.client c.in_ok-layout.layout.next c.args.symbol.now c.args.tip.now.next c.in_ok-layout.layout.slots c.in_ok-index_key.index_key c.in_ok-layout.ensures.is_name (c.in_ok-index_key.ensures ∙ c.in_ok-index.ensures.key);
       version = is_made r.0 r.1.lawful c.args.symbol.now c.args.options.now.at c.args.link.now r.2;
     }
 
 pub returns : goal.returns
 returns c =
-    let layout : Layout = c.in_ok-slots.field-0 in
+    let layout : Layout = c.in_ok-layout.layout in
     let puts : List Prepared = c.push.new.self in
     let version_fits : c.args.tip.now.next < 2 ^ 64 = omega (arith, c.ranges) in
     if_ok_weaker (AddsElement c.args.client c.in-Some.last c.args.symbol.now c.args.tip.now (record { version = c.args.tip.now.next; stamp = c.args.options.now.at; rows = layout.rows; index = c.in_ok-index_key.index_key }) puts c.args.link.now.change)
@@ -52,10 +52,10 @@ returns c =
     → IsPlanOf c.args.client c.args.serial before c.args.symbol.now c.args.options.now c.args.link.now.change c.args.link.now.pieces made)
     c.plan_element.result
     (λ made p before may fit.
-    let laid = subst (λ (ps : List Piece). IsLaid c.args.client c.args.symbol.now c.args.tip.now.next c.args.options.now.cutting c.args.serial ps layout) c.items.ensures c.in_ok-slots.ensures.laid in
+    let laid = subst (λ (ps : List Piece). IsLaid c.args.client c.args.symbol.now c.args.tip.now.next c.args.options.now.cutting c.args.serial ps layout) c.items.ensures c.in_ok-layout.ensures.laid in
     let last : c.in-Some.last ≡ suc layout.next = omega (arith, c.in-Some.ensures.1) in
     let small : c.in-Some.last < 2 ^ 64 = omega (arith, c.in-Some.ensures.0, c.in-Some.ensures.1) in
     plan_of c.args.client c.args.serial c.args.symbol.now c.args.tip.now.next before c.args.tip.now c.args.link.now c.args.options.now layout made c.ranges.client.fits version_fits refl may fit laid
     (version_plan c.args.client c.args.tip.now.next c.args.symbol.now c.args.tip.now layout c.args.link.now.schema c.args.link.now.change c.args.options.now puts c.in_ok-index.index c.args.options.now.at c.in_ok-index_key.index_key c.in-Some.last made
-    c.in_ok-push.ensures.ok c.in_ok-index.ensures.key c.in_ok-index.ensures.body c.in_ok-slots.ensures.is_name refl c.in_ok-index_key.ensures last small p))
+    c.in_ok-push.ensures.ok c.in_ok-index.ensures.key c.in_ok-index.ensures.body c.in_ok-layout.ensures.is_name refl c.in_ok-index_key.ensures last small p))
     c.plan_element.ensures
