@@ -51,3 +51,15 @@ def phases(command, folder):
         ran = subprocess.run(command, cwd=folder, stdout=out, stderr=subprocess.PIPE, text=True, check=True)
     marks = [(name, float(at)) for _, name, at in (line.split() for line in ran.stderr.splitlines() if line.startswith("mark "))]
     return {name: at - before for (_, before), (name, at) in zip(marks, marks[1:])}
+
+
+def instructions(program, folder, script):
+    """How many instructions a run of a script takes of the processor, the system's own left out, as valgrind counts them: the same each time."""
+    (folder / "day.arc").write_text(script)
+    count = ["valgrind", "--tool=cachegrind", "--cache-sim=no", "--cachegrind-out-file=/dev/null"]
+    with open(folder / "output", "wb") as out:
+        ran = subprocess.run([*count, program, "run", "day.arc"], cwd=folder, stdout=out, stderr=subprocess.PIPE, text=True)
+    if ran.returncode != 0:
+        sys.exit(f"arctic ended with {ran.returncode} under valgrind")
+    told = next(line for line in ran.stderr.splitlines() if "refs:" in line)
+    return int(told.split("refs:")[1].split("(")[0].replace(",", ""))
