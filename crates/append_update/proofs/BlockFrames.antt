@@ -1,15 +1,13 @@
 -- The frame that is read from the tiles of a run of the base's slots.
-use Rattle.std.proofs.Common.{◌≡◌, ℕ, zero, suc, ◌+◌, ◌-◌, ◌<◌, ◌≤◌, List, [], ◌∷◌, ◌++◌, length, take, drop, refl, sym, ap, ◌∙◌, subst, map, arith, Option, None, Some, Result, Ok, Err}
-use Rattle.std.specs.Prelude.{Contains, slice_range, slice_get, IfOk}
-use Rattle.std.specs.List.{AllByRecursion, AllZip, range_with_len}
+use Rattle.std.proofs.Common.{◌≡◌, ℕ, ◌-◌, List, [], ◌∷◌, ◌++◌, length, drop, refl, sym, ap, ◌∙◌, subst, map, None, Result, Ok, Err}
+use Rattle.std.specs.Prelude.{Contains, slice_range, IfOk}
+use Rattle.std.specs.List.{AllByRecursion, AllZip}
 use Rattle.std.proofs.lemmas.List.{append_assoc}
 use Rattle.frame_core.specs.declared.refusal.Refusal.{Refusal}
 use Rattle.frame_core.specs.Ranges.{Range}
 use Rattle.frame_core.specs.Texts.{Text}
 use Rattle.frame_core.specs.Schemas.{Schema}
 use Rattle.frame_core.specs.Frames.{Row, Frame, IsFrame, rows_within, slice}
-use Rattle.frame_core.specs.Selecting.{at_places}
-use Rattle.frame_core.proofs.Rows.{drop_at_place}
 use Rattle.index_tree.specs.declared.index.Slot.{Slot}
 use Rattle.index_tree.specs.IndexRules.{IsSlot}
 use Rattle.key_kind.specs.Names.{Name}
@@ -47,37 +45,6 @@ ok_frame f made e = cc
 pub ask_whole : (f made : Frame) → ask f whole None ≡ Ok made → f ≡ made
 ask_whole f made e = ok_frame f made (sym (ask_all f) ∙ e)
 
--- ---- places one behind the other
-
-map_step : {X : Type 0} (xs : List X) (k : ℕ) (ks : List ℕ) (x : X) → slice_get xs k ≡ Some x → at_places (k ∷ ks) xs ≡ x ∷ at_places ks xs
-map_step xs k ks x e = rw e refl
-
-pub at_range : {X : Type 0} (n from : ℕ) (xs : List X) → from + n ≤ length xs → at_places (range_with_len from n) xs ≡ take n (drop from xs)
-at_range zero from xs le = refl
-at_range (suc n) from xs le =
-    let place = drop_at_place from xs (omega (arith, le)) in
-    let next : from + 1 ≡ suc from = omega arith in
-    map_step xs from (range_with_len (from + 1) n) place.0 place.1
-    ∙ (ap (λ l. place.0 ∷ l) (at_range n (from + 1) xs (omega (arith, le)) ∙ ap (λ k. take n (drop k xs)) next)
-    ∙ ap (take (suc n)) (sym place.2))
-
-pub range_below : (n from most : ℕ) → from + n ≤ most → AllByRecursion (λ (place : ℕ). place < most) (range_with_len from n)
-range_below zero from most le = tt
-range_below (suc n) from most le = (omega (arith, le), range_below n (from + 1) most (omega (arith, le)))
-
-range_more : (n from : ℕ) → range_with_len from n ++ (from + n) ∷ [] ≡ range_with_len from (suc n)
-range_more zero from = let same : from + 0 ≡ from = omega arith in ap (λ k. k ∷ []) same
-range_more (suc n) from =
-    let same : from + suc n ≡ from + 1 + n = omega arith in
-    ap (λ k. from ∷ range_with_len (from + 1) n ++ k ∷ []) same ∙ ap (λ l. from ∷ l) (range_more n (from + 1))
-
--- one place more
-pub places_more : (from place : ℕ) → from ≤ place → range_with_len from (place - from) ++ place ∷ [] ≡ range_with_len from (place + 1 - from)
-places_more from place le =
-    let here : from + (place - from) ≡ place = omega (arith, le) in
-    let step : suc (place - from) ≡ place + 1 - from = omega (arith, le) in
-    ap (λ k. range_with_len from (place - from) ++ k ∷ []) (sym here) ∙ (range_more (place - from) from ∙ ap (range_with_len from) step)
-
 -- ---- tiles in memory
 
 pub tiles_are_from : (schema s : Schema) (range : Range) (begin b : ℕ) (tiles moved : List FetchedTile) → s ≡ schema → range ≡ whole → moved ≡ map (moved_tile b) tiles → b ≡ begin
@@ -94,6 +61,10 @@ read_as (Err e) self schema begin tiles same read = tt
 
 -- ---- a run of the base
 
+-- each slot of a run is one of them all
+pub run_contained : (slots : List Slot) (from to : ℕ) → AllByRecursion (λ s. Contains slots s) (slice_range slots from to)
+run_contained slots from to = take_all_of (λ s. Contains slots s) (to - from) (drop from slots) (drop_all_of (λ s. Contains slots s) from slots (all_contained slots))
+
 module _ (client : ℕ) (symbol : Name) (base : Base) (seen others new : History) (is : new ≡ others ++ seen) (lawful : ∥ IsLawful new ∥₁) (from to : ℕ)
     (run : IsRun (length base.index.schema.columns) (slice_range base.index.slots from to)) (tiles : List FetchedTile) (got : AllZip (IsGot new) (slice_range base.index.slots from to) tiles) (b : IsBaseAt client seen symbol base) where
   abbrev slots : List Slot
@@ -108,7 +79,7 @@ module _ (client : ℕ) (symbol : Name) (base : Base) (seen others new : History
   tiles_are : AreTilesOf part whole None (tiles_from base.index.schema (begin_of slots) tiles)
   tiles_are =
       run_tiles b.before (others ++ b.later) new symbol b.version base.index b.newest behind lawful whole slots tiles
-      (take_all_of (λ s. Contains base.index.slots s) (to - from) (drop from base.index.slots) (drop_all_of (λ s. Contains base.index.slots s) from base.index.slots (all_contained base.index.slots)))
+      (run_contained base.index.slots from to)
       (subst (λ (s : Schema). IsRun (length s.columns) slots) b.newest.index_of.schema run) got
 
   part_is_frame : IsFrame part

@@ -15,8 +15,7 @@ use Rattle.frame_core.proofs.Rows.{length-cells_of}
 use Rattle.segment_cut.specs.Tiles.{Tile}
 use Rattle.segment_cut.proofs.Wholes.{widths}
 use Rattle.segment_cut.proofs.Cuts.{cells_of-slice}
-use Rattle.frame_read.specs.Gathers.{fresh, reach, stamps_gathered, HasType, IsOpened}
-use Rattle.frame_read.specs.declared.tiles.FetchedTile.{FetchedTile}
+use Rattle.frame_read.specs.Gathers.{fresh, reach, stamps_gathered, HasType}
 
 pub type_below : (heads : List Head) (k : ℕ) (kind : ColType) → option_map (λ (h : Head). h.1) (slice_get heads k) ≡ Some kind → k < length heads
 type_below [] k kind e = absurd cc
@@ -59,12 +58,13 @@ stamps-step ts t i range reached onward a b old new more total lt at part rows g
     ∙ ap (λ (us : List Tile). old ++ stamps_gathered range reached us) (sym (next ts t i lt at))
     ∙ left
 
-pub opened-step : (fs : List FetchedTile) (x : FetchedTile) (i : ℕ) (old new : List Tile) (t : Tile) → i < length fs → x ≡ get_or fs i x → AllZip IsOpened (take i fs) old → new ≡ old ++ t ∷ [] → IsOpened x t → AllZip IsOpened (take (i + 1) fs) new
-opened-step fs x i old new t lt at all grown is = subst (λ (ts : List Tile). AllZip IsOpened (take (i + 1) fs) ts) (sym grown) (by fs i old lt at all)
+-- one pair more
+pub zip-step : {X Y : Type 0} (R : X → Y → Type 0) (xs : List X) (x : X) (i : ℕ) (old new : List Y) (y : Y) → i < length xs → x ≡ get_or xs i x → AllZip R (take i xs) old → new ≡ old ++ y ∷ [] → R x y → AllZip R (take (i + 1) xs) new
+zip-step {X} {Y} R xs x i old new y lt at all grown is = subst (λ (ys : List Y). AllZip R (take (i + 1) xs) ys) (sym grown) (by xs i old lt at all)
   where
-    by : (fs : List FetchedTile) (i : ℕ) (old : List Tile) → i < length fs → x ≡ get_or fs i x → AllZip IsOpened (take i fs) old → AllZip IsOpened (take (i + 1) fs) (old ++ t ∷ [])
+    by : (xs : List X) (i : ℕ) (old : List Y) → i < length xs → x ≡ get_or xs i x → AllZip R (take i xs) old → AllZip R (take (i + 1) xs) (old ++ y ∷ [])
     by [] i old lt at all = absurd (omega arith)
-    by (y ∷ fs) zero [] lt at all = (subst (λ (z : FetchedTile). IsOpened z t) at is, tt)
-    by (y ∷ fs) zero (u ∷ old) lt at all = absurd all
-    by (y ∷ fs) (suc i) [] lt at all = absurd all
-    by (y ∷ fs) (suc i) (u ∷ old) lt at all = let one : suc i + 1 ≡ suc (i + 1) = omega arith in rw one (all.0, by fs i old (omega arith) at all.1)
+    by (z ∷ xs) zero [] lt at all = (subst (λ (z : X). R z y) at is, tt)
+    by (z ∷ xs) zero (u ∷ old) lt at all = absurd all
+    by (z ∷ xs) (suc i) [] lt at all = absurd all
+    by (z ∷ xs) (suc i) (u ∷ old) lt at all = let one : suc i + 1 ≡ suc (i + 1) = omega arith in rw one (all.0, by xs i old (omega arith) at all.1)

@@ -1,7 +1,7 @@
 -- Looks one after another, and what was got stays so.
-use Rattle.std.proofs.Common.{◌≡◌, ℕ, zero, suc, ◌+◌, ◌≤◌, Bool, true, false, List, [], ◌∷◌, ◌++◌, map, take, length, refl, sym, ap, ◌∙◌, subst, inl, inr, arith, Option, Some, None, Result, Ok, Err}
-use Rattle.std.specs.Prelude.{Contains, slice_get, OnOk, is_err}
-use Rattle.std.specs.List.{AllZip, cons_option}
+use Rattle.std.proofs.Common.{◌≡◌, ℕ, ◌+◌, ◌<◌, ◌≤◌, Bool, true, false, List, [], ◌∷◌, ◌++◌, map, take, length, get_or, sym, ap, ◌∙◌, subst, inl, inr, arith, Option, Some, Result, Ok, Err}
+use Rattle.std.specs.Prelude.{Contains, OnOk, is_err}
+use Rattle.std.specs.List.{AllZip}
 use Rattle.std.specs.Arc.{arc_value}
 use Rattle.std.proofs.lemmas.Bool.{true≢false}
 use Rattle.std.proofs.lemmas.List.{length-append, append_assoc}
@@ -10,7 +10,6 @@ use denote.Struct.Props.{props}
 use Rattle.frame_core.specs.declared.refusal.Refusal.{Refusal}
 use Rattle.frame_core.specs.declared.refusal.Refusal.TheVariants as refusals
 use Rattle.frame_core.specs.declared.refusal.Refused.{Refused}
-use Rattle.frame_core.specs.Selecting.{at_places}
 use Rattle.index_tree.specs.declared.index.Slot.{Slot}
 use Rattle.index_tree.specs.declared.index.Index.{Index}
 use Rattle.key_kind.specs.declared.key.Key.{Key}
@@ -28,18 +27,14 @@ use Rattle.frame_read.specs.declared.target.Target.{Target}
 use Rattle.frame_read.specs.declared.tiles.FetchedTile.{FetchedTile}
 use Rattle.frame_read.specs.Fetches.{Reaches, IsTargetIndex, IsGetRefusal, RefusesGet}
 use Rattle.frame_read.specs.TileSets.{IsGot}
-use Rattle.frame_read.proofs.ChoosingLemmas.{get_in}
 use Rattle.frame_read.proofs.FetchLemmas.{links_later}
+use Rattle.frame_read.proofs.GatherSteps.{zip-step}
 
 -- ---- looks
 
 others_both : (client : ℕ) (xs ys : History) → AllByOthers client xs → AllByOthers client ys → AllByOthers client (xs ++ ys)
 others_both client [] ys a b = b
 others_both client (e ∷ xs) ys a b = (a.0, others_both client xs ys a.1 b)
-
--- before the first look
-pub looks_none : (claimed : History → Event → Type 0) (client : ℕ) (sole : Bool) (h : History) → Looks claimed client sole h h
-looks_none claimed client sole h = record { others = []; is = refl; by_others = tt; alone = λ s. refl; lawful = λ l. l }
 
 -- one look behind another
 pub looks_more : (claimed : History → Event → Type 0) (client : ℕ) (sole : Bool) (client' : ℕ) (sole' : Bool) (old mid new : History) → client' ≡ client → (sole ≡ true → sole' ≡ true)
@@ -51,9 +46,6 @@ looks_more claimed client sole client' sole' old mid new same stays one two = re
   alone = λ s. ap (λ xs. xs ++ one.others) (two.alone (stays s)) ∙ one.alone s;
   lawful = λ l. two.lawful (one.lawful l);
 }
-
-pub steady_none : {B : Type 0} (number limit faults : B → ℕ) (sole : B → Bool) (b : B) → IsSteady number limit faults sole b b
-steady_none number limit faults sole b = record { same_number = refl; same_limit = refl; faults_rise = omega arith; stays_sole = λ s. s }
 
 pub steady_more : {B : Type 0} (number limit faults : B → ℕ) (sole : B → Bool) (old mid new : B) → IsSteady number limit faults sole old mid → IsSteady number limit faults sole mid new → IsSteady number limit faults sole old new
 steady_more number limit faults sole old mid new one two = record {
@@ -118,13 +110,13 @@ key_in (s ∷ slots) slot there = elim (contains_cases slot s slots there) [
 ]
 
 -- the target's link reaches the tile of each slot
-pub slot_reached : (h : History) (target : Target) (index : Index) (place : ℕ) (slot : Slot) → IsTargetIndex h target index → slice_get index.slots place ≡ Some slot → Reaches h target.symbol target.version slot.key
-slot_reached h target index place slot i at = record {
+pub slot_reached : (h : History) (target : Target) (index : Index) (slot : Slot) → IsTargetIndex h target index → Contains index.slots slot → Reaches h target.symbol target.version slot.key
+slot_reached h target index slot i there = record {
   link = i.link;
   link_is = i.link_is;
   number = i.number;
   reached_by = contains_later slot.key i.link.row.index (map (λ (s : Slot). s.key) i.link.index.slots)
-      (subst (λ (x : Index). Contains (map (λ (s : Slot). s.key) x.slots) slot.key) (sym i.is) (key_in index.slots slot (get_in index.slots place slot at)));
+      (subst (λ (x : Index). Contains (map (λ (s : Slot). s.key) x.slots) slot.key) (sym i.is) (key_in index.slots slot there));
 }
 
 -- ---- what was put stays
@@ -140,38 +132,17 @@ stays_told : (more h new : History) (key : Key) (body : Bytes) → new ≡ more 
 stays_told more h new key body is lawful put =
     ∥∥₁_elim lawful (put_prop (body_put new key) (Some body)) (λ l. ap (λ g. body_put g key) is ∙ stays_over more h key body (subst IsLawful is l) put)
 
-pub got_later : (more h new : History) (slots : List Slot) (tiles : List FetchedTile) → new ≡ more ++ h → ∥ IsLawful new ∥₁ → AllZip (IsGot h) slots tiles → AllZip (IsGot new) slots tiles
+got_later : (more h new : History) (slots : List Slot) (tiles : List FetchedTile) → new ≡ more ++ h → ∥ IsLawful new ∥₁ → AllZip (IsGot h) slots tiles → AllZip (IsGot new) slots tiles
 got_later more h new [] [] is lawful z = tt
 got_later more h new [] (t ∷ tiles) is lawful z = absurd z
 got_later more h new (s ∷ slots) [] is lawful z = absurd z
 got_later more h new (s ∷ slots) (t ∷ tiles) is lawful z =
     (record { part = z.0.part; body = stays_told more h new s.key (arc_value t.body) is lawful z.0.body }, got_later more h new slots tiles is lawful z.1)
 
-push_got : (h : History) (slots : List Slot) (tiles : List FetchedTile) (slot : Slot) (tile : FetchedTile) → AllZip (IsGot h) slots tiles → IsGot h slot tile → AllZip (IsGot h) (slots ++ slot ∷ []) (tiles ++ tile ∷ [])
-push_got h [] [] slot tile z last = (last, tt)
-push_got h [] (t ∷ tiles) slot tile z last = absurd z
-push_got h (s ∷ slots) [] slot tile z last = absurd z
-push_got h (s ∷ slots) (t ∷ tiles) slot tile z last = (z.0, push_got h slots tiles slot tile z.1 last)
-
-taken_more : (ks : List ℕ) (i place : ℕ) (slots : List Slot) (slot : Slot) → slice_get ks i ≡ Some place → slice_get slots place ≡ Some slot → at_places (take (suc i) ks) slots ≡ at_places (take i ks) slots ++ slot ∷ []
-taken_more [] i place slots slot at found = absurd cc
-taken_more (k ∷ ks) zero place slots slot at found =
-    let same : k ≡ place = cc in
-    ap (λ o. cons_option o []) (ap (slice_get slots) same ∙ found)
-taken_more (k ∷ ks) (suc i) place slots slot at found =
-    elim (slice_get slots k) as (λ o. cons_option o (at_places (take (suc i) ks) slots) ≡ cons_option o (at_places (take i ks) slots) ++ slot ∷ []) [
-      | None ↦ taken_more ks i place slots slot at found
-      | Some s ↦ ap (λ xs. s ∷ xs) (taken_more ks i place slots slot at found)
-    ]
-
 -- one tile more
-pub got_more : (more h new : History) (ks : List ℕ) (i place : ℕ) (slots : List Slot) (tiles : List FetchedTile) (slot : Slot) (tile : FetchedTile) → new ≡ more ++ h → ∥ IsLawful new ∥₁
-    → AllZip (IsGot h) (at_places (take i ks) slots) tiles → slice_get ks i ≡ Some place → slice_get slots place ≡ Some slot → IsGot new slot tile
-    → AllZip (IsGot new) (at_places (take (i + 1) ks) slots) (tiles ++ tile ∷ [])
-got_more more h new ks i place slots tiles slot tile is lawful before at found got =
-    let next : i + 1 ≡ suc i = omega arith in
-    subst (λ xs. AllZip (IsGot new) xs (tiles ++ tile ∷ [])) (sym (ap (λ n. at_places (take n ks) slots) next ∙ taken_more ks i place slots slot at found))
-    (push_got new (at_places (take i ks) slots) tiles slot tile (got_later more h new (at_places (take i ks) slots) tiles is lawful before) got)
+pub got_more : (more h new : History) (slots : List Slot) (slot : Slot) (i : ℕ) (old tiles : List FetchedTile) (tile : FetchedTile) → new ≡ more ++ h → ∥ IsLawful new ∥₁ → i < length slots → slot ≡ get_or slots i slot
+    → AllZip (IsGot h) (take i slots) old → tiles ≡ old ++ tile ∷ [] → IsGot new slot tile → AllZip (IsGot new) (take (i + 1) slots) tiles
+got_more more h new slots slot i old tiles tile is lawful below at before grown got = zip-step (IsGot new) slots slot i old tiles tile below at (got_later more h new (take i slots) old is lawful before) grown got
 
 -- what is said of an answer that is no error
 pub at_ok : {T E : Type 0} (r : Result T E) (P : Type 0) → is_err r ≡ false → OnOk r P → P

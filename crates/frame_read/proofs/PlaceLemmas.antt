@@ -1,29 +1,13 @@
--- The places at which a test holds, and what stands there.
-use Rattle.std.proofs.Common.{◌≡◌, ℕ, zero, suc, ◌+◌, ◌<◌, Bool, true, false, List, [], ◌∷◌, map, length, refl, sym, ap, ◌∙◌, subst, cond, arith, Some}
+-- The places at which a test holds, and the elements of which it does.
+use Rattle.std.proofs.Common.{◌≡◌, ℕ, zero, suc, ◌+◌, ◌<◌, Bool, true, false, List, [], ◌∷◌, map, length, sym, ap, ◌∙◌, subst, cond, arith, Some}
 use Rattle.std.specs.Prelude.{Contains, slice_get}
-use Rattle.std.specs.List.{filter, enumerate_from, cons_option, AllByRecursion}
-use Rattle.frame_core.specs.Selecting.{at_places}
-use Rattle.store_model.proofs.Lists.{contains_first, contains_later}
+use Rattle.std.specs.List.{filter, enumerate_from, AllByRecursion}
+use Rattle.store_model.proofs.Lists.{contains_first, contains_later, filter_in}
 use Rattle.index_tree.specs.Covering.{places_where}
 
 -- the places of those that pass, where the first has the place n
 abbrev places_from : {X : Type 0} → (X → Bool) → ℕ → List X → List ℕ
 places_from {X} test n xs = map (λ (e : ℕ × X). e.0) (filter (λ (e : ℕ × X). test e.1) (enumerate_from n xs))
-
-at_from : {X : Type 0} (test : X → Bool) (ys : List X) (n : ℕ) (xs : List X) → ((k : ℕ) → slice_get ys (n + k) ≡ slice_get xs k) → at_places (places_from test n xs) ys ≡ filter test xs
-at_from test ys n [] same = refl
-at_from {X} test ys n (x ∷ xs) same =
-    let none : n ≡ n + zero = omega arith in
-    let here : slice_get ys n ≡ Some x = ap (λ (m : ℕ). slice_get ys m) none ∙ same zero in
-    let rest : at_places (places_from test (n + 1) xs) ys ≡ filter test xs = at_from test ys (n + 1) xs (λ k. let step : n + 1 + k ≡ n + suc k = omega arith in ap (λ (m : ℕ). slice_get ys m) step ∙ same (suc k)) in
-    elim (test x) as (λ b. at_places (map (λ (e : ℕ × X). e.0) (cond b ((n, x) ∷ filter (λ (e : ℕ × X). test e.1) (enumerate_from (n + 1) xs)) (filter (λ (e : ℕ × X). test e.1) (enumerate_from (n + 1) xs)))) ys ≡ cond b (x ∷ filter test xs) (filter test xs)) [
-      | true ↦ ap (λ o. cons_option o (at_places (places_from test (n + 1) xs) ys)) here ∙ ap (λ (zs : List X). x ∷ zs) rest
-      | false ↦ rest
-    ]
-
--- at the places of those that pass stand those that pass
-pub at_places_where : {X : Type 0} (test : X → Bool) (xs : List X) → at_places (places_where test xs) xs ≡ filter test xs
-at_places_where test xs = at_from test xs 0 xs (λ k. let none : 0 + k ≡ k = omega arith in ap (λ (m : ℕ). slice_get xs m) none)
 
 below_from : {X : Type 0} (test : X → Bool) (n : ℕ) (xs : List X) → AllByRecursion (λ (p : ℕ). p < n + length xs) (places_from test n xs)
 below_from test n [] = tt
@@ -61,3 +45,11 @@ in_from {X} test n (y ∷ ys) (suc k) x at passes =
 -- the place of one that passes is among them
 pub where_in : {X : Type 0} (test : X → Bool) (xs : List X) (k : ℕ) (x : X) → slice_get xs k ≡ Some x → test x ≡ true → Contains (places_where test xs) k
 where_in test xs k x at passes = let none : 0 + k ≡ k = omega arith in subst (λ (m : ℕ). Contains (places_where test xs) m) none (in_from test 0 xs k x at passes)
+
+-- those of which it holds are of the list
+pub filter_of : {X : Type 0} (test : X → Bool) (xs : List X) → AllByRecursion (Contains xs) (filter test xs)
+filter_of {X} test xs = each (filter test xs) (λ x there. (filter_in test xs x there).0)
+  where
+    each : (ys : List X) → ((x : X) → Contains ys x → Contains xs x) → AllByRecursion (Contains xs) ys
+    each [] there = tt
+    each (y ∷ ys) there = (there y (contains_first y ys), each ys (λ x later. there x (contains_later x y ys later)))

@@ -1,9 +1,9 @@
-use Rattle.std.proofs.Common.{◌≡◌, ℕ, ◌-◌, ◌<◌, List, length, take, drop, sym, ap, ◌∙◌, subst, inl, inr, arith, None, ◌+◌, ◌≤◌}
+use Rattle.std.proofs.Common.{◌≡◌, List, sym, subst, inl, inr, None}
+use Rattle.std.specs.Prelude.{Contains, slice_range}
 use Rattle.std.specs.List.{AllByRecursion, AllZip}
 use Rattle.frame_core.specs.Frames.{Frame, IsFrame}
 use Rattle.index_tree.specs.declared.index.Slot.{Slot}
 use Rattle.bucket_core.specs.History.{AllByOthers}
-use Rattle.frame_core.specs.Selecting.{at_places}
 use Rattle.store_model.specs.Law.{IsClaimed}
 use Rattle.frame_read.specs.TileSets.{IsGot}
 use Rattle.frame_read.specs.Wholes.{AreTilesOf}
@@ -13,33 +13,33 @@ use Rattle.frame_write.specs.Pieces.{begin_of}
 use Rattle.append_update.specs.Blocks.{whole, tiles_from}
 use Rattle.append_update.specs.Looking.{MetAt}
 use Rattle.append_update.proofs.BaseLemmas.{walk_wider, base_gone}
-use Rattle.append_update.proofs.BlockFrames.{at_range, range_below, of_frame, block_is}
+use Rattle.append_update.proofs.BlockFrames.{run_contained, of_frame, block_is}
 use Rattle.append_update.proofs.blocks.block_frame.Goals as goal
 
-pub get_tiles-requires-clause-within : goal.get_tiles-requires-clause-within
-get_tiles-requires-clause-within g c =
-    subst (λ (places : List ℕ). AllByRecursion (λ (place : ℕ). place < length c.args.base.now.index.slots) places) (sym (c.items-2.ensures ∙ c.in-Ok.ensures))
-    (range_below (c.args.to - c.args.from) c.args.from (length c.args.base.now.index.slots) (omega (arith, c.requires.ordered, c.requires.within)))
+pub get_tiles-requires : goal.get_tiles-requires
+get_tiles-requires g c =
+    let all : List Slot = c.args.base.now.index.slots in
+    record {
+      slots = (
+        c.args.base.now.index,
+        c.requires.base.target,
+        subst (λ (xs : List Slot). AllByRecursion (Contains all) (slice_range xs c.args.from c.args.to)) (sym c.items.ensures) (run_contained all c.args.from c.args.to),
+      );
+    }
 
 pub run_frame-requires : goal.run_frame-requires
 run_frame-requires g c =
-    let slots : List Slot = c.args.base.now.index.slots in
-    let few : c.args.from + (c.args.to - c.args.from) ≤ length slots = omega (arith, c.requires.ordered, c.requires.within) in
-    let got = subst (λ (xs : List Slot). AllZip (IsGot (g.B.Bucket.seen c.get_tiles.new.bucket)) xs c.in-Ok-get_tiles.tiles)
-    (ap (λ (ps : List ℕ). at_places ps slots) (c.items-2.ensures ∙ c.in-Ok.ensures) ∙ at_range (c.args.to - c.args.from) c.args.from slots few) c.in-Ok-get_tiles.ensures.tiles in
-    subst (λ (xs : List Slot). AreOfFrame (tiles_from c.args.base.now.index.schema (begin_of (take (c.args.to - c.args.from) (drop c.args.from xs))) c.in-Ok-get_tiles.tiles)) (sym c.items.ensures)
+    let got = subst (λ (xs : List Slot). AllZip (IsGot (g.B.Bucket.seen c.get_tiles.new.bucket)) (slice_range xs c.args.from c.args.to) c.in-Ok.tiles) c.items.ensures c.in-Ok.ensures.tiles in
+    subst (λ (xs : List Slot). AreOfFrame (tiles_from c.args.base.now.index.schema (begin_of (slice_range xs c.args.from c.args.to)) c.in-Ok.tiles)) (sym c.items.ensures)
     (of_frame (g.B.Bucket.number c.args.bucket.now) c.args.symbol.now c.args.base.now (g.B.Bucket.seen c.args.bucket.now) c.get_tiles.ensures.looks.others (g.B.Bucket.seen c.get_tiles.new.bucket) c.get_tiles.ensures.looks.is (g.met.B.Bucket.lawful c.get_tiles.new.bucket)
-    c.args.from c.args.to c.requires.run c.in-Ok-get_tiles.tiles got c.requires.base)
+    c.args.from c.args.to c.requires.run c.in-Ok.tiles got c.requires.base)
 
 pub returns-in-Ok-run_frame-clause-frame : goal.returns-in-Ok-run_frame-clause-frame
 returns-in-Ok-run_frame-clause-frame g c = λ b.
-    let slots : List Slot = c.args.base.now.index.slots in
-    let few : c.args.from + (c.args.to - c.args.from) ≤ length slots = omega (arith, c.requires.ordered, c.requires.within) in
-    let got = subst (λ (xs : List Slot). AllZip (IsGot (g.B.Bucket.seen c.get_tiles.new.bucket)) xs c.in-Ok-get_tiles.tiles)
-    (ap (λ (ps : List ℕ). at_places ps slots) (c.items-2.ensures ∙ c.in-Ok.ensures) ∙ at_range (c.args.to - c.args.from) c.args.from slots few) c.in-Ok-get_tiles.ensures.tiles in
+    let got = subst (λ (xs : List Slot). AllZip (IsGot (g.B.Bucket.seen c.get_tiles.new.bucket)) (slice_range xs c.args.from c.args.to) c.in-Ok.tiles) c.items.ensures c.in-Ok.ensures.tiles in
     block_is (g.B.Bucket.number c.args.bucket.now) c.args.symbol.now c.args.base.now (g.B.Bucket.seen c.args.bucket.now) c.get_tiles.ensures.looks.others (g.B.Bucket.seen c.get_tiles.new.bucket) c.get_tiles.ensures.looks.is (g.met.B.Bucket.lawful c.get_tiles.new.bucket)
-    c.args.from c.args.to c.requires.run c.in-Ok-get_tiles.tiles got b c.in-Ok-run_frame.frame
-    (subst (λ (xs : List Slot). (f : Frame) → IsFrame f → AreTilesOf f whole None (tiles_from c.args.base.now.index.schema (begin_of (take (c.args.to - c.args.from) (drop c.args.from xs))) c.in-Ok-get_tiles.tiles) → f ≡ c.in-Ok-run_frame.frame) c.items.ensures c.in-Ok-run_frame.ensures)
+    c.args.from c.args.to c.requires.run c.in-Ok.tiles got b c.in-Ok-run_frame.frame
+    (subst (λ (xs : List Slot). (f : Frame) → IsFrame f → AreTilesOf f whole None (tiles_from c.args.base.now.index.schema (begin_of (slice_range xs c.args.from c.args.to)) c.in-Ok.tiles) → f ≡ c.in-Ok-run_frame.frame) c.items.ensures c.in-Ok-run_frame.ensures)
 
 pub returns-in-VersionGone-clause-looks : goal.returns-in-VersionGone-clause-looks
 returns-in-VersionGone-clause-looks g c =
