@@ -10,7 +10,7 @@ use index_tree::Slot;
 
 /// How many slots of a version lie where, by their stamps. The row block that the range cuts at its beginning has the slots from
 /// `below` to `begun`, and the one that it cuts at its end those from `ended` to `reached`; each is empty where the range cuts none.
-#[derive(Clone, Copy, Debug)]
+#[derive(Clone, Copy)]
 pub(crate) struct Cuts {
     /// The slots whose last row lies below the range.
     pub(crate) below: usize,

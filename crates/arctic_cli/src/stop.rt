@@ -1,7 +1,7 @@
 use base_types::{NoMemory, Text};
 
 /// Why a run ends before its first command.
-#[derive(Debug, Drop)]
+#[derive(Drop)]
 pub enum Stop {
     /// The words are not of the command set.
     Usage,
@@ -14,7 +14,7 @@ pub enum Stop {
 }
 
 /// Why the preparing of a run halts.
-#[derive(Debug, Drop)]
+#[derive(Drop)]
 pub enum Halt {
     Stop(Stop),
     NoMemory,

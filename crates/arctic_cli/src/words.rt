@@ -7,7 +7,7 @@ use script_lang::digits_of;
 use segment_cut::Cutting;
 
 /// How a run goes about its commands: how frames are cut, and how often a commit is tried.
-#[derive(Clone, Copy, Debug)]
+#[derive(Clone, Copy)]
 pub struct Options {
     pub cutting: Cutting,
     pub tries: u32,

@@ -10,7 +10,7 @@ use std::cmp::Ordering;
 use std::marker::Model;
 
 /// A text of UTF-8. Contracts see its bytes, so two texts with the same bytes are equal there.
-#[derive(Debug, Drop)]
+#[derive(Drop)]
 pub struct Text {
     string: String,
 }

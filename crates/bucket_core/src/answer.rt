@@ -22,7 +22,7 @@ pub struct Listed {
 }
 
 /// What a drop found.
-#[derive(Clone, Copy, Debug, PartialEq, Eq)]
+#[derive(Clone, Copy)]
 pub enum Dropped {
     /// The object, which is gone since this place.
     Gone { place: u64 },

@@ -10,7 +10,7 @@ use key_kind::{Key, KeyKind, Name, SnapName, Symbol};
 use std::sync::{Arc, Wait};
 
 /// When a call fails that is to fail.
-#[derive(Clone, Copy, Debug, PartialEq, Eq)]
+#[derive(Clone, Copy)]
 pub enum When {
     /// Nothing is done.
     Before,

@@ -3,7 +3,7 @@ ghost use Rattle.std.specs.Prelude.{◌≡◌, true, false};
 use std::sync::Wait;
 
 /// A step at which a client passes its gate: a call of a bucket, or a task of a read.
-#[derive(Clone, Copy, Debug, PartialEq, Eq)]
+#[derive(Clone, Copy, PartialEq, Eq)]
 pub enum Step {
     Get,
     List,
@@ -16,7 +16,7 @@ pub enum Step {
 }
 
 /// Where a client passes its gate.
-#[derive(Clone, Copy, Debug, PartialEq, Eq)]
+#[derive(Clone, Copy, PartialEq, Eq)]
 pub struct GatePoint {
     /// The client's number, or that of the task, counted from 1.
     pub who: u32,
@@ -57,7 +57,7 @@ pub trait Gate: Sync {
 }
 
 /// The gate that holds nobody.
-#[derive(Clone, Copy, Debug)]
+#[derive(Clone, Copy)]
 pub struct OpenGate;
 
 impl Gate for OpenGate {

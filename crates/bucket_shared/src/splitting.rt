@@ -14,7 +14,7 @@ use std::sync::{Arc, Wait};
 use version_chain::StoreLaw;
 
 /// Why there is no further pass.
-#[derive(Clone, Copy, Debug, PartialEq, Eq)]
+#[derive(Clone, Copy, Debug)]
 pub enum SplitFault {
     NoMemory,
     /// The last client number was given out.

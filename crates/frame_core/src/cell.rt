@@ -2,7 +2,7 @@ use base_types::{Keep, NoMemory, Text};
 use std::alloc::Global;
 
 /// The type of a column.
-#[derive(Clone, Copy, Debug, PartialEq, Eq)]
+#[derive(Clone, Copy, PartialEq, Eq)]
 pub enum ColType {
     /// A whole number of 64 bits with a sign.
     Int,
@@ -15,7 +15,7 @@ pub enum ColType {
 }
 
 /// A cell that is lent by a frame or by the bytes of a segment.
-#[derive(Clone, Copy, Debug)]
+#[derive(Clone, Copy)]
 pub enum CellRef<'a> {
     Int(i64),
     Flag(bool),
@@ -24,7 +24,7 @@ pub enum CellRef<'a> {
 }
 
 /// A cell that owns its text.
-#[derive(Debug, Drop)]
+#[derive(Drop)]
 pub enum Cell {
     Int(i64),
     Flag(bool),

@@ -11,7 +11,7 @@ use base_types::{Items, Keep, NoMemory};
 use std::alloc::Global;
 
 /// The cells of one column.
-#[derive(Debug, Drop)]
+#[derive(Drop)]
 pub enum Column {
     Ints(Items<i64>),
     Flags(Items<bool>),

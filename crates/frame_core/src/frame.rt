@@ -16,7 +16,7 @@ use std::alloc::Global;
 use std::marker::Model;
 
 /// A schema and rows whose stamps never fall, kept column by column. Contracts see the schema and the list of rows.
-#[derive(Debug, Drop)]
+#[derive(Drop)]
 pub struct Frame {
     pub(crate) schema: Schema,
     pub(crate) stamps: Items<i64>,

@@ -16,7 +16,7 @@ use std::alloc::Global;
 use std::marker::Model;
 
 /// A frame that is made row by row, and kept column by column.
-#[derive(Debug, Drop)]
+#[derive(Drop)]
 pub struct FrameMaker {
     schema: Schema,
     stamps: Items<i64>,

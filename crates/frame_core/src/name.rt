@@ -10,7 +10,7 @@ use std::cmp::Ordering;
 use std::marker::Model;
 
 /// Why a text is no name of a column.
-#[derive(Clone, Copy, Debug, PartialEq, Eq)]
+#[derive(Clone, Copy, Debug)]
 pub enum NameFault {
     /// It has no byte, or more than 255.
     Length,
@@ -18,7 +18,7 @@ pub enum NameFault {
 }
 
 /// The name of a column: 1 to 255 bytes of UTF-8. Contracts see the bytes.
-#[derive(Debug, Drop)]
+#[derive(Drop)]
 pub struct ColName {
     text: Text,
 }

@@ -1,5 +1,5 @@
 /// The rows and columns of one tile of a frame, counted from 0.
-#[derive(Clone, Copy, Debug, PartialEq, Eq)]
+#[derive(Clone, Copy)]
 pub struct Part {
     pub first_row: u64,
     pub rows: u64,

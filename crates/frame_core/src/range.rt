@@ -4,7 +4,7 @@ ghost use Rattle.frame_core.specs.Ranges.{InOrder, IsRange};
 use std::marker::Model;
 
 /// The first and the last stamp that are asked, both included; an end that is left out is open. The ends stand in order.
-#[derive(Clone, Copy, Debug)]
+#[derive(Clone, Copy)]
 pub struct Range {
     from: Option<i64>,
     to: Option<i64>,

@@ -3,7 +3,7 @@ use crate::name::ColName;
 use base_types::Items;
 
 /// The parts of a frame, not tested: they may be of different lengths, and the stamps may fall.
-#[derive(Debug, Drop)]
+#[derive(Drop)]
 pub struct RawFrame {
     pub stamps: Items<i64>,
     pub names: Items<ColName>,

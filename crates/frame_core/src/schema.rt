@@ -9,7 +9,7 @@ use std::alloc::Global;
 use std::marker::Model;
 
 /// Whether the rows have stamps of their own, and the name and type of each column.
-#[derive(Debug, Drop)]
+#[derive(Drop)]
 pub struct Schema {
     timed: bool,
     columns: Items<(ColName, ColType)>,

@@ -6,7 +6,7 @@ use std::alloc::Global;
 use std::marker::Model;
 
 /// Texts, one behind another in one buffer, with the end of each. Contracts see the list of the texts' bytes.
-#[derive(Debug, Drop)]
+#[derive(Drop)]
 pub struct TextList {
     pub(crate) buffer: String,
     pub(crate) ends: Vec<usize>,

@@ -9,7 +9,7 @@ use crate::tile_view::TileView;
 use frame_core::Range;
 
 /// Where the rows in a range begin, or where they end.
-#[derive(Clone, Copy, Debug)]
+#[derive(Clone, Copy)]
 pub(crate) enum Edge {
     Begin,
     End,

@@ -17,7 +17,7 @@ use std::marker::Model;
 
 /// A view of a tile's segment and its columns, found once, since in the bytes each is found by walking past those before it.
 /// Contracts see the frame.
-#[derive(Debug, Drop)]
+#[derive(Drop)]
 pub(crate) struct TileView<'a> {
     segment: SegView<'a>,
     columns: Items<NamedColumn<'a>>,

@@ -3,7 +3,7 @@ ghost use Rattle.std.specs.Prelude.{◌≡◌};
 use segment_cut::Cutting;
 
 /// How a frame is written.
-#[derive(Clone, Copy, Debug)]
+#[derive(Clone, Copy)]
 pub struct Options {
     /// How large the tiles are.
     pub cutting: Cutting,
@@ -25,7 +25,7 @@ impl Options {
 }
 
 /// A commit that stands.
-#[derive(Clone, Copy, Debug, PartialEq, Eq)]
+#[derive(Clone, Copy)]
 pub struct Committed {
     /// The number of the new version.
     pub version: u64,

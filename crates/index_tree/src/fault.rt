@@ -1,7 +1,7 @@
 use base_types::NoMemory;
 
 /// Why bytes are not read as an index.
-#[derive(Clone, Copy, Debug, PartialEq, Eq)]
+#[derive(Clone, Copy, Debug)]
 pub enum IndexFault {
     /// The place of the first field that is not whole or breaks its rule.
     Bad { at: u64 },
@@ -9,7 +9,7 @@ pub enum IndexFault {
 }
 
 /// Why reading stops.
-#[derive(Clone, Copy, Debug, PartialEq, Eq)]
+#[derive(Clone, Copy, Debug)]
 pub enum Stop {
     /// How many bytes are left from the first field on that is not whole or breaks its rule.
     Bad { left: usize },

@@ -8,7 +8,7 @@ use key_kind::Key;
 use std::alloc::Global;
 
 /// Where one tile of a frame lies.
-#[derive(Debug, Drop)]
+#[derive(Drop)]
 pub struct Slot {
     /// The key of the tile's segment.
     pub key: Key,
@@ -45,7 +45,7 @@ impl Keep for Slot {
 }
 
 /// Where the tiles of a frame lie.
-#[derive(Debug, Drop)]
+#[derive(Drop)]
 pub struct Index {
     /// The columns of the frame, which is timed.
     pub schema: Schema,

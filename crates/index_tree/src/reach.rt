@@ -11,7 +11,7 @@ const MOST_ROWS: u32 = 100_000;
 
 /// How far the slots reach that were read so far: the last row block, and how many of its columns are covered. Before the
 /// first slot all is 0.
-#[derive(Clone, Copy, Debug)]
+#[derive(Clone, Copy)]
 pub struct Reach {
     first_row: u32,
     rows: u32,

@@ -5,7 +5,7 @@ use byte_fields::{read_i64, read_u16, read_u32};
 use frame_core::Part;
 
 /// The rows and columns of a tile, and the stamps of its first and last row: a slot without its key.
-#[derive(Clone, Copy, Debug)]
+#[derive(Clone, Copy)]
 pub struct Span {
     pub part: Part,
     /// The stamp of the tile's first row, in nanoseconds since 1970.

@@ -10,7 +10,7 @@ use std::alloc::Global;
 use std::cmp::Ordering;
 
 /// What an object of the store is. The kinds stand in the order of their keys.
-#[derive(Clone, Copy, Debug, PartialEq, Eq)]
+#[derive(Clone, Copy)]
 pub enum KeyKind {
     /// A tile: a segment of some rows and columns of a version.
     TableData,
@@ -82,7 +82,7 @@ impl KeyKind {
 }
 
 /// The key of an object. Keys are ordered by their fields in the order written.
-#[derive(Debug, Drop)]
+#[derive(Drop)]
 pub struct Key {
     pub kind: KeyKind,
     /// The symbol's name, or the snapshot's.
@@ -217,7 +217,7 @@ impl Ord for Key {
 }
 
 /// Who holds a version: a snapshot command, by its client and that client's next serial as it began.
-#[derive(Clone, Copy, Debug, PartialEq, Eq)]
+#[derive(Clone, Copy, PartialEq, Eq)]
 pub struct Holder {
     pub client: u32,
     pub serial: u64,

@@ -11,7 +11,7 @@ use byte_fields::{put_bytes, put_i64, put_u8, put_u32, put_u64};
 use std::alloc::Global;
 
 /// Why bytes are not read as a key.
-#[derive(Clone, Copy, Debug, PartialEq, Eq)]
+#[derive(Clone, Copy, Debug)]
 pub enum KeyFault {
     /// The bytes do not begin with a key's spelling.
     NotAKey,

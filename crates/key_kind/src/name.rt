@@ -13,7 +13,7 @@ use std::marker::Model;
 use std::str;
 
 /// Why a text is no name.
-#[derive(Clone, Copy, Debug, PartialEq, Eq)]
+#[derive(Clone, Copy, Debug)]
 pub enum NameFault {
     /// It has no byte, or more than 255.
     Length,
@@ -23,7 +23,7 @@ pub enum NameFault {
 }
 
 /// A name of 1 to 255 bytes of 0x21 to 0x7E. Contracts see the bytes.
-#[derive(Debug, Drop)]
+#[derive(Drop)]
 pub struct Name {
     text: Text,
 }
@@ -151,7 +151,7 @@ impl Ord for Name {
 }
 
 /// The name of a symbol. Contracts see its bytes.
-#[derive(Debug, Drop)]
+#[derive(Drop)]
 pub struct Symbol {
     name: Name,
 }
@@ -196,7 +196,7 @@ impl Keep for Symbol {
 }
 
 /// The name of a snapshot. Contracts see its bytes.
-#[derive(Debug, Drop)]
+#[derive(Drop)]
 pub struct SnapName {
     name: Name,
 }

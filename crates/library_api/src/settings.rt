@@ -4,7 +4,7 @@ use frame_write::Options;
 use segment_cut::Cutting;
 
 /// How a client's commands are carried out.
-#[derive(Clone, Copy, Debug)]
+#[derive(Clone, Copy)]
 pub struct Settings {
     /// How large the tiles of a written frame are.
     pub cutting: Cutting,

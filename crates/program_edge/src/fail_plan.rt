@@ -5,7 +5,7 @@ ghost use Rattle.program_edge.specs.FailPlans.{no_calls, fails_next, after_call}
 use std::marker::Model;
 
 /// Which calls of a thing in memory fail, by their numbers from 1, and how many calls and faults there were.
-#[derive(Debug, Drop)]
+#[derive(Drop)]
 pub struct FailPlan {
     fails: Vec<u64>,
     calls: u64,

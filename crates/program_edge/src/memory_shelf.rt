@@ -9,7 +9,7 @@ use crate::shelf::{Shelf, ShelfErr};
 use std::marker::Model;
 
 /// Files in memory, some of whose calls fail.
-#[derive(Debug, Drop)]
+#[derive(Drop)]
 pub struct MemoryShelf {
     files: Vec<(String, Vec<u8>)>,
     plan: FailPlan,

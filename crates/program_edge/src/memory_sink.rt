@@ -7,7 +7,7 @@ use crate::sink::{Sink, SinkErr};
 use std::marker::Model;
 
 /// An output that is kept in memory, some of whose calls fail.
-#[derive(Debug, Drop)]
+#[derive(Drop)]
 pub struct MemorySink {
     bytes: Vec<u8>,
     plan: FailPlan,

@@ -17,7 +17,7 @@ use std::sync::Wait;
 use version_chain::{StoreLaw, mark_on, walk};
 
 /// Versions that are buried. A place is a number of events.
-#[derive(Clone, Copy, Debug, PartialEq, Eq)]
+#[derive(Clone, Copy, PartialEq, Eq)]
 pub struct Buried {
     /// How many versions.
     pub versions: u64,

@@ -11,7 +11,7 @@ pub struct HeldAt {
 }
 
 /// A version: its number, its stamp in nanoseconds since 1970, whether it is live, and how many holds it has.
-#[derive(Clone, Copy, Debug, PartialEq, Eq)]
+#[derive(Clone, Copy, PartialEq, Eq)]
 pub struct VersionRow {
     pub version: u64,
     pub stamp: i64,

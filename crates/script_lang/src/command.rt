@@ -34,7 +34,7 @@ fn symbol_of(alloc: Global, word: &[u8]) -> Result<Symbol, ScriptFault>
 }
 
 /// A symbol, the place of a loaded frame, and the options of a commit.
-#[derive(Debug, Drop)]
+#[derive(Drop)]
 struct Commit {
     symbol: Symbol,
     frame: u64,

@@ -1,7 +1,7 @@
 use base_types::NoMemory;
 
 /// Why a file gives no frame.
-#[derive(Clone, Copy, Debug, PartialEq, Eq)]
+#[derive(Clone, Copy, Debug)]
 pub enum CsvFault {
     /// The file is outside its form.
     BadCsv,
@@ -20,7 +20,7 @@ impl From<NoMemory> for CsvFault {
 }
 
 /// Why a text gives no script.
-#[derive(Clone, Copy, Debug, PartialEq, Eq)]
+#[derive(Clone, Copy, Debug)]
 pub enum ScriptFault {
     /// The text is outside the form of scripts.
     BadScript,

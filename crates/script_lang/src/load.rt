@@ -20,7 +20,7 @@ pub type Loads = Items<Load>;
 const MOST_TYPES: usize = 127;
 
 /// A frame that a script loads: its name, its file and the types of its columns.
-#[derive(Debug, Drop)]
+#[derive(Drop)]
 pub struct Load {
     pub name: Text,
     pub file: Text,

@@ -14,7 +14,7 @@ use frame_core::{ColName, Range};
 use std::alloc::Global;
 
 /// The options of a commit.
-#[derive(Clone, Copy, Debug)]
+#[derive(Clone, Copy)]
 pub struct CommitOptions {
     /// In nanoseconds since 1970.
     pub at: Option<i64>,
@@ -22,7 +22,7 @@ pub struct CommitOptions {
 }
 
 /// The options of an update.
-#[derive(Clone, Copy, Debug)]
+#[derive(Clone, Copy)]
 pub struct UpdateOptions {
     pub range: Option<Range>,
     pub upsert: bool,

@@ -13,7 +13,7 @@ use std::marker::Model;
 
 /// The cells of one column of a viewed segment, read where they lie, each in constant time. Contracts see the type of the
 /// column and the list of its cells.
-#[derive(Debug, Drop)]
+#[derive(Drop)]
 pub struct ColumnView<'a> {
     kind: ColType,
     rows: u32,

@@ -13,7 +13,7 @@ use byte_fields::{read_bytes, read_u8, read_u32};
 use frame_core::ColType;
 
 /// A column as it lies in the bytes of a segment.
-#[derive(Clone, Copy, Debug)]
+#[derive(Clone, Copy)]
 pub struct ColumnBytes<'a> {
     pub kind: ColType,
     pub name: &'a [u8],

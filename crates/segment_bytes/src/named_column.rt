@@ -10,7 +10,7 @@ use std::alloc::Global;
 use std::marker::Model;
 
 /// A column of a viewed segment with its name, read where they lie. Contracts see its name and type, and its cells.
-#[derive(Debug, Drop)]
+#[derive(Drop)]
 pub struct NamedColumn<'a> {
     name: &'a str,
     cells: ColumnView<'a>,

@@ -21,14 +21,14 @@ use std::alloc::Global;
 use std::marker::Model;
 
 /// Where bytes are no segment: the place of the first field that is not whole or breaks its rule.
-#[derive(Clone, Copy, Debug, PartialEq, Eq)]
+#[derive(Clone, Copy, Debug)]
 pub struct SegFault {
     /// The place of the first field that is not whole or breaks its rule.
     pub at: u64,
 }
 
 /// The frame that bytes spell, read where they lie. Contracts see the frame.
-#[derive(Debug, Drop)]
+#[derive(Drop)]
 pub struct SegView<'a> {
     bytes: &'a [u8],
     rows: u32,

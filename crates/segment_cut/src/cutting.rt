@@ -4,7 +4,7 @@ ghost use Rattle.segment_cut.specs.Cuttings.{IsCutting};
 use std::marker::Model;
 
 /// How many rows and columns a full tile has: 1 to 100,000 rows, and 1 to 127 columns.
-#[derive(Clone, Copy, Debug)]
+#[derive(Clone, Copy)]
 pub struct Cutting {
     rows: u32,
     cols: u32,

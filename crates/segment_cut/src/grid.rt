@@ -6,7 +6,7 @@ use frame_core::Part;
 use std::marker::Model;
 
 /// How so many rows and columns are cut into parts: blocks of rows, and in each block slices of columns.
-#[derive(Clone, Copy, Debug)]
+#[derive(Clone, Copy)]
 pub struct Grid {
     rows: u64,
     cols: u64,

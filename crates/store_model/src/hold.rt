@@ -1,7 +1,7 @@
 use key_kind::Holder;
 
 /// An unreleased hold of a version.
-#[derive(Clone, Copy, Debug, PartialEq, Eq)]
+#[derive(Clone, Copy)]
 pub struct HoldRow {
     pub holder: Holder,
     pub version: u64,

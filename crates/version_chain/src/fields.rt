@@ -12,7 +12,7 @@ use key_kind::{Holder, Key, KeyKind, view_key_of};
 use std::alloc::Global;
 
 /// Why a reader of fields stops.
-#[derive(Clone, Copy, Debug, PartialEq, Eq)]
+#[derive(Clone, Copy, Debug)]
 pub(crate) enum Stop {
     /// At the first field that is not whole or breaks its rule so many bytes are left.
     Left(usize),

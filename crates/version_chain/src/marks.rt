@@ -14,7 +14,7 @@ use std::alloc::Global;
 use store_model::{ChainMark, LinkRow};
 
 /// What may come next in an element.
-#[derive(Clone, Copy, Debug, PartialEq, Eq)]
+#[derive(Clone, Copy)]
 pub(crate) enum Next {
     Anything,
     TombOrDiscard,
