@@ -3,9 +3,9 @@ ghost use Rattle.std.specs.Prelude.{◌≡◌, IfOk};
 use crate::memory::NoMemory;
 use std::alloc::Global;
 
-/// A value that can be copied into memory of its own, so that contracts see the same value twice.
+/// A value that can be copied, so that contracts see the same value twice.
 pub trait Keep: Drop {
-    /// The same value, in memory of its own.
+    /// The same value. What it owns is copied too, but what it shares (an `Arc`) is shared once more.
     fn copy(&self, alloc: Global) -> Result<Self, NoMemory>
         ensures { IfOk result (λ copy. copy ≡ self.now) };
 }

@@ -73,6 +73,6 @@ pub record LacksColumn (h : History) (target : Target) (columns : Option (List T
   pub index_is : IsTargetIndex h target index
   pub refuses : select_columns columns (no_rows index.schema) ≡ Err refused.why
 
--- a get refuses; or behind the index, and before the first tile, the columns do
+-- a get refuses; or, with the index at hand, the columns do
 abbrev pub RefusesFetch : ℕ → ℕ → History → History → Target → Option (List Text) → Refused → Type 0
 RefusesFetch before now old new target columns refused = RefusesGet before now old new target.symbol target.version refused ⊎ LacksColumn new target columns refused

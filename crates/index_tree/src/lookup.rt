@@ -36,7 +36,7 @@ pub fn covering(
 /// The slots that share a stamp interval with the range and have one of the columns, in order, in memory of their own. Columns are
 /// counted from 0, in any order. Where none is asked, the first slice of each row block is taken.
 ///
-/// Of each other slot only its rows, columns and stamps are read, where they lie.
+/// Of each other slot only the length of its key's name, and its rows, columns and stamps are read, where they lie.
 pub fn covered(
     alloc: Global,
     slots: &SlotText,

@@ -8,8 +8,8 @@ use base_types::{Items, NoMemory};
 use std::alloc::Global;
 use std::marker::Model;
 
-/// The slots of an index in the making: runs of slots, one behind another, whose bytes are shared with where they were. Contracts
-/// see the list of all slots.
+/// The slots of an index in the making: runs of slots, one behind another, whose bytes are shared with where they were,
+/// or their own where they are new or were moved. Contracts see the list of all slots.
 #[derive(Drop)]
 pub struct SlotRuns {
     runs: Items<SlotText>,

@@ -46,7 +46,7 @@ impl Model for SlotText {
 }
 
 impl SlotText {
-    /// The spelling of these slots. Memory is taken once.
+    /// The spelling of these slots. Memory is taken twice: once for the bytes, and once to share them.
     pub fn of(alloc: Global, slots: &[Slot]) -> Result<SlotText, NoMemory>
         requires fits { AllByRecursion FitsSlot slots.now }
         ensures { IfOk result (λ text. text ≡ slots.now) }

@@ -1,4 +1,4 @@
-//! What a client may ask of a store, what the one-thread library answers, and when replies are legal in a history.
+//! What a client of a store is answered, what the one-thread library answers, and when replies are legal in a history.
 #![tactic(auto)]
 
 mod outcome;
