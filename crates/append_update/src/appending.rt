@@ -24,9 +24,9 @@ use version_chain::StoreLaw;
 /// Appends the frame's rows to those of the symbol's newest live version, as a new version, in at most so many tries. Where there
 /// is none, it writes the frame. It may wait for the store.
 ///
-/// Each try walks the symbol's chain and gets the index of the newest live version, and no tile unless the bytes of all texts might be too many. The new
-/// version shares all tiles of that one; the new rows are cut by themselves. It refuses, in this order, columns that differ
-/// from the base's, a first stamp below the base's last, and a whole that is too large.
+/// Each try walks the symbol's chain and gets the index of the newest live version, and no tile unless the bytes of all texts might
+/// be too many. The new version shares all tiles of that one; the new rows are cut by themselves. It refuses, in this order, columns
+/// that differ from the base's, a first stamp below the base's last, and a whole that is too large.
 pub fn append<R: Wait, B: Bucket<StoreLaw>>(
     rt: &R,
     alloc: Global,

@@ -27,10 +27,10 @@ use version_chain::StoreLaw;
 /// Replaces the rows of the symbol's newest live version in a range by the frame's, as a new version, in at most so many tries. The
 /// range is the given one, or it reaches from the frame's first to its last stamp. It may wait for the store.
 ///
-/// Each try walks the symbol's chain and gets the index of the newest live version, and the tiles of the row blocks that the range cuts;
-/// whole blocks on either side are shared and not read, unless the bytes of all texts might be too many. It refuses, in this order, a row outside the
-/// given range, no rows where no range is given, a symbol or a live version that is not there unless it is an upsert, columns
-/// that differ from the base's, and a whole that is too large.
+/// Each try walks the symbol's chain and gets the index of the newest live version, and the tiles of the row blocks that the range
+/// cuts; whole blocks on either side are shared and not read, unless the bytes of all texts might be too many. It refuses, in this
+/// order, a row outside the given range, no rows where no range is given, a symbol or a live version that is not there unless it is
+/// an upsert, columns that differ from the base's, and a whole that is too large.
 pub fn update<R: Wait, B: Bucket<StoreLaw>>(
     rt: &R,
     alloc: Global,
