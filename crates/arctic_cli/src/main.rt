@@ -1,27 +1,12 @@
-//! The program: reads the words, runs the script over the store and prints the replies.
+//! The program: makes the store, the shelf, the output and the clock, and runs the script that its words name.
 #![tactic(auto)]
 
-mod args;
-mod frame_lines;
-mod line;
-mod outcome_text;
-mod prepare;
-mod print;
-mod reply_line;
-mod run;
-mod stop;
-#[cfg(test)]
-mod tests;
-mod words;
-
-use args::words_of;
 use bucket_core::OpenGate;
 use bucket_shared::Shared;
 use program_edge::{FileShelf, HostClock, OutSink};
-use run::{run, run_stop};
+use program_run::{Halt, run, run_stop, words_of};
 use std::env;
 use std::process::ExitCode;
-use stop::Halt;
 
 /// The number of the first client, that of the first and the last commands.
 const FIRST_CLIENT: u32 = 1;

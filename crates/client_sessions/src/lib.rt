@@ -6,8 +6,6 @@ mod blocks;
 mod parts;
 mod room;
 mod session;
-#[cfg(test)]
-mod tests;
 
 pub use parts::{PartReplies, run_parts};
 pub use session::carry_out;

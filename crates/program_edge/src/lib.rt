@@ -11,8 +11,6 @@ mod memory_sink;
 mod out_sink;
 mod shelf;
 mod sink;
-#[cfg(test)]
-mod tests;
 
 pub use clock::Clock;
 pub use file_shelf::FileShelf;

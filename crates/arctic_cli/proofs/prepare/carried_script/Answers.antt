@@ -1,6 +1,0 @@
-use Rattle.std.proofs.Common.{sym}
-use Rattle.arctic_cli.proofs.Ready.{ready-script}
-use Rattle.arctic_cli.proofs.prepare.carried_script.Goals as goal
-
-pub returns-then-is_carried_script-clause-ready : goal.returns-then-is_carried_script-clause-ready
-returns-then-is_carried_script-clause-ready c = ready-script c.in_ok-script.script c.in_ok-script.ensures.loaded (sym c.if-is_carried_script.ensures)

@@ -1,9 +1,0 @@
-use Rattle.std.proofs.Common.{take, map, Ok}
-use Rattle.std.specs.List.{concat}
-use Rattle.arctic_cli.specs.FrameText.{ended}
-use Rattle.arctic_cli.specs.Endings.{Prints}
-use Rattle.arctic_cli.proofs.print.print_names.Given as goal
-
--- the names so far were printed
-abbrev pub invariant-loop-name : goal.invariant-loop-name
-invariant-loop-name g l = Prints g.S.Sink.written g.S.Sink.faults l.fn.out l.out (concat (take l.name-index (map ended l.names))) (Ok tt)

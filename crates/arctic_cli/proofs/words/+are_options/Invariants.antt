@@ -1,6 +1,0 @@
-use Rattle.std.proofs.Common.{length}
-use Rattle.arctic_cli.proofs.words.+are_options.Given as goal
-
--- each call is over fewer words
-abbrev pub decreases-are_options : goal.decreases-are_options
-decreases-are_options l = length l.options.now

@@ -1,0 +1,25 @@
+use Rattle.std.proofs.Common.{◌≡◌, Result, Err, map, sym, subst}
+use Rattle.std.specs.List.{concat}
+use Rattle.program_edge.specs.declared.sink.SinkErr.{SinkErr}
+use Rattle.program_run.specs.Transcript.{symbol_line}
+use Rattle.program_run.specs.Endings.{Prints}
+use Rattle.program_run.proofs.Commas.{got-at}
+use Rattle.program_run.proofs.Prints.{row-more, row-refused, handed-on}
+use Rattle.program_run.proofs.Shown.{slice_get-map}
+use Rattle.program_run.proofs.print.print_symbols.Goals as goal
+
+pub returns-in_err-put_made : goal.returns-in_err-put_made
+returns-in_err-put_made g c =
+    let same : c.from_residual.result ≡ Err c.in_err-put_made.field-0.0 = handed-on c.from_residual.result c.in_err-put_made.field-0.0 c.from_residual.ensures.1 in
+    subst (λ (x : Result (Unit {0}) SinkErr). Prints g.S.Sink.written g.S.Sink.faults c.args.out.now c.put_made.new.out (concat (map symbol_line c.args.rows.now)) x) (sym same)
+    (row-refused (g.S.Sink.written c.args.out.now) (g.S.Sink.written c.loop-row.out) (g.S.Sink.written c.put_made.new.out) (g.S.Sink.faults c.args.out.now) (g.S.Sink.faults c.loop-row.out) (g.S.Sink.faults c.put_made.new.out)
+    (map symbol_line c.args.rows.now) c.loop-row.row-index (symbol_line c.row-item.result) c.in_err-put_made.field-0.0
+    (slice_get-map symbol_line c.args.rows.now c.loop-row.row-index c.row-item.result (got-at c.args.rows.now c.loop-row.row-index c.row-item.result c.loop-row-test.true c.row-item.is))
+    c.loop-row.invariant (c.in_err-put_made.ensures (symbol_line c.row-item.result) c.symbol_line.ensures))
+
+pub loop-row-preserved : goal.loop-row-preserved
+loop-row-preserved g c =
+    row-more (g.S.Sink.written c.args.out.now) (g.S.Sink.written c.loop-row.out) (g.S.Sink.written c.put_made.new.out) (g.S.Sink.faults c.args.out.now) (g.S.Sink.faults c.loop-row.out) (g.S.Sink.faults c.put_made.new.out)
+    (map symbol_line c.args.rows.now) c.loop-row.row-index (symbol_line c.row-item.result)
+    (slice_get-map symbol_line c.args.rows.now c.loop-row.row-index c.row-item.result (got-at c.args.rows.now c.loop-row.row-index c.row-item.result c.loop-row-test.true c.row-item.is))
+    c.loop-row.invariant (c.in_ok-put_made.ensures (symbol_line c.row-item.result) c.symbol_line.ensures)

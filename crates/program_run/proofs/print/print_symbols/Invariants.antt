@@ -1,0 +1,9 @@
+use Rattle.std.proofs.Common.{take, map, Ok}
+use Rattle.std.specs.List.{concat}
+use Rattle.program_run.specs.Transcript.{symbol_line}
+use Rattle.program_run.specs.Endings.{Prints}
+use Rattle.program_run.proofs.print.print_symbols.Given as goal
+
+-- the symbols so far were printed
+abbrev pub invariant-loop-row : goal.invariant-loop-row
+invariant-loop-row g l = Prints g.S.Sink.written g.S.Sink.faults l.fn.out l.out (concat (take l.row-index (map symbol_line l.rows))) (Ok tt)

@@ -1,0 +1,2 @@
+first
+wrote S t

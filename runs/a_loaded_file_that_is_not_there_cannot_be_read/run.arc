@@ -1,0 +1,2 @@
+load n none.csv int
+first

@@ -1,0 +1,7 @@
+load six six.csv int
+load mid mid.csv int
+first
+write S six
+update S mid
+read S
+keys S
