@@ -1,4 +1,4 @@
-ghost use Rattle.std.specs.Prelude.{◌≡◌, [], IfOk, OnOk};
+ghost use Rattle.std.specs.Prelude.{◌≡◌, ◌×◌, [], IfOk};
 ghost use Rattle.std.specs.Arc.{arc_value};
 ghost use Rattle.key_kind.specs.Keys.{IsKey};
 ghost use Rattle.key_kind.specs.KeyText.{key_text};
@@ -29,16 +29,18 @@ impl Law for OnceLaw {
 }
 
 fn body_of(alloc: Global, bytes: &[u8]) -> Result<Arc<Body>, Fail> {
-    Ok(Arc::new(alloc, Body::make(Vec::from_slice(alloc, bytes)?))?)
+    let bytes = Vec::from_slice(alloc, bytes)?;
+    Ok(Arc::new(alloc, Body::make(bytes))?)
 }
 
-// The key of an element of the symbol's chain, which client 1 put with this serial.
-fn element(alloc: Global, symbol: &Symbol, serial: u64) -> Result<Key, Fail>
+// The key of an element of the chain of S, which client 1 put with this serial.
+fn element(alloc: Global, serial: u64) -> Result<Key, Fail>
     ensures { IfOk result IsKey }
 {
+    let name = Symbol::make(alloc, "S")?.name().copy(alloc)?;
     Ok(Key {
         kind: KeyKind::Version,
-        name: symbol.name().copy(alloc)?,
+        name,
         client: 1,
         serial,
         version: 0,
@@ -47,152 +49,193 @@ fn element(alloc: Global, symbol: &Symbol, serial: u64) -> Result<Key, Fail>
     })
 }
 
-fn mark_of(alloc: Global, entry: &Key) -> Result<Arc<Body>, Fail>
-    requires { IsKey entry.now }
-    ensures { IfOk result (λ mark. arc_value mark ≡ key_text entry.now) }
+// The key of such an element and its spelling.
+fn marked(alloc: Global, serial: u64) -> Result<(Key, Arc<Body>), Fail>
+    ensures { IfOk result (λ both. (IsKey both.0) × (arc_value both.1 ≡ key_text both.0)) }
 {
-    Ok(Arc::new(alloc, Body::make(entry.bytes(alloc)?))?)
+    let key = element(alloc, serial)?;
+    let mark = Arc::new(alloc, Body::make(key.bytes(alloc)?))?;
+    Ok((key, mark))
 }
 
-// What the second of two refers answers, each of which takes the symbol for one without a reference.
+// What a change answers: the place of its event, or why it was not made.
+type Told = Result<u64, StoreErr>;
+
+// What the second of two refers answers, each of which takes S for one without a reference.
 fn refer_twice<R: Wait>(
     rt: &R,
     alloc: Global,
-    bucket: PlainBucket<OnceLaw>,
-    symbol: &Symbol,
-) -> Result<Result<u64, StoreErr>, Fail>
-    requires empty { ⟦<PlainBucket<OnceLaw> as Bucket<OnceLaw>>⟧.seen bucket ≡ [] }
+    bucket: &mut PlainBucket<OnceLaw>,
+) -> Result<Told, Fail>
+    requires empty { ⟦<PlainBucket<OnceLaw> as Bucket<OnceLaw>>⟧.seen bucket.old ≡ [] }
 {
-    let mut bucket = bucket;
-    let first = element(alloc, symbol, 0)?;
-    let second = element(alloc, symbol, 1)?;
-    let mark = mark_of(alloc, &first)?;
-    let other = mark_of(alloc, &second)?;
+    let symbol = Symbol::make(alloc, "S")?;
     let changes: Arc<Changes> = Arc::new(alloc, Items::new(alloc))?;
     let again = Arc::try_clone(&changes)?;
-    match bucket.refer(rt, symbol, None, &first, mark, changes) {
-        Ok(_) => Ok(bucket.refer(rt, symbol, None, &second, other, again)),
+    let (first, mark) = marked(alloc, 0)?;
+    let (second, other) = marked(alloc, 1)?;
+    match bucket.refer(rt, &symbol, None, &first, mark, changes) {
+        Ok(_) => Ok(bucket.refer(rt, &symbol, None, &second, other, again)),
         Err(why) => Ok(Err(why)),
     }
+}
+
+#[test]
+fn a_refer_that_lost_tells_the_place_of_the_one_that_won(rt: HostRuntime) -> Result<(), Fail> {
+    let mut bucket = PlainBucket::make(rt.alloc(), 1, 1)?;
+    let told = refer_twice(&rt, rt.alloc(), &mut bucket)?;
+    assert!(rt; told == Err(StoreErr::Moved { now: 1 }));
+    Ok(())
 }
 
 fn plain(alloc: Global, limit: u64) -> Result<PlainBucket<OnceLaw>, Fail> {
     Ok(PlainBucket::make(alloc, 1, limit)?)
 }
 
-// The calls as tests make them, with fresh keys and bodies.
+// A call, of the element of S with serial 0 or of the snapshot k.
+#[derive(Clone, Copy)]
+enum Call {
+    // This body is put.
+    Put(&'static [u8]),
+    // The snapshot is named, and its name taken away, which is to stand since this place.
+    Name,
+    Unname(u64),
+    // The place of the event that set this body; 0 where none stands, and a fault where another does.
+    Get(&'static [u8]),
+}
 
 fn put<R: Wait, B: Bucket<OnceLaw>>(
     rt: &R,
     alloc: Global,
     bucket: &mut B,
-    key: &Key,
     bytes: &[u8],
-) -> Result<Result<u64, StoreErr>, Fail> {
+) -> Result<Told, Fail> {
+    let key = element(alloc, 0)?;
     let body = body_of(alloc, bytes)?;
-    Ok(bucket.put(rt, key.copy(alloc)?, body))
+    Ok(bucket.put(rt, key, body))
 }
 
-fn name<R: Wait, B: Bucket<OnceLaw>>(
-    rt: &R,
-    alloc: Global,
-    bucket: &mut B,
-    snap: &SnapName,
-) -> Result<Result<u64, StoreErr>, Fail> {
-    Ok(bucket.name(rt, snap, body_of(alloc, b"rows")?))
+fn name<R: Wait, B: Bucket<OnceLaw>>(rt: &R, alloc: Global, bucket: &mut B) -> Result<Told, Fail> {
+    let snap = SnapName::make(alloc, "k")?;
+    let body = body_of(alloc, b"rows")?;
+    Ok(bucket.name(rt, &snap, body))
 }
 
 fn unname<R: Wait, B: Bucket<OnceLaw>>(
     rt: &R,
+    alloc: Global,
     bucket: &mut B,
-    snap: &SnapName,
     since: u64,
-) -> Result<u64, StoreErr> {
-    bucket.unname(rt, snap, since)
+) -> Result<Told, Fail> {
+    let snap = SnapName::make(alloc, "k")?;
+    Ok(bucket.unname(rt, &snap, since))
 }
 
-// The place of the event that set the body under a key, and whether the body is this one.
-fn stands<R: Wait, B: Bucket<OnceLaw>>(
+fn get<R: Wait, B: Bucket<OnceLaw>>(
     rt: &R,
+    alloc: Global,
     bucket: &mut B,
-    key: &Key,
     bytes: &[u8],
-) -> Option<(u64, bool)> {
-    let Ok(found) = bucket.get(rt, key) else {
-        return None;
-    };
-    match &found.body {
-        Some(body) => Some((found.since, body.bytes() == bytes)),
-        None => None,
+) -> Result<Told, Fail> {
+    let key = element(alloc, 0)?;
+    match bucket.get(rt, &key) {
+        Ok(found) => match &found.body {
+            Some(body) if body.bytes() == bytes => Ok(Ok(found.since)),
+            Some(_) => Ok(Err(StoreErr::Fault)),
+            None => Ok(Ok(0)),
+        },
+        Err(why) => Ok(Err(why)),
     }
 }
 
+fn called<R: Wait, B: Bucket<OnceLaw>>(
+    rt: &R,
+    alloc: Global,
+    bucket: &mut B,
+    call: Call,
+) -> Result<Told, Fail> {
+    match call {
+        Call::Put(bytes) => put(rt, alloc, bucket, bytes),
+        Call::Name => name(rt, alloc, bucket),
+        Call::Unname(since) => unname(rt, alloc, bucket, since),
+        Call::Get(bytes) => get(rt, alloc, bucket, bytes),
+    }
+}
+
+// Whether each of these calls in turn answers so.
+fn answer_so<R: Wait, B: Bucket<OnceLaw>>(
+    rt: &R,
+    alloc: Global,
+    bucket: &mut B,
+    calls: &[(Call, Told)],
+) -> Result<bool, Fail> {
+    let mut good = true;
+    for (call, told) in calls {
+        if called(rt, alloc, bucket, *call)? != *told {
+            good = false;
+        }
+    }
+    Ok(good)
+}
+
+// A store of two events that is full.
+const PUTS: &[(Call, Told)] = &[
+    (Call::Put(b"old"), Ok(1)),
+    (Call::Put(b"new"), Ok(2)),
+    (Call::Get(b"new"), Ok(2)),
+    (Call::Put(b"past"), Err(StoreErr::Spent { count: 2 })),
+];
+
 #[test]
 fn a_get_answers_the_body_put_last_and_its_place(rt: HostRuntime) -> Result<(), Fail> {
-    let alloc = rt.alloc();
-    let key = element(alloc, &Symbol::make(alloc, "S")?, 0)?;
-    let mut bucket = plain(alloc, 2)?;
-    assert!(rt; matches!(put(&rt, alloc, &mut bucket, &key, b"old")?, Ok(1)));
-    assert!(rt; matches!(put(&rt, alloc, &mut bucket, &key, b"new")?, Ok(2)));
-    assert!(rt; matches!(stands(&rt, &mut bucket, &key, b"new"), Some((2, true))));
-    let spent = put(&rt, alloc, &mut bucket, &key, b"past")?;
-    assert!(rt; matches!(spent, Err(StoreErr::Spent { count: 2 })));
-    assert_eq!(rt; bucket.events().len(), 2);
+    let mut bucket = plain(rt.alloc(), 2)?;
+    assert!(rt; answer_so(&rt, rt.alloc(), &mut bucket, PUTS)?);
+    assert!(rt; bucket.events().len() == 2);
     Ok(())
 }
 
-#[test]
-fn a_refer_that_lost_tells_the_place_of_the_one_that_won(rt: HostRuntime) -> Result<(), Fail> {
-    let alloc = rt.alloc();
-    let symbol = Symbol::make(alloc, "S")?;
-    let answer = refer_twice(&rt, alloc, PlainBucket::make(alloc, 1, 1)?, &symbol)?;
-    assert!(rt; matches!(answer, Err(StoreErr::Moved { now: 1 })));
-    Ok(())
-}
+const NAMES: &[(Call, Told)] = &[
+    (Call::Name, Ok(1)),
+    (Call::Name, Err(StoreErr::Taken { place: 1 })),
+    (Call::Unname(2), Err(StoreErr::Missing { place: 0 })),
+    (Call::Unname(1), Ok(2)),
+    (Call::Unname(1), Err(StoreErr::Missing { place: 2 })),
+];
 
 #[test]
 fn a_name_is_taken_away_as_it_was_set(rt: HostRuntime) -> Result<(), Fail> {
-    let alloc = rt.alloc();
-    let snap = SnapName::make(alloc, "k")?;
-    let mut bucket = plain(alloc, 9)?;
-    assert!(rt; matches!(name(&rt, alloc, &mut bucket, &snap)?, Ok(1)));
-    let taken = name(&rt, alloc, &mut bucket, &snap)?;
-    assert!(rt; matches!(taken, Err(StoreErr::Taken { place: 1 })));
-    let elsewhere = unname(&rt, &mut bucket, &snap, 2);
-    assert!(rt; matches!(elsewhere, Err(StoreErr::Missing { place: 0 })));
-    assert!(rt; matches!(unname(&rt, &mut bucket, &snap, 1), Ok(2)));
-    let gone = unname(&rt, &mut bucket, &snap, 1);
-    assert!(rt; matches!(gone, Err(StoreErr::Missing { place: 2 })));
+    let mut bucket = plain(rt.alloc(), 9)?;
+    assert!(rt; answer_so(&rt, rt.alloc(), &mut bucket, NAMES)?);
     Ok(())
 }
+
+// The first call fails after its effect, and the third before it.
+const FAILS: &[(u64, When)] = &[(1, When::After), (3, When::Before)];
+
+const PUTS_THAT_FAIL: &[(Call, Told)] = &[
+    (Call::Put(b"a"), Err(StoreErr::Fault)),
+    (Call::Get(b"a"), Ok(1)),
+    (Call::Put(b"b"), Err(StoreErr::Fault)),
+];
 
 #[test]
 fn a_put_that_fails_after_stands_and_one_that_fails_before_does_not(
     rt: HostRuntime,
 ) -> Result<(), Fail> {
-    let alloc = rt.alloc();
-    let symbol = Symbol::make(alloc, "S")?;
-    let key = element(alloc, &symbol, 0)?;
-    let fails = Items::from_slice(alloc, &[(1, When::After), (3, When::Before)])?;
-    let mut bucket = Flaky::make(plain(alloc, 9)?, fails);
-    let after = put(&rt, alloc, &mut bucket, &key, b"a")?;
-    assert!(rt; matches!(after, Err(StoreErr::Fault)));
-    assert!(rt; matches!(stands(&rt, &mut bucket, &key, b"a"), Some((1, true))));
-    let before = put(&rt, alloc, &mut bucket, &key, b"b")?;
-    assert!(rt; matches!(before, Err(StoreErr::Fault)));
-    assert_eq!(rt; bucket.into_inner().events().len(), 1);
+    let fails = Items::from_slice(rt.alloc(), FAILS)?;
+    let mut bucket = Flaky::make(plain(rt.alloc(), 9)?, fails);
+    assert!(rt; answer_so(&rt, rt.alloc(), &mut bucket, PUTS_THAT_FAIL)?);
+    assert!(rt; bucket.into_inner().events().len() == 1);
     Ok(())
 }
 
+const GETS: &[(Call, Told)] = &[(Call::Get(b"a"), Ok(0)), (Call::Get(b"a"), Ok(0))];
+
 #[test]
 fn gets_are_counted_by_kind(rt: HostRuntime) -> Result<(), Fail> {
-    let alloc = rt.alloc();
-    let key = element(alloc, &Symbol::make(alloc, "S")?, 0)?;
-    let mut bucket = Counting::make(plain(alloc, 9)?);
-    assert!(rt; stands(&rt, &mut bucket, &key, b"a").is_none());
-    assert!(rt; stands(&rt, &mut bucket, &key, b"a").is_none());
-    assert_eq!(rt; bucket.gets(KeyKind::Version), 2);
-    assert_eq!(rt; bucket.gets(KeyKind::TableData), 0);
+    let mut bucket = Counting::make(plain(rt.alloc(), 9)?);
+    assert!(rt; answer_so(&rt, rt.alloc(), &mut bucket, GETS)?);
+    assert!(rt; bucket.gets(KeyKind::Version) == 2 && bucket.gets(KeyKind::TableData) == 0);
     Ok(())
 }
 
@@ -213,57 +256,51 @@ impl Gate for PutsPassed {
     }
 }
 
+const PUTS_AT_A_GATE: &[(Call, Told)] = &[
+    (Call::Put(b"a"), Ok(1)),
+    (Call::Put(b"b"), Ok(2)),
+    (Call::Get(b"b"), Ok(2)),
+];
+
+// Whether puts at a gate are made, and how many events there are then.
+fn puts_at<R: Wait>(rt: &R, alloc: Global, gate: &PutsPassed) -> Result<(bool, usize), Fail> {
+    let mut bucket = Gated::make(plain(alloc, 9)?, gate);
+    let good = answer_so(rt, alloc, &mut bucket, PUTS_AT_A_GATE)?;
+    Ok((good, bucket.into_inner().events().len()))
+}
+
 #[test]
 fn a_gate_is_passed_before_and_behind_each_put(rt: HostRuntime) -> Result<(), Fail> {
-    let alloc = rt.alloc();
-    let key = element(alloc, &Symbol::make(alloc, "S")?, 0)?;
     let gate = PutsPassed {
         before: Mutex::new(0),
         behind: Mutex::new(0),
     };
-    let mut bucket = Gated::make(plain(alloc, 9)?, &gate);
-    assert!(rt; matches!(put(&rt, alloc, &mut bucket, &key, b"a")?, Ok(1)));
-    assert!(rt; matches!(put(&rt, alloc, &mut bucket, &key, b"b")?, Ok(2)));
-    assert!(rt; matches!(stands(&rt, &mut bucket, &key, b"b"), Some((2, true))));
-    assert_eq!(rt; bucket.into_inner().events().len(), 2);
-    assert_eq!(rt; *gate.before.lock(&rt), 2);
-    assert_eq!(rt; *gate.behind.lock(&rt), 2);
+    assert!(rt; puts_at(&rt, rt.alloc(), &gate)? == (true, 2));
+    assert!(rt; *gate.before.lock(&rt) == 2);
+    assert!(rt; *gate.behind.lock(&rt) == 2);
     Ok(())
 }
 
-// The place of a first refer of S, to the element of this key.
+// What the first refer of S answers.
 fn refer_first<R: Wait, B: Bucket<OnceLaw>>(
     rt: &R,
     alloc: Global,
     bucket: &mut B,
-    symbol: &Symbol,
-    key: &Key,
-) -> Result<Result<u64, StoreErr>, Fail>
-    requires empty { B.seen bucket.old ≡ [] }
-    requires key { IsKey key.now }
-{
-    let mark = mark_of(alloc, key)?;
-    let changes: Arc<Changes> = Arc::new(alloc, Items::new(alloc))?;
-    Ok(bucket.refer(rt, symbol, None, key, mark, changes))
-}
-
-// Whether a refer, a put, a name and an unname have the places 1 to 4, over a bucket that has seen nothing.
-fn each_change<R: Wait, B: Bucket<OnceLaw>>(
-    rt: &R,
-    alloc: Global,
-    bucket: &mut B,
-) -> Result<bool, Fail>
+) -> Result<Told, Fail>
     requires empty { B.seen bucket.old ≡ [] }
 {
     let symbol = Symbol::make(alloc, "S")?;
-    let snap = SnapName::make(alloc, "k")?;
-    let key = element(alloc, &symbol, 0)?;
-    let refer = refer_first(rt, alloc, bucket, &symbol, &key)?;
-    let put = put(rt, alloc, bucket, &key, b"a")?;
-    let name = name(rt, alloc, bucket, &snap)?;
-    let unname = unname(rt, bucket, &snap, 3);
-    Ok(refer == Ok(1) && put == Ok(2) && name == Ok(3) && unname == Ok(4))
+    let changes: Arc<Changes> = Arc::new(alloc, Items::new(alloc))?;
+    let (key, mark) = marked(alloc, 0)?;
+    Ok(bucket.refer(rt, &symbol, None, &key, mark, changes))
 }
+
+// Behind a refer.
+const CHANGES: &[(Call, Told)] = &[
+    (Call::Put(b"a"), Ok(2)),
+    (Call::Name, Ok(3)),
+    (Call::Unname(3), Ok(4)),
+];
 
 // The client of a bucket, its next serial, the number of events, how many keys are stored, and whether the symbol S has surely no
 // reference.
@@ -284,36 +321,44 @@ fn looks<R: Wait, B: Bucket<OnceLaw>>(
     ))
 }
 
+// Whether a bucket that has seen nothing looks so, a refer, a put, a name and an unname have the places 1 to 4 in another one, and it
+// looks so then.
+fn is_one_below<R: Wait, B: Bucket<OnceLaw>>(
+    rt: &R,
+    alloc: Global,
+    fresh: &mut B,
+    bucket: &mut B,
+) -> Result<bool, Fail>
+    requires empty { B.seen bucket.old ≡ [] }
+{
+    let before = looks(rt, alloc, fresh)?;
+    let refer = refer_first(rt, alloc, bucket)?;
+    let good = answer_so(rt, alloc, bucket, CHANGES)?;
+    let after = looks(rt, alloc, bucket)?;
+    Ok(before == (1, 0, 0, 0, true) && refer == Ok(1) && good && after == (1, 1, 4, 2, false))
+}
+
 #[test]
 fn each_call_of_a_counting_bucket_is_one_below(rt: HostRuntime) -> Result<(), Fail> {
-    let alloc = rt.alloc();
-    let mut fresh = Counting::make(plain(alloc, 9)?);
-    assert!(rt; looks(&rt, alloc, &mut fresh)? == (1, 0, 0, 0, true));
-    let mut bucket = Counting::make(PlainBucket::make(alloc, 1, 9)?);
-    assert!(rt; each_change(&rt, alloc, &mut bucket)?);
-    assert!(rt; looks(&rt, alloc, &mut bucket)? == (1, 1, 4, 2, false));
-    assert_eq!(rt; bucket.into_inner().events().len(), 4);
+    let mut fresh = Counting::make(plain(rt.alloc(), 9)?);
+    let mut bucket = Counting::make(PlainBucket::make(rt.alloc(), 1, 9)?);
+    assert!(rt; is_one_below(&rt, rt.alloc(), &mut fresh, &mut bucket)?);
+    assert!(rt; bucket.into_inner().events().len() == 4);
     Ok(())
 }
 
 #[test]
 fn each_call_of_a_flaky_bucket_without_a_failure_is_one_below(rt: HostRuntime) -> Result<(), Fail> {
-    let alloc = rt.alloc();
-    let mut fresh = Flaky::make(plain(alloc, 9)?, Items::new(alloc));
-    assert!(rt; looks(&rt, alloc, &mut fresh)? == (1, 0, 0, 0, true));
-    let mut bucket = Flaky::make(PlainBucket::make(alloc, 1, 9)?, Items::new(alloc));
-    assert!(rt; each_change(&rt, alloc, &mut bucket)?);
-    assert!(rt; looks(&rt, alloc, &mut bucket)? == (1, 1, 4, 2, false));
+    let mut fresh = Flaky::make(plain(rt.alloc(), 9)?, Items::new(rt.alloc()));
+    let mut bucket = Flaky::make(PlainBucket::make(rt.alloc(), 1, 9)?, Items::new(rt.alloc()));
+    assert!(rt; is_one_below(&rt, rt.alloc(), &mut fresh, &mut bucket)?);
     Ok(())
 }
 
 #[test]
 fn each_call_of_a_gated_bucket_is_one_below(rt: HostRuntime) -> Result<(), Fail> {
-    let alloc = rt.alloc();
-    let mut fresh = Gated::make(plain(alloc, 9)?, &OpenGate);
-    assert!(rt; looks(&rt, alloc, &mut fresh)? == (1, 0, 0, 0, true));
-    let mut bucket = Gated::make(PlainBucket::make(alloc, 1, 9)?, &OpenGate);
-    assert!(rt; each_change(&rt, alloc, &mut bucket)?);
-    assert!(rt; looks(&rt, alloc, &mut bucket)? == (1, 1, 4, 2, false));
+    let mut fresh = Gated::make(plain(rt.alloc(), 9)?, &OpenGate);
+    let mut bucket = Gated::make(PlainBucket::make(rt.alloc(), 1, 9)?, &OpenGate);
+    assert!(rt; is_one_below(&rt, rt.alloc(), &mut fresh, &mut bucket)?);
     Ok(())
 }

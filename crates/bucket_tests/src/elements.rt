@@ -1,7 +1,3 @@
-ghost use Rattle.std.specs.Prelude.{IfOk};
-ghost use Rattle.version_chain.specs.Entries.{IsEntry};
-ghost use Rattle.version_chain.specs.SnapBodies.{IsSnap};
-
 use std::alloc::Global;
 use std::test::Fail;
 use store_model::{ChainMark, Entry, SnapBody};
@@ -22,18 +18,6 @@ const LINK_TOMBS_DISCARD: &[u8] = b"AVE1\x01\
 const ONE_SYMBOL: &[u8] = b"ASN1\0\0\0\x01\0\0\0\0\0\0\0\x04\0\0\0\0\0\0\0\x01\
 \x01S\0\0\0\0\0\0\0\x03\
 \x02\x01S\0\0\0\x01\0\0\0\0\0\0\0\x06\0\0\0\0\0\0\0\x03\0\0\0\0\0\0\0\x01\0\0\0\0\0\0\0\x09";
-
-fn element(alloc: Global, bytes: &[u8]) -> Result<Entry, EntryFault>
-    ensures { IfOk result IsEntry }
-{
-    entry_read(alloc, bytes)
-}
-
-fn snapshot(alloc: Global, bytes: &[u8]) -> Result<SnapBody, EntryFault>
-    ensures { IfOk result IsSnap }
-{
-    snap_read(alloc, bytes)
-}
 
 // Where bytes are no element.
 fn fault(alloc: Global, bytes: &[u8]) -> Option<u64> {
@@ -60,7 +44,7 @@ fn with(alloc: Global, bytes: &[u8], place: usize, byte: u8) -> Result<Vec<u8>, 
     Ok(changed)
 }
 
-// Whether the first mark is a Link of version 3, stamp 5 and 2 rows.
+// Whether a mark is a Link of version 3, stamp 5 and 2 rows.
 fn is_link(mark: &ChainMark) -> bool {
     match mark {
         ChainMark::Link(row) => row.version == 3 && row.stamp == 5 && row.rows == 2,
@@ -68,65 +52,98 @@ fn is_link(mark: &ChainMark) -> bool {
     }
 }
 
+fn has_four_marks(entry: &Entry) -> bool {
+    match entry.changes.items() {
+        [link, _, tomb, _] => is_link(link) && matches!(tomb, ChainMark::Tomb { version: 1 }),
+        _ => false,
+    }
+}
+
+// Whether the bytes are read as that element, which is spelled by them.
+fn is_read_and_spelled(alloc: Global) -> Result<bool, Fail> {
+    let entry = entry_read(alloc, LINK_TOMBS_DISCARD)?;
+    let bytes = entry_bytes(alloc, &entry)?;
+    Ok(has_four_marks(&entry) && bytes.as_slice() == LINK_TOMBS_DISCARD)
+}
+
 #[test]
 fn an_element_has_these_151_bytes(rt: HostRuntime) -> Result<(), Fail> {
-    let alloc = rt.alloc();
     assert!(rt; LINK_TOMBS_DISCARD.len() == 151);
-    let entry = element(alloc, LINK_TOMBS_DISCARD)?;
-    let marks = entry.changes.items();
-    assert!(rt; marks.len() == 4);
-    assert!(rt; is_link(&marks[0]));
-    assert!(rt; matches!(&marks[2], ChainMark::Tomb { version: 1 }));
-    let bytes = entry_bytes(alloc, &entry)?;
-    assert_eq!(rt; bytes.as_slice(), LINK_TOMBS_DISCARD);
+    assert!(rt; is_read_and_spelled(rt.alloc())?);
     Ok(())
+}
+
+// The place of a byte of the element, another byte for it, and where the fault is.
+const BROKEN: &[(usize, u8, u64)] = &[
+    (0, 0, 0), // another magic
+    (4, 2, 4), // neither 0 nor 1 before the key
+    (5, 2, 5), // an element before that is an index
+    (51, 0, 44), // no mark
+    (52, 6, 52), // no such mark
+    (73, 1, 73), // a tile in place of an index
+    (112, 1, 112), // a second Link
+    (121, 3, 121), // a Hold behind a Tomb
+    (129, 0, 122), // a Tomb that does not rise
+    (138, 0, 131), // no piece
+    (51, 5, 151), // a mark too few
+    (51, 3, 130), // a byte after the last field
+];
+
+fn fault_with(alloc: Global, place: usize, byte: u8) -> Result<Option<u64>, Fail> {
+    let bytes = with(alloc, LINK_TOMBS_DISCARD, place, byte)?;
+    Ok(fault(alloc, bytes.as_slice()))
 }
 
 #[test]
 fn each_rule_of_an_element_has_its_place(rt: HostRuntime) -> Result<(), Fail> {
-    let alloc = rt.alloc();
-    let broken = [
-        (0usize, 0u8, 0u64), // another magic
-        (4, 2, 4), // neither 0 nor 1 before the key
-        (5, 2, 5), // an element before that is an index
-        (51, 0, 44), // no mark
-        (52, 6, 52), // no such mark
-        (73, 1, 73), // a tile in place of an index
-        (112, 1, 112), // a second Link
-        (121, 3, 121), // a Hold behind a Tomb
-        (129, 0, 122), // a Tomb that does not rise
-        (138, 0, 131), // no piece
-        (51, 5, 151), // a mark too few
-        (51, 3, 130), // a byte after the last field
-    ];
-    for (place, byte, at) in broken.as_slice() {
-        let bytes = with(alloc, LINK_TOMBS_DISCARD, *place, *byte)?;
-        assert_eq!(rt; fault(alloc, bytes.as_slice()), Some(*at));
+    for (place, byte, at) in BROKEN {
+        let fault = fault_with(rt.alloc(), *place, *byte)?;
+        assert!(rt; fault == Some(*at), "at {place}");
     }
     Ok(())
 }
 
 #[test]
-fn an_element_that_is_cut_is_no_element(rt: HostRuntime) -> Result<(), Fail> {
-    let alloc = rt.alloc();
+fn an_element_that_is_cut_is_no_element(rt: HostRuntime) {
     for length in 0..LINK_TOMBS_DISCARD.len() {
-        let (front, _) = LINK_TOMBS_DISCARD.split_at(length);
-        assert!(rt; fault(alloc, front).is_some());
+        let fault = fault(rt.alloc(), &LINK_TOMBS_DISCARD[..length]);
+        assert!(rt; fault.is_some(), "cut at {length}");
     }
-    Ok(())
+}
+
+fn has_one_row(body: &SnapBody) -> bool {
+    body.holder.client == 1 && body.holder.serial == 4 && body.rows.len() == 1
+}
+
+// Whether the bytes are read as that snapshot, which is spelled by them.
+fn is_snapshot(alloc: Global) -> Result<bool, Fail> {
+    let body = snap_read(alloc, ONE_SYMBOL)?;
+    let bytes = snap_bytes(alloc, &body)?;
+    Ok(has_one_row(&body) && bytes.as_slice() == ONE_SYMBOL)
 }
 
 #[test]
 fn a_snapshot_has_these_bytes(rt: HostRuntime) -> Result<(), Fail> {
-    let alloc = rt.alloc();
-    let body = snapshot(alloc, ONE_SYMBOL)?;
-    assert!(rt; body.holder.client == 1 && body.holder.serial == 4);
-    assert!(rt; body.rows.len() == 1);
-    let bytes = snap_bytes(alloc, &body)?;
-    assert_eq!(rt; bytes.as_slice(), ONE_SYMBOL);
-    let none = with(alloc, ONE_SYMBOL, 23, 0)?;
-    assert_eq!(rt; snap_fault(alloc, none.as_slice()), Some(16));
-    let element = with(alloc, ONE_SYMBOL, 34, 3)?;
-    assert_eq!(rt; snap_fault(alloc, element.as_slice()), Some(34));
+    assert!(rt; is_snapshot(rt.alloc())?);
+    Ok(())
+}
+
+// The place of a byte of the snapshot, another byte for it, and where the fault is.
+const BROKEN_SNAPSHOTS: &[(usize, u8, u64)] = &[
+    (23, 0, 16), // no symbol
+    (34, 3, 34), // an element in place of an index
+];
+
+fn snap_fault_with(alloc: Global, place: usize, byte: u8) -> Result<Option<u64>, Fail> {
+    let bytes = with(alloc, ONE_SYMBOL, place, byte)?;
+    Ok(snap_fault(alloc, bytes.as_slice()))
+}
+
+#[test]
+fn each_rule_of_a_snapshot_has_its_place(rt: HostRuntime) -> Result<(), Fail> {
+    for (place, byte, at) in BROKEN_SNAPSHOTS {
+        let fault = snap_fault_with(rt.alloc(), *place, *byte)?;
+        assert!(rt; fault == Some(*at), "at {place}");
+    }
     Ok(())
 }

@@ -1,27 +1,18 @@
-use crate::columns::{cell_of, ints_of, names_of, texts_of};
-use crate::parts::numbers_of;
-use frame_core::{CellRef, Column, Frame, Items, Part, RawFrame};
+use crate::columns::{Cells, Sheet, frame_of, has_flag, has_int, has_stamps, has_text};
+use frame_core::{Frame, Items, Part};
 use segment_cut::{Cutting, Grid, NoMemory, join, tiles_of};
 use std::alloc::Global;
 use std::test::Fail;
 
-fn sample_columns(alloc: Global) -> Result<Items<Column>, Fail> {
-    let mut columns = Items::new(alloc);
-    columns.push(ints_of(alloc, &[10, 20, 30, 40, 50])?)?;
-    columns.push(Column::Flags(Items::from_slice(alloc, &[true, false, true, false, true])?))?;
-    columns.push(texts_of(alloc, &["v", "", "xy", "", "z"])?)?;
-    Ok(columns)
-}
-
-// Stamps 1 to 5, the whole numbers 10 to 50 in `a`, flags in `b`, and the texts v, none, xy, none, z in `c`.
-fn sample(alloc: Global) -> Result<Frame, Fail> {
-    let raw = RawFrame {
-        stamps: Items::from_slice(alloc, &[1, 2, 3, 4, 5])?,
-        names: names_of(alloc, &["a", "b", "c"])?,
-        columns: sample_columns(alloc)?,
-    };
-    Ok(Frame::make(alloc, &raw)?)
-}
+const SAMPLE: Sheet = Sheet {
+    stamps: &[1, 2, 3, 4, 5],
+    names: &["a", "b", "c"],
+    columns: &[
+        Cells::Ints(&[10, 20, 30, 40, 50]),
+        Cells::Flags(&[true, false, true, false, true]),
+        Cells::Texts(&["v", "", "xy", "", "z"]),
+    ],
+};
 
 // The frame of its tiles, which are taken in the other order.
 fn rejoined(alloc: Global, frame: &Frame, cutting: Cutting) -> Result<Frame, NoMemory> {
@@ -31,80 +22,106 @@ fn rejoined(alloc: Global, frame: &Frame, cutting: Cutting) -> Result<Frame, NoM
     join(alloc, frame.schema(), &tiles)
 }
 
-// The tiles of the sample, two rows by one column.
-fn sample_tiles(alloc: Global) -> Result<Option<Items<(Part, Frame)>>, Fail> {
-    match Cutting::make(2, 1) {
-        Some(cutting) => Ok(Some(tiles_of(alloc, &sample(alloc)?, cutting)?)),
-        None => Ok(None),
-    }
+// Tiles of two rows by one column.
+fn two_by_one() -> Cutting {
+    Cutting::make(2, 1).unwrap_or(Cutting::largest())
 }
 
-// The sample, cut two rows by one column and joined again.
-fn sample_again(alloc: Global) -> Result<Option<Frame>, Fail> {
-    match Cutting::make(2, 1) {
-        Some(cutting) => Ok(Some(rejoined(alloc, &sample(alloc)?, cutting)?)),
-        None => Ok(None),
-    }
+// The first row of a part and how many it has, and then its first column and how many.
+fn numbers_of(part: Part) -> (u64, u64, u64, u64) {
+    (part.first_row, part.rows, part.first_col, part.cols)
 }
 
-// How many blocks and slices so many rows and columns have, two rows by one column, and the last part.
-fn last_part(rows: u64, cols: u64) -> Option<(u64, u64, Option<Part>)> {
-    let grid = Grid::make(rows, cols, Cutting::make(2, 1)?);
-    let (blocks, slices) = (grid.row_blocks(), grid.col_blocks());
-    if blocks > 0 {
-        if slices > 0 {
-            return Some((blocks, slices, Some(grid.part(blocks - 1, slices - 1))));
+// Whether there are nine tiles, and the last has the last cell.
+fn are_nine(tiles: &[(Part, Frame)]) -> bool {
+    match tiles.last() {
+        Some((part, tile)) => {
+            tiles.len() == 9
+                && numbers_of(*part) == (4, 1, 2, 1)
+                && has_stamps(tile, &[5])
+                && has_text(tile, 0, 0, "z")
         }
+        None => false,
     }
-    Some((blocks, slices, None))
+}
+
+// Whether the sample has nine tiles.
+fn has_nine_tiles(alloc: Global) -> Result<bool, Fail> {
+    let frame = frame_of(alloc, &SAMPLE)?;
+    let tiles = tiles_of(alloc, &frame, two_by_one())?;
+    Ok(are_nine(tiles.items()))
 }
 
 #[test]
 fn five_rows_of_three_columns_two_by_one_are_nine_tiles(rt: HostRuntime) -> Result<(), Fail> {
-    let alloc = rt.alloc();
-    let tiles = sample_tiles(alloc)?;
-    assert!(rt; tiles.is_some());
-    if let Some(tiles) = tiles {
-        assert!(rt; tiles.len() == 9);
-        let (part, tile) = tiles.at(8);
-        assert!(rt; numbers_of(*part) == (4, 1, 2, 1));
-        assert_eq!(rt; tile.stamps(), [5].as_slice());
-        assert!(rt; matches!(cell_of(tile, 0, 0), Some(CellRef::Text("z"))));
-    }
+    assert!(rt; has_nine_tiles(rt.alloc())?);
     Ok(())
+}
+
+fn is_sample(frame: &Frame) -> bool {
+    frame.schema().timed()
+        && frame.schema().len() == 3
+        && has_stamps(frame, &[1, 2, 3, 4, 5])
+        && has_int(frame, 3, 0, 40)
+        && has_flag(frame, 1, 1, false)
+        && has_text(frame, 2, 2, "xy")
+}
+
+// Whether the tiles of the sample in the other order join to it.
+fn joins_again(alloc: Global) -> Result<bool, Fail> {
+    let frame = frame_of(alloc, &SAMPLE)?;
+    let again = rejoined(alloc, &frame, two_by_one())?;
+    Ok(is_sample(&again))
 }
 
 #[test]
 fn tiles_in_the_other_order_join_to_the_frame(rt: HostRuntime) -> Result<(), Fail> {
-    let alloc = rt.alloc();
-    let frame = sample_again(alloc)?;
-    assert!(rt; frame.is_some());
-    if let Some(frame) = frame {
-        assert!(rt; frame.schema().timed() && frame.schema().len() == 3);
-        assert_eq!(rt; frame.stamps(), [1, 2, 3, 4, 5].as_slice());
-        assert!(rt; matches!(cell_of(&frame, 3, 0), Some(CellRef::Int(40))));
-        assert!(rt; matches!(cell_of(&frame, 1, 1), Some(CellRef::Flag(false))));
-        assert!(rt; matches!(cell_of(&frame, 2, 2), Some(CellRef::Text("xy"))));
-    }
+    assert!(rt; joins_again(rt.alloc())?);
     Ok(())
 }
 
-#[test]
-fn no_rows_have_no_tile(rt: HostRuntime) {
-    assert!(rt; matches!(last_part(0, 3), Some((0, 3, None))));
+// How many blocks and slices so many rows and columns have, two rows by one column, and the numbers of the last part.
+type Blocks = (u64, u64, Option<(u64, u64, u64, u64)>);
+
+fn blocks_of(rows: u64, cols: u64) -> Blocks {
+    let grid = Grid::make(rows, cols, two_by_one());
+    let (blocks, slices) = (grid.row_blocks(), grid.col_blocks());
+    if blocks > 0 && slices > 0 {
+        let last = grid.part(blocks - 1, slices - 1);
+        (blocks, slices, Some(numbers_of(last)))
+    } else {
+        (blocks, slices, None)
+    }
 }
 
+// Rows and columns, and their blocks: no rows have no tile, and no columns have one slice of none.
+const BLOCKS: &[(u64, u64, Blocks)] = &[(0, 3, (0, 3, None)), (3, 0, (2, 1, Some((2, 1, 0, 0))))];
+
 #[test]
-fn no_columns_have_one_slice_of_none(rt: HostRuntime) {
-    let last = last_part(3, 0);
-    assert!(rt; matches!(last, Some((2, 1, Some(part))) if numbers_of(part) == (2, 1, 0, 0)));
+fn no_rows_have_no_tile_and_no_columns_one_slice_of_none(rt: HostRuntime) {
+    for (rows, cols, blocks) in BLOCKS {
+        assert!(rt; blocks_of(*rows, *cols) == *blocks, "{rows} rows");
+    }
 }
+
+// Rows and columns of a tile, and whether they lie within the limits.
+const CUTTINGS: &[(u32, u32, bool)] = &[
+    (0, 1, false),
+    (1, 0, false),
+    (100_001, 1, false),
+    (1, 128, false),
+    (1, 1, true),
+    (100_000, 127, true),
+];
 
 #[test]
 fn a_cutting_lies_within_the_limits(rt: HostRuntime) {
-    assert!(rt; Cutting::make(0, 1).is_none() && Cutting::make(1, 0).is_none());
-    assert!(rt; Cutting::make(100_001, 1).is_none() && Cutting::make(1, 128).is_none());
-    assert!(rt; Cutting::make(1, 1).is_some() && Cutting::make(100_000, 127).is_some());
+    for (rows, cols, good) in CUTTINGS {
+        assert!(rt;
+            Cutting::make(*rows, *cols).is_some() == *good,
+            "{rows} by {cols}"
+        );
+    }
     let largest = Cutting::largest();
     assert!(rt; largest.rows() == 100_000 && largest.cols() == 127);
 }

@@ -1,23 +1,14 @@
-//! Tests of the calls over a bucket, and of what they stand on, through their public functions: a crate with tests of its own is
-//! proved twice, and those below are the largest.
+//! Tests of the calls over a bucket, and of what they stand on, that no script can make: with faults, full stores, counts of gets, and
+//! looks at what is stored.
 #![tactic(auto)]
 
-mod answers;
 #[cfg(test)]
-mod appends;
+mod asks;
 #[cfg(test)]
-mod burying;
+mod choices;
 #[cfg(test)]
-mod libraries;
-#[cfg(test)]
-mod reads;
+mod links;
 #[cfg(test)]
 mod steps;
 #[cfg(test)]
 mod stores;
-#[cfg(test)]
-mod updates;
-#[cfg(test)]
-mod writes;
-
-pub use answers::committed;

@@ -1,209 +1,144 @@
-use crate::libraries::{everything, library, read};
-use crate::stores::{raw_rows, store, symbol};
+use crate::asks::{Answer, Ask, Told, answers_so, asked, library};
+use crate::stores::{FIVE, store, symbol, tiles};
 use base_types::Items;
-use bucket_core::{Bucket, Flaky, PlainBucket, When};
-use expr_clause::{AsOf, Command};
-use frame_core::{Asked, RawFrame, Refusal};
+use bucket_core::{Bucket, Counting, Event, Flaky, PlainBucket, When};
+use expr_clause::Command;
+use frame_core::Refusal;
+use index_tree::{Index, Slot, read as read_index};
+use key_kind::KeyKind;
 use library_api::{Library, is_carried_out};
-use reply_model::{Outcome, Reply, VersionRow};
+use segment_cut::Cutting;
 use std::alloc::Global;
 use std::sync::Wait;
 use std::test::Fail;
 use version_chain::StoreLaw;
 
-// The columns price and size of five rows, whose stamps are 1, 2, 2, 4 and 9.
-fn raw_five_rows(alloc: Global) -> Result<RawFrame, Fail> {
-    raw_rows(
-        alloc,
-        &["price", "size"],
-        &[1, 2, 2, 4, 9],
-        &[100, 101, 102, 99, 105],
-    )
+// What a write answers in a store that is full at the refer.
+fn written_to_a_full_store<R: Wait>(rt: &R, alloc: Global) -> Result<Answer, Fail> {
+    let mut library = library(store(alloc, 3)?, Cutting::largest());
+    asked(rt, alloc, &mut library, Ask::Write(FIVE))
 }
 
-// What the library answers to a write of the five rows.
-fn write<R: Wait, B: Bucket<StoreLaw>>(
-    rt: &R,
-    alloc: Global,
-    library: &mut Library<B>,
-    at: Option<i64>,
-    prune: bool,
-) -> Result<Reply, Fail> {
-    let mut frames = Items::new(alloc);
-    frames.push(raw_five_rows(alloc)?)?;
-    let command = Command::Write {
-        symbol: symbol(alloc)?,
-        frame: 0,
-        at,
-        prune,
-    };
-    Ok(library.step(rt, alloc, &command, frames.items()))
+#[test]
+fn a_full_store_answers_the_refer_with_its_count(rt: HostRuntime) -> Result<(), Fail> {
+    let answer = written_to_a_full_store(&rt, rt.alloc())?;
+    assert!(rt; answer == (3, Told::Refused(Refusal::Spent { count: 3 })));
+    Ok(())
 }
 
-// What it answers to a question for the number of keys.
-fn keys<R: Wait, B: Bucket<StoreLaw>>(
-    rt: &R,
-    alloc: Global,
-    library: &mut Library<B>,
-) -> Result<Reply, Fail> {
-    let command = Command::Keys {
-        symbol: symbol(alloc)?,
-    };
-    Ok(library.step(rt, alloc, &command, &[]))
-}
+// The fifth call of the store, the refer, fails after its effect.
+const LOST: &[(Ask, Answer)] = &[
+    (Ask::Write(FIVE), (3, Told::Refused(Refusal::StoreFault))),
+    (Ask::Read, (4, Told::Whole(0, 5))),
+    (Ask::Keys, (4, Told::Keys(1, 1, 1, 1, 0))),
+];
 
-// The place and the version of a new version, or of one that was read with its number of rows.
-fn version(reply: &Reply) -> Option<(u64, u64, u64)> {
-    match &reply.outcome {
-        Outcome::Committed { version } => Some((reply.place, *version, 0)),
-        Outcome::Whole { version, frame } => Some((reply.place, *version, frame.rows())),
-        _ => None,
-    }
-}
-
-// The place and the refusal.
-fn refused(reply: &Reply) -> Option<(u64, Refusal)> {
-    match &reply.outcome {
-        Outcome::Refused { why } => Some((reply.place, *why)),
-        _ => None,
-    }
-}
-
-// The place, the version and the number of rows that a read gives.
-fn read_version<R: Wait, B: Bucket<StoreLaw>>(
-    rt: &R,
-    alloc: Global,
-    library: &mut Library<B>,
-    as_of: AsOf,
-) -> Result<Option<(u64, u64, u64)>, Fail> {
-    Ok(version(&read(rt, alloc, library, as_of, everything())?))
-}
-
-// Whether a read is refused at this place, since there is no version that is asked so.
-fn lacks_version<R: Wait, B: Bucket<StoreLaw>>(
-    rt: &R,
-    alloc: Global,
-    library: &mut Library<B>,
-    as_of: AsOf,
-    asked: Asked,
-    place: u64,
-) -> Result<bool, Fail> {
-    let reply = read(rt, alloc, library, as_of, everything())?;
-    Ok(refused(&reply) == Some((place, Refusal::NoSuchVersion { asked })))
-}
-
-// A store whose fifth call fails after its effect.
-fn flaky(alloc: Global) -> Result<Flaky<PlainBucket<StoreLaw>>, Fail> {
-    let mut fails = Items::new(alloc);
-    fails.push((5, When::After))?;
-    Ok(Flaky::make(store(alloc, 1_000)?, fails))
+// Whether a library answers so over a store whose fifth call fails after its effect, and how many events there are then.
+fn loses_its_answer<R: Wait>(rt: &R, alloc: Global) -> Result<(bool, usize), Fail> {
+    let fails = Items::from_slice(alloc, &[(5, When::After)])?;
+    let mut library = library(Flaky::make(store(alloc, 1_000)?, fails), Cutting::largest());
+    let good = answers_so(rt, alloc, &mut library, LOST)?;
+    Ok((good, library.into_bucket().into_inner().events().len()))
 }
 
 #[test]
 fn a_commit_whose_answer_was_lost_stands(rt: HostRuntime) -> Result<(), Fail> {
-    let alloc = rt.alloc();
-    let mut library = library(flaky(alloc)?);
-    let lost = write(&rt, alloc, &mut library, Some(50), false)?;
-    assert!(rt; refused(&lost) == Some((3, Refusal::StoreFault)));
-    assert!(rt; read_version(&rt, alloc, &mut library, AsOf::Back(1))? == Some((4, 0, 5)));
-    let keys = keys(&rt, alloc, &mut library)?;
-    assert!(rt;
-        matches!(
-            keys.outcome,
-            Outcome::Keys {
-                tiles: 1,
-                indexes: 1,
-                versions: 1,
-                refs: 1,
-                staged: 0
-            }
-        )
-    );
+    assert!(rt; loses_its_answer(&rt, rt.alloc())? == (true, 4));
     Ok(())
 }
 
-// What it answers to a question for the versions of S.
-fn versions<R: Wait, B: Bucket<StoreLaw>>(
-    rt: &R,
-    alloc: Global,
-    library: &mut Library<B>,
-) -> Result<Reply, Fail> {
-    let command = Command::Versions {
-        symbol: symbol(alloc)?,
-    };
-    Ok(library.step(rt, alloc, &command, &[]))
+const APPENDS: &[(Ask, Answer)] = &[
+    (Ask::Append(&[9]), (8, Told::Committed(1))),
+    (Ask::Append(&[10]), (12, Told::Committed(2))),
+];
+
+// A store in which S has five rows, whose last stamp is 9.
+fn five_rows<R: Wait>(rt: &R, alloc: Global) -> Result<PlainBucket<StoreLaw>, Fail> {
+    let mut library = library(store(alloc, 1_000)?, Cutting::largest());
+    let _ = asked(rt, alloc, &mut library, Ask::Write(FIVE))?;
+    Ok(library.into_bucket())
 }
 
-// What it answers to a delete of every version of S.
-fn delete<R: Wait, B: Bucket<StoreLaw>>(
-    rt: &R,
-    alloc: Global,
-    library: &mut Library<B>,
-) -> Result<Reply, Fail> {
-    let command = Command::Delete {
-        symbol: symbol(alloc)?,
-        versions: None,
-    };
-    Ok(library.step(rt, alloc, &command, &[]))
+// Whether appends to five rows answer so, and how many elements, indexes and tiles they get.
+fn append_gets<R: Wait>(rt: &R, alloc: Global) -> Result<(bool, u64, u64, u64), Fail> {
+    let counting = Counting::make(five_rows(rt, alloc)?);
+    let mut library = library(counting, Cutting::largest());
+    let good = answers_so(rt, alloc, &mut library, APPENDS)?;
+    let bucket = library.into_bucket();
+    Ok((
+        good,
+        bucket.gets(KeyKind::Version),
+        bucket.gets(KeyKind::TableIndex),
+        bucket.gets(KeyKind::TableData),
+    ))
 }
 
-// What it answers to a prune of S.
-fn prune<R: Wait, B: Bucket<StoreLaw>>(
-    rt: &R,
-    alloc: Global,
-    library: &mut Library<B>,
-) -> Result<Reply, Fail> {
-    let command = Command::Prune {
-        symbol: symbol(alloc)?,
-    };
-    Ok(library.step(rt, alloc, &command, &[]))
+#[test]
+fn an_append_gets_the_newest_element_and_its_index_and_no_tile(
+    rt: HostRuntime,
+) -> Result<(), Fail> {
+    assert!(rt; append_gets(&rt, rt.alloc())? == (true, 2, 2, 0));
+    Ok(())
 }
 
-// The place of a delete or a prune, and how many versions it buried.
-fn buried(reply: &Reply) -> Option<(u64, u64)> {
-    match &reply.outcome {
-        Outcome::Deleted { versions } => Some((reply.place, *versions)),
-        Outcome::Pruned { versions } => Some((reply.place, *versions)),
-        _ => None,
-    }
-}
+// Six rows in tiles of two, and two rows between the third and the fourth.
+const IN_THE_MIDDLE: &[(Ask, Answer)] = &[
+    (
+        Ask::Write(&[10, 20, 30, 40, 50, 60]),
+        (6, Told::Committed(0)),
+    ),
+    (Ask::Update(&[25, 35]), (11, Told::Committed(1))),
+];
 
-// Whether the versions are 0 and 1 with the stamps 50 and 60, of which the first is buried.
-fn first_is_buried(reply: &Reply) -> bool {
-    match &reply.outcome {
-        Outcome::Versions { rows } => {
-            rows.items()
-                == [
-                    VersionRow {
-                        version: 0,
-                        stamp: 50,
-                        live: false,
-                        holds: 0,
-                    },
-                    VersionRow {
-                        version: 1,
-                        stamp: 60,
-                        live: true,
-                        holds: 0,
-                    },
-                ]
-                .as_slice()
+// The first row of each slot of the new index, and the serial of its tile: the first and the last are shared, and not put again.
+const SLOTS: &[(u64, u64)] = &[(0, 0), (2, 5), (4, 6), (5, 2)];
+
+// The index that was put last.
+fn last_index(alloc: Global, bucket: &PlainBucket<StoreLaw>) -> Result<Option<Index>, Fail> {
+    for event in bucket.events().iter().rev() {
+        if let Event::Put { key, body, .. } = event {
+            if key.kind == KeyKind::TableIndex {
+                return Ok(Some(read_index(alloc, body.bytes())?));
+            }
         }
-        _ => false,
+    }
+    Ok(None)
+}
+
+fn are_slots(slots: &[Slot], wanted: &[(u64, u64)]) -> bool {
+    slots.len() == wanted.len()
+        && slots.iter().zip(wanted).all(|(slot, (row, serial))| slot.part.first_row == *row
+            && slot.key.serial == *serial)
+}
+
+// The store of that update, if its commands answer so.
+fn updated<R: Wait>(rt: &R, alloc: Global) -> Result<Option<PlainBucket<StoreLaw>>, Fail> {
+    let mut library = library(store(alloc, 1_000)?, tiles(2, 127));
+    let good = answers_so(rt, alloc, &mut library, IN_THE_MIDDLE)?;
+    Ok(if good {
+        Some(library.into_bucket())
+    } else {
+        None
+    })
+}
+
+// Whether the newest index of the store has these slots.
+fn has_slots(alloc: Global, bucket: &PlainBucket<StoreLaw>) -> Result<bool, Fail> {
+    match last_index(alloc, bucket)? {
+        Some(index) => Ok(are_slots(index.slots.items(), SLOTS)),
+        None => Ok(false),
     }
 }
 
 #[test]
-fn buried_versions_are_listed_and_are_not_read(rt: HostRuntime) -> Result<(), Fail> {
-    let alloc = rt.alloc();
-    let mut library = library(store(alloc, 1_000)?);
-    write(&rt, alloc, &mut library, Some(50), false)?;
-    write(&rt, alloc, &mut library, Some(60), true)?;
-    let listed = versions(&rt, alloc, &mut library)?;
-    assert!(rt; listed.place == 8 && first_is_buried(&listed));
-    assert!(rt; buried(&delete(&rt, alloc, &mut library)?) == Some((10, 1)));
-    assert!(rt; lacks_version(&rt, alloc, &mut library, AsOf::Back(1), Asked::Back(1), 10)?);
-    assert!(rt; buried(&prune(&rt, alloc, &mut library)?) == Some((10, 0)));
+fn a_shared_slot_follows_the_new_rows_and_is_not_put(rt: HostRuntime) -> Result<(), Fail> {
+    let bucket = updated(&rt, rt.alloc())?;
+    assert!(rt;
+        match &bucket {
+            Some(bucket) => has_slots(rt.alloc(), bucket)?,
+            None => false,
+        }
+    );
     Ok(())
 }
 

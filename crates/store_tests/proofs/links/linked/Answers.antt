@@ -11,7 +11,7 @@ use Rattle.frame_write.specs.declared.pieces.Piece.TheVariants as pieces
 use Rattle.frame_write.specs.Links.{FitsPlan, IsInOrder}
 use Rattle.frame_write.specs.Pieces.{ArePieces}
 use Rattle.frame_write.proofs.MeetLemmas.{later_not_own}
-use Rattle.store_tests.proofs.writes.linked.Goals as goal
+use Rattle.store_tests.proofs.links.linked.Goals as goal
 
 -- a write of a frame in one new piece fits every history
 whole_fits : (h : History) (symbol : Name) (at : ℤ) (frame : Frame) (plan : LinkPlan) → IsStorable frame → plan.schema ≡ frame.schema → plan.pieces ≡ pieces.Fresh frame ∷ [] → plan.change ≡ changes.Wrote frame at

@@ -1,0 +1,55 @@
+use base_types::{Items, Keep, Text};
+use std::alloc::Global;
+use std::test::Fail;
+
+fn are_seven_and_eight(items: &Items<i64>) -> bool {
+    items.len() == 2 && *items.at(0) == 7 && *items.at(1) == 8
+}
+
+// Whether a list has no items, and then two that were pushed, and its copy has them too.
+fn stand_in_order(alloc: Global) -> Result<bool, Fail> {
+    let mut items = Items::new(alloc);
+    let empty = items.is_empty();
+    items.push(7)?;
+    items.push(8)?;
+    let copy = items.copy(alloc)?.into_vec();
+    Ok(empty && are_seven_and_eight(&items) && copy.as_slice() == [7, 8].as_slice())
+}
+
+#[test]
+fn items_stand_in_the_order_in_which_they_were_pushed(rt: HostRuntime) -> Result<(), Fail> {
+    assert!(rt; stand_in_order(rt.alloc())?);
+    Ok(())
+}
+
+// Whether 1, 2 and 3 are a copied slice with another behind it, and two slices that were joined.
+fn are_joined(alloc: Global) -> Result<bool, Fail> {
+    let mut items = Items::from_slice(alloc, &[1u8, 2])?;
+    items.extend(&[3])?;
+    let joined = Items::joined(alloc, &[1u8], &[2, 3])?;
+    Ok(items.items() == [1, 2, 3].as_slice() && joined.items() == items.items())
+}
+
+#[test]
+fn slices_are_copied_and_joined_at_once(rt: HostRuntime) -> Result<(), Fail> {
+    assert!(rt; are_joined(rt.alloc())?);
+    Ok(())
+}
+
+fn is_price(text: &Text) -> bool {
+    text.text() == "price" && text.len() == 5
+}
+
+// Whether a text equals its copy, and one with a later byte is greater.
+fn are_ordered(alloc: Global) -> Result<bool, Fail> {
+    let price = Text::make(alloc, "price")?;
+    let copy = price.copy(alloc)?;
+    let pride = Text::make(alloc, "pride")?;
+    Ok(is_price(&price) && copy == price && pride > price)
+}
+
+#[test]
+fn texts_are_equal_by_their_bytes_and_ordered_by_them(rt: HostRuntime) -> Result<(), Fail> {
+    assert!(rt; are_ordered(rt.alloc())?);
+    Ok(())
+}
