@@ -8,7 +8,7 @@ def arctic():
     """The program, as the gate or ./arctic built it."""
     program = top / "crates" / "arctic_cli" / "out" / "arctic_cli"
     if not program.exists():
-        sys.exit("build the program first: ./arctic run examples/day.arc")
+        sys.exit("build the program first: (cd examples && ../arctic run day.arc)")
     return program
 
 

@@ -115,17 +115,14 @@ fn found(reply: &Reply) -> Option<u64> {
     }
 }
 
-// Two clients write a symbol each, between a write and a read of the first client.
-fn three_writes<R: Threads + Wait + Sync>(
-    rt: &R,
-    alloc: Global,
-) -> Result<(Pass, PartReplies), Fail> {
-    let first = one(alloc, write(alloc, "S")?)?;
-    let mut blocks = Items::new(alloc);
-    blocks.push(one(alloc, write(alloc, "A")?)?)?;
-    blocks.push(one(alloc, write(alloc, "B")?)?)?;
-    let last = one(alloc, read(alloc, "B")?)?;
-    run(rt, alloc, first.items(), blocks.items(), last.items())
+/// Where the replies stand, each for a first version, and how long the history is.
+#[derive(Clone, Copy)]
+struct Places {
+    first: Option<u64>,
+    a: Option<u64>,
+    b: Option<u64>,
+    last: Option<u64>,
+    end: u64,
 }
 
 // The one reply of a list.
@@ -136,25 +133,59 @@ fn only(replies: &Items<Reply>) -> Option<&Reply> {
     }
 }
 
+fn places_of(pass: &Pass, replies: &PartReplies) -> Option<Places> {
+    let [a, b] = replies.blocks.items() else {
+        return None;
+    };
+    Some(Places {
+        first: only(&replies.first).and_then(written),
+        a: only(a).and_then(written),
+        b: only(b).and_then(written),
+        last: only(&replies.last).and_then(found),
+        end: pass.place(),
+    })
+}
+
+// The blocks of two clients, which write a symbol each.
+fn two_blocks(alloc: Global) -> Result<Items<Items<Command>>, Fail>
+    ensures { IfOk result (λ blocks. AllByRecursion (AreNamed 1) blocks) }
+{
+    let mut blocks = Items::new(alloc);
+    blocks.push(one(alloc, write(alloc, "A")?)?)?;
+    blocks.push(one(alloc, write(alloc, "B")?)?)?;
+    Ok(blocks)
+}
+
+// Two clients write a symbol each, between a write and a read of the first client.
+fn three_writes<R: Threads + Wait + Sync>(rt: &R, alloc: Global) -> Result<Option<Places>, Fail> {
+    let first = one(alloc, write(alloc, "S")?)?;
+    let blocks = two_blocks(alloc)?;
+    let last = one(alloc, read(alloc, "B")?)?;
+    let (pass, replies) = run(rt, alloc, first.items(), blocks.items(), last.items())?;
+    Ok(places_of(&pass, &replies))
+}
+
+fn is_found_behind_the_joins(places: Places) -> bool {
+    places.end == 12 && places.first == Some(4) && places.last == Some(12)
+}
+
+fn are_written_once(places: Places) -> bool {
+    let (a, b) = (places.a.unwrap_or(0), places.b.unwrap_or(0));
+    a != b && a.max(b) == 12 && a.min(b) >= 8
+}
+
 #[test]
 fn what_a_client_wrote_on_its_thread_is_found_behind_the_joins(
     rt: HostRuntime,
 ) -> Result<(), Fail> {
-    let (pass, replies) = three_writes(&rt, rt.alloc())?;
-    assert!(rt; pass.place() == 12);
-    assert!(rt; only(&replies.first).and_then(written) == Some(4));
-    assert!(rt; only(&replies.last).and_then(found) == Some(12));
+    let places = three_writes(&rt, rt.alloc())?;
+    assert!(rt; places.is_some_and(is_found_behind_the_joins));
     Ok(())
 }
 
 #[test]
 fn each_client_writes_once(rt: HostRuntime) -> Result<(), Fail> {
-    let (_pass, replies) = three_writes(&rt, rt.alloc())?;
-    let blocks = replies.blocks.items();
-    assert!(rt; blocks.len() == 2);
-    let a = only(&blocks[0]).and_then(written).unwrap_or(0);
-    let b = only(&blocks[1]).and_then(written).unwrap_or(0);
-    assert!(rt; a != b && a.max(b) == 12);
-    assert!(rt; a.min(b) >= 8);
+    let places = three_writes(&rt, rt.alloc())?;
+    assert!(rt; places.is_some_and(are_written_once));
     Ok(())
 }
