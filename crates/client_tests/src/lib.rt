@@ -2,13 +2,14 @@
 #![tactic(auto)]
 
 #[cfg(test)]
+mod asks;
+#[cfg(test)]
 mod gaps;
+#[cfg(test)]
 mod meanwhile;
+#[cfg(test)]
+mod meeting;
 #[cfg(test)]
 mod numbers;
 #[cfg(test)]
-mod reclaim_tests;
-#[cfg(test)]
-mod tests;
-
-pub use meanwhile::{Act, Meanwhile};
+mod reading_beside;
