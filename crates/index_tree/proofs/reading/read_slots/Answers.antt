@@ -11,4 +11,4 @@ returns-in_err-slot c =
 pub loop-preserved : goal.loop-preserved
 loop-preserved c =
     let read = slots_more c.args.total c.args.columns c.args.count c.loop.counter c.args.bytes.now c.loop.rest.now c.loop.reach c.loop.slots (slot_seen c.in_ok-slot.slot) c.in_ok-slot.after.now c.loop-test.true c.loop.invariant c.in_ok-slot.ensures.gives in
-    rw (c.in_ok-push.ensures.ok, c.in_ok-to_slot.ensures, c.of-reach.ensures) read
+    rw (c.in_ok-push_slot.ensures, c.of-reach.ensures) read
