@@ -124,11 +124,7 @@ impl EventLog {
         ensures ok { OnOk result (self.new ≡ put_event client key (arc_value body) ∷ self.old) }
         ensures err { OnErr result (self.new ≡ self.old) }
     {
-        let event = Event::Put {
-            client,
-            key: key.copy(alloc)?,
-            body: SharedBody::make(Arc::try_clone(&body)?),
-        };
+        let event = event_of_put(alloc, client, &key, &body)?;
         add_body(&mut self.events, &mut self.contents, event, key, body)?;
         Ok(())
     }
@@ -149,7 +145,7 @@ impl EventLog {
         ensures ok { OnOk result (self.new ≡ refer_event client symbol.now (option_copied was.entry) entry.now (arc_value changes) ∷ self.old) }
         ensures err { OnErr result (self.new ≡ self.old) }
     {
-        let event = reference_event(alloc, client, symbol, was, entry, changes)?;
+        let event = event_of_refer(alloc, client, symbol, was, entry, changes)?;
         add_reference(
             &mut self.events,
             &mut self.contents,
@@ -176,11 +172,7 @@ impl EventLog {
         ensures ok { OnOk result (self.new ≡ name_event client snap.now (arc_value body) ∷ self.old) }
         ensures err { OnErr result (self.new ≡ self.old) }
     {
-        let event = Event::Name {
-            client,
-            snap: snap.copy(alloc)?,
-            body: SharedBody::make(Arc::try_clone(&body)?),
-        };
+        let event = event_of_name(alloc, client, snap, &body)?;
         add_body(&mut self.events, &mut self.contents, event, key, body)?;
         Ok(())
     }
@@ -235,7 +227,7 @@ fn push_event(events: &mut Vec<Event>, event: Event) -> Result<(), NoMemory>
 fn drop_newest(events: &mut Vec<Event>)
     ensures { events.new.items ≡ take (vec_len events.old - 1) events.old.items }
 {
-    let _ = events.pop();
+    events.truncate(events.len().saturating_sub(1));
 }
 
 /// Adds an event, and what it leaves: a body under its key.
@@ -313,8 +305,31 @@ fn reference_names(alloc: Global, symbol: &Symbol) -> Result<(Name, Key), NoMemo
     Ok((name, Key::reference(alloc, symbol)?))
 }
 
+/// The event that a client puts a body under a key.
+fn event_of_put(alloc: Global, client: u32, key: &Key, body: &Arc<Body>) -> Result<Event, NoMemory>
+    ensures { IfOk result (λ event. event ≡ put_event client key.now (arc_value body.now)) }
+{
+    let key = key.copy(alloc)?;
+    let body = SharedBody::make(Arc::try_clone(body)?);
+    Ok(Event::Put { client, key, body })
+}
+
+/// The event that a client sets a snapshot's name to a body.
+fn event_of_name(
+    alloc: Global,
+    client: u32,
+    snap: &SnapName,
+    body: &Arc<Body>,
+) -> Result<Event, NoMemory>
+    ensures { IfOk result (λ event. event ≡ name_event client snap.now (arc_value body.now)) }
+{
+    let snap = snap.copy(alloc)?;
+    let body = SharedBody::make(Arc::try_clone(body)?);
+    Ok(Event::Name { client, snap, body })
+}
+
 /// The event that a client sets a symbol's reference.
-fn reference_event(
+fn event_of_refer(
     alloc: Global,
     client: u32,
     symbol: &Symbol,
