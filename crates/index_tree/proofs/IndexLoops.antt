@@ -12,7 +12,7 @@ use Rattle.segment_bytes.specs.Heads.{head_at}
 use Rattle.index_tree.specs.declared.index.Slot.{Slot}
 use Rattle.index_tree.specs.declared.fault.Stop.{Stop}
 use Rattle.index_tree.specs.declared.fault.Stop.TheVariants as stops
-use Rattle.index_tree.specs.IndexFaults.{Reads}
+use Rattle.index_tree.specs.IndexFaults.{Reads, Stops}
 use Rattle.index_tree.specs.IndexText.{Reach, no_reach, reach_of, heads_at, slot_at, slots_at}
 
 -- ---- what was read, and what is left
@@ -106,10 +106,15 @@ slots_more total columns count at first rest reach slots slot after lt so_far h 
     ∙ ap (with_front slots) (sym (slots_step total columns count at rest reach lt))
     ∙ so_far
 
-pub slots_fail : (total columns count at : ℕ) (first rest : List ℕ) (reach : Reach) (slots : List Slot) (left : ℕ) → at < count → SlotsSoFar total columns count at first rest reach slots → slot_at total columns reach rest ≡ Err left → slots_at total columns no_reach count first ≡ Err left
+slots_fail : (total columns count at : ℕ) (first rest : List ℕ) (reach : Reach) (slots : List Slot) (left : ℕ) → at < count → SlotsSoFar total columns count at first rest reach slots → slot_at total columns reach rest ≡ Err left → slots_at total columns no_reach count first ≡ Err left
 slots_fail total columns count at first rest reach slots left lt so_far h =
     sym so_far ∙ ap (with_front slots) (slots_step total columns count at rest reach lt)
     ∙ ap (λ r. with_front slots (r >>= λ s. slots_at total columns (reach_of columns s.0) (count - (at + 1)) s.1 >>= λ more. Ok (s.0 ∷ more.0, more.1))) h
+
+-- the reading of a slot stopped, and so does that of all
+pub slots_stopped : {Y : Type 0} (shown : Y → List Slot × List ℕ) (total columns count at : ℕ) (first rest : List ℕ) (reach : Reach) (slots : List Slot) (why : Stop) → at < count → SlotsSoFar total columns count at first rest reach slots → Stops why (slot_at total columns reach rest) → Reads shown (Err why) (slots_at total columns no_reach count first)
+slots_stopped shown total columns count at first rest reach slots (stops.Bad left) lt so_far h = slots_fail total columns count at first rest reach slots left lt so_far h
+slots_stopped shown total columns count at first rest reach slots stops.NoMemory lt so_far h = tt
 
 -- whether nothing is left to cover
 abbrev pub reach_is_whole : ℕ → Reach → Bool

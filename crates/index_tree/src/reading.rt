@@ -7,10 +7,11 @@ ghost use Rattle.byte_fields.specs.Readers.{Gives};
 ghost use Rattle.key_kind.specs.Keys.{IsKey};
 ghost use Rattle.key_kind.specs.KeyViews.{key_of};
 ghost use Rattle.index_tree.specs.SlotViews.{slot_seen};
-ghost use Rattle.index_tree.specs.IndexParts.{columns_at, counts_at};
-ghost use Rattle.index_tree.specs.IndexText.{no_reach, heads_at, slots_at, index_at, index_text, index_of};
+ghost use Rattle.index_tree.specs.IndexParts.{columns_at, counts_at, tiles_of};
+ghost use Rattle.index_tree.specs.declared.index.Slot.{Slot as ReadSlot};
+ghost use Rattle.index_tree.specs.IndexText.{no_reach, reach_of, slot_at, heads_at, slots_at, index_at, index_text, index_of};
 ghost use Rattle.index_tree.specs.IndexRules.{IsIndex};
-ghost use Rattle.index_tree.specs.IndexFaults.{IsIndexFault, Reads};
+ghost use Rattle.index_tree.specs.IndexFaults.{IsIndexFault, Reads, Stops};
 
 use crate::fault::{IndexFault, Stop};
 use crate::index::{Index, Slot};
@@ -58,16 +59,24 @@ fn read_index(alloc: Global, bytes: &[u8]) -> Result<Index, Stop>
     ensures { Reads (λ index. index) result (index_of bytes.now) }
 {
     let (schema, columns, rest) = read_columns(alloc, bytes)?;
-    let (rows, count, rest) = read_counts(rest)?;
-    let (slots, end) = read_slots(alloc, rows, columns, count, rest)?;
-    if !end.is_empty() {
-        return Err(Stop::Bad { left: end.len() });
-    }
+    let (rows, slots) = read_tiles(alloc, columns, rest)?;
     Ok(Index {
         schema,
         rows: rows as u64,
         slots,
     })
+}
+
+/// How many rows an index of so many columns has, and its slots, behind which nothing follows.
+fn read_tiles(alloc: Global, columns: u16, bytes: &[u8]) -> Result<(u32, Items<Slot>), Stop>
+    ensures { Reads (λ x. (x.0, x.1)) result (tiles_of columns bytes.now) }
+{
+    let (rows, count, rest) = read_counts(bytes)?;
+    let (slots, end) = read_slots(alloc, rows, columns, count, rest)?;
+    if !end.is_empty() {
+        return Err(Stop::Bad { left: end.len() });
+    }
+    Ok((rows, slots))
 }
 
 /// The schema of an index and the number of its columns, behind the bytes with which each index begins, and what follows them.
@@ -173,10 +182,7 @@ fn read_slots(
     let mut reach = Reach::none();
     let mut rest = bytes;
     for _ in 0..count {
-        let (slot, after) = read_slot(total, columns, &reach, rest)?;
-        push_slot(&mut slots, alloc, &slot)?;
-        reach = Reach::of(columns, &slot);
-        rest = after;
+        rest = push_next(&mut slots, &mut reach, alloc, total, columns, rest)?;
     }
     if !reach.is_whole(total) {
         return Err(Stop::Bad { left: rest.len() });
@@ -190,4 +196,22 @@ fn push_slot(slots: &mut Items<Slot>, alloc: Global, slot: &SlotView<'_>) -> Res
     ensures { OnOk result (slots.new ≡ slots.old ++ slot_seen slot.now ∷ []) }
 {
     slots.push(slot.to_slot(alloc)?)
+}
+
+/// Adds the next slot behind the others, whose reach goes on with it, and gives what follows.
+fn push_next<'a>(
+    slots: &mut Items<Slot>,
+    reach: &mut Reach,
+    alloc: Global,
+    total: u32,
+    columns: u16,
+    bytes: &'a [u8],
+) -> Result<&'a [u8], Stop>
+    ensures pushed { IfOk result (λ rest. (slot : ReadSlot) × (slot_at total columns reach.old bytes.now ≡ Ok (slot, rest.now)) × (slots.new ≡ slots.old ++ slot ∷ []) × (reach.new ≡ reach_of columns slot)) }
+    ensures stopped { IfErr result (λ why. Stops why (slot_at total columns reach.old bytes.now)) }
+{
+    let (slot, rest) = read_slot(total, columns, reach, bytes)?;
+    push_slot(slots, alloc, &slot)?;
+    *reach = Reach::of(columns, &slot);
+    Ok(rest)
 }

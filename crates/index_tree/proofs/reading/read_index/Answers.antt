@@ -8,11 +8,5 @@ returns-in_err-schema c = rw (index_by_parts c.args.bytes.now) (search rules)
 pub returns-in_err-rows : goal.returns-in_err-rows
 returns-in_err-rows c = rw (index_by_parts c.args.bytes.now) (search rules)
 
-pub returns-in_err-slots : goal.returns-in_err-slots
-returns-in_err-slots c = rw (index_by_parts c.args.bytes.now) (search rules)
-
-pub returns-then-not-is_empty : goal.returns-then-not-is_empty
-returns-then-not-is_empty c = rw (index_by_parts c.args.bytes.now) (search rules)
-
 pub returns : goal.returns
 returns c = rw (index_by_parts c.args.bytes.now) (search rules)
