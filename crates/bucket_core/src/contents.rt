@@ -1,4 +1,4 @@
-ghost use Rattle.std.specs.Prelude.{◌≡◌, ◌↔◌, ◌^◌, ◌-◌, ◌<◌, [], IsTrue, IfOk, OnOk, OnErr, None, Some, option_copied};
+ghost use Rattle.std.specs.Prelude.{◌≡◌, ◌↔◌, ◌^◌, ◌-◌, ◌<◌, [], ◌∷◌, ◌++◌, IsTrue, IfOk, OnOk, OnErr, None, Some, option_copied};
 ghost use Rattle.std.specs.Arc.{arc_value};
 ghost use Rattle.std.specs.BTreeMap.{insert_entry};
 ghost use Rattle.key_kind.specs.Keys.{key_cmp, snapshot_key};
@@ -86,7 +86,7 @@ impl Contents {
         let mut keys = Items::new(alloc);
         for key in self.entries.keys() {
             if matches(kind, name, key) {
-                keys.push(key.copy(alloc)?)?;
+                push_copy(&mut keys, alloc, key)?;
             }
         }
         Ok(keys)
@@ -186,6 +186,13 @@ impl Contents {
         let _ = self.entries.remove(key);
         self.count += 1;
     }
+}
+
+/// Adds a copy of a key behind the others.
+fn push_copy(keys: &mut Items<Key>, alloc: Global, key: &Key) -> Result<(), NoMemory>
+    ensures { OnOk result (keys.new ≡ keys.old ++ key.now ∷ []) }
+{
+    keys.push(key.copy(alloc)?)
 }
 
 /// Sets an entry, or leaves the entries as they are.

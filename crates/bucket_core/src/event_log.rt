@@ -1,6 +1,6 @@
-ghost use Rattle.std.specs.Prelude.{◌≡◌, ◌-◌, ◌^◌, ◌<◌, [], ◌∷◌, ◌++◌, length, reverse, None, Some, IfOk, OnOk, OnErr, option_copied};
+ghost use Rattle.std.specs.Prelude.{◌≡◌, ◌-◌, ◌^◌, ◌<◌, [], ◌∷◌, ◌++◌, length, reverse, take, vec_len, None, Some, IfOk, OnOk, OnErr, option_copied};
 ghost use Rattle.std.specs.Arc.{arc_value};
-ghost use Rattle.key_kind.specs.Keys.{snapshot_key};
+ghost use Rattle.key_kind.specs.Keys.{reference_key, snapshot_key};
 ghost use Rattle.key_kind.specs.KeyText.{key_text};
 ghost use Rattle.bucket_core.specs.History.{referred_at};
 ghost use Rattle.bucket_core.specs.Heads.{HasMoved};
@@ -124,11 +124,7 @@ impl EventLog {
         ensures ok { OnOk result (self.new ≡ put_event client key (arc_value body) ∷ self.old) }
         ensures err { OnErr result (self.new ≡ self.old) }
     {
-        let event = Event::Put {
-            client,
-            key: key.copy(alloc)?,
-            body: SharedBody::make(Arc::try_clone(&body)?),
-        };
+        let event = event_of_put(alloc, client, &key, &body)?;
         add_body(&mut self.events, &mut self.contents, event, key, body)?;
         Ok(())
     }
@@ -149,24 +145,14 @@ impl EventLog {
         ensures ok { OnOk result (self.new ≡ refer_event client symbol.now (option_copied was.entry) entry.now (arc_value changes) ∷ self.old) }
         ensures err { OnErr result (self.new ≡ self.old) }
     {
-        let name = symbol.name().copy(alloc)?;
-        let key = Key::reference(alloc, symbol)?;
-        let element = entry.copy(alloc)?;
-        let event = Event::Refer {
-            client,
-            symbol: symbol.copy(alloc)?,
-            was: copied(alloc, was)?,
-            entry: entry.copy(alloc)?,
-            changes: SharedChanges::make(changes),
-        };
+        let event = event_of_refer(alloc, client, symbol, was, entry, changes)?;
         add_reference(
             &mut self.events,
             &mut self.contents,
             alloc,
             event,
-            name,
-            key,
-            element,
+            symbol,
+            entry,
             mark,
         )?;
         Ok(())
@@ -186,11 +172,7 @@ impl EventLog {
         ensures ok { OnOk result (self.new ≡ name_event client snap.now (arc_value body) ∷ self.old) }
         ensures err { OnErr result (self.new ≡ self.old) }
     {
-        let event = Event::Name {
-            client,
-            snap: snap.copy(alloc)?,
-            body: SharedBody::make(Arc::try_clone(&body)?),
-        };
+        let event = event_of_name(alloc, client, snap, &body)?;
         add_body(&mut self.events, &mut self.contents, event, key, body)?;
         Ok(())
     }
@@ -212,7 +194,7 @@ impl EventLog {
             client,
             snap: snap.copy(alloc)?,
         };
-        self.events.push(event)?;
+        push_event(&mut self.events, event)?;
         self.contents.drop_key(key);
         Ok(())
     }
@@ -227,10 +209,25 @@ impl EventLog {
             client,
             key: key.copy(alloc)?,
         };
-        self.events.push(event)?;
+        push_event(&mut self.events, event)?;
         self.contents.drop_key(key);
         Ok(())
     }
+}
+
+/// Adds an event behind the others.
+fn push_event(events: &mut Vec<Event>, event: Event) -> Result<(), NoMemory>
+    ensures ok { OnOk result (events.new.items ≡ events.old.items ++ event ∷ []) }
+    ensures err { OnErr result (events.new.items ≡ events.old.items) }
+{
+    Ok(events.push(event)?)
+}
+
+/// Takes the newest event away.
+fn drop_newest(events: &mut Vec<Event>)
+    ensures { events.new.items ≡ take (vec_len events.old - 1) events.old.items }
+{
+    events.truncate(events.len().saturating_sub(1));
 }
 
 /// Adds an event, and what it leaves: a body under its key.
@@ -247,41 +244,122 @@ fn add_body(
     ensures same_events { OnErr result (events.new.items ≡ events.old.items) }
     ensures same_contents { OnErr result (ShowsSame contents.old contents.new) }
 {
-    events.push(event)?;
+    push_event(events, event)?;
     match contents.set(key, body) {
         Ok(()) => Ok(()),
         Err(NoMemory) => {
-            let _ = events.pop();
+            drop_newest(events);
             Err(NoMemory)
         }
     }
 }
 
-/// Adds an event, and what it leaves: a symbol's reference, whose key is `key`, to an entry, whose spelling is `mark`.
+/// Adds an event, and what it leaves: a symbol's reference to an entry, whose spelling is `mark`.
 fn add_reference(
     events: &mut Vec<Event>,
     contents: &mut Contents,
     alloc: Global,
     event: Event,
-    symbol: Name,
-    key: Key,
-    entry: Key,
+    symbol: &Symbol,
+    entry: &Key,
     mark: Arc<Body>,
 ) -> Result<(), NoMemory>
     requires room { events_of contents.old < 2 ^ 64 - 1 }
     ensures events { OnOk result (events.new.items ≡ events.old.items ++ event ∷ []) }
-    ensures contents { OnOk result (SetsReference contents.old contents.new symbol key entry (arc_value mark)) }
+    ensures contents { OnOk result (SetsReference contents.old contents.new symbol.now (reference_key symbol.now) entry.now (arc_value mark)) }
     ensures same_events { OnErr result (events.new.items ≡ events.old.items) }
     ensures same_contents { OnErr result (ShowsSame contents.old contents.new) }
 {
-    events.push(event)?;
-    match contents.refer(alloc, symbol, key, entry, mark) {
+    push_event(events, event)?;
+    match set_reference(contents, alloc, symbol, entry, mark) {
         Ok(()) => Ok(()),
         Err(NoMemory) => {
-            let _ = events.pop();
+            drop_newest(events);
             Err(NoMemory)
         }
     }
+}
+
+/// Sets what the event that sets a symbol's reference leaves.
+fn set_reference(
+    contents: &mut Contents,
+    alloc: Global,
+    symbol: &Symbol,
+    entry: &Key,
+    mark: Arc<Body>,
+) -> Result<(), NoMemory>
+    requires room { events_of contents.old < 2 ^ 64 - 1 }
+    ensures ok { OnOk result (SetsReference contents.old contents.new symbol.now (reference_key symbol.now) entry.now (arc_value mark)) }
+    ensures err { OnErr result (ShowsSame contents.old contents.new) }
+{
+    let (name, key) = reference_names(alloc, symbol)?;
+    let entry = entry.copy(alloc)?;
+    contents.refer(alloc, name, key, entry, mark)
+}
+
+/// A copy of a symbol's name, and the key of its reference.
+fn reference_names(alloc: Global, symbol: &Symbol) -> Result<(Name, Key), NoMemory>
+    ensures { IfOk result (λ names. names ≡ (symbol.now, reference_key symbol.now)) }
+{
+    let name = symbol.name().copy(alloc)?;
+    Ok((name, Key::reference(alloc, symbol)?))
+}
+
+/// The event that a client puts a body under a key.
+fn event_of_put(alloc: Global, client: u32, key: &Key, body: &Arc<Body>) -> Result<Event, NoMemory>
+    ensures { IfOk result (λ event. event ≡ put_event client key.now (arc_value body.now)) }
+{
+    let key = key.copy(alloc)?;
+    let body = SharedBody::make(Arc::try_clone(body)?);
+    Ok(Event::Put { client, key, body })
+}
+
+/// The event that a client sets a snapshot's name to a body.
+fn event_of_name(
+    alloc: Global,
+    client: u32,
+    snap: &SnapName,
+    body: &Arc<Body>,
+) -> Result<Event, NoMemory>
+    ensures { IfOk result (λ event. event ≡ name_event client snap.now (arc_value body.now)) }
+{
+    let snap = snap.copy(alloc)?;
+    let body = SharedBody::make(Arc::try_clone(body)?);
+    Ok(Event::Name { client, snap, body })
+}
+
+/// The event that a client sets a symbol's reference.
+fn event_of_refer(
+    alloc: Global,
+    client: u32,
+    symbol: &Symbol,
+    was: Option<&Key>,
+    entry: &Key,
+    changes: Arc<Changes>,
+) -> Result<Event, NoMemory>
+    ensures { IfOk result (λ event. event ≡ refer_event client symbol.now (option_copied was.entry) entry.now (arc_value changes)) }
+{
+    let symbol = symbol.copy(alloc)?;
+    let (was, entry) = reference_entries(alloc, was, entry)?;
+    Ok(Event::Refer {
+        client,
+        symbol,
+        was,
+        entry,
+        changes: SharedChanges::make(changes),
+    })
+}
+
+/// Copies of the entry that a reference was, if there is one, and of that which it becomes.
+fn reference_entries(
+    alloc: Global,
+    was: Option<&Key>,
+    entry: &Key,
+) -> Result<(Option<Key>, Key), NoMemory>
+    ensures { IfOk result (λ entries. entries ≡ (option_copied was.entry, entry.now)) }
+{
+    let was = copied(alloc, was)?;
+    Ok((was, entry.copy(alloc)?))
 }
 
 /// A copy of a key, where there is one.

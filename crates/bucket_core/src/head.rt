@@ -60,11 +60,12 @@ impl Heads {
         if self.heads.contains_key(symbol) {
             return Ok(());
         }
+        let symbol = symbol.copy(alloc)?;
         let head = Head {
             entry: None,
             since: 0,
         };
-        match self.heads.insert(symbol.copy(alloc)?, head) {
+        match self.heads.insert(symbol, head) {
             Ok(_) => Ok(()),
             Err(_) => Err(NoMemory),
         }

@@ -1,6 +1,8 @@
-ghost use Rattle.std.specs.Prelude.{◌≡◌, ◌↔◌, ◌≤◌, ◌<◌, [], ◌∷◌, reverse, true, IsTrue, IfOk};
+ghost use Rattle.std.specs.Prelude.{◌≡◌, ◌↔◌, ◌≤◌, ◌<◌, ◌-◌, ◌^◌, [], ◌∷◌, length, reverse, is_some, true, false, IsTrue, IfOk, MatchOption};
 ghost use Rattle.std.specs.Arc.{arc_value};
-ghost use Rattle.bucket_core.specs.History.{puts_by};
+ghost use Rattle.key_kind.specs.Keys.{snapshot_key};
+ghost use Rattle.bucket_core.specs.History.{puts_by, stored};
+ghost use Rattle.bucket_core.specs.Calls.{RefusesName, RefusesUnname, StandsSince};
 ghost use Rattle.bucket_core.specs.Laws.{IsLawful};
 
 use crate::Changes;
@@ -51,6 +53,36 @@ impl<L: Law> PlainBucket<L> {
         ensures { IsTrue result ↔ (self.now.most ≤ count) }
     {
         self.most <= count
+    }
+
+    /// Why a name is refused, if it is. `key` is the key of the snapshot.
+    fn refuses_name(&self, snap: &SnapName, key: &Key) -> Option<StoreErr>
+        requires key { key.now ≡ snapshot_key snap.now }
+        ensures { MatchOption result ((is_some (stored self.now.log (snapshot_key snap.now)) ≡ false) × (length self.now.log < self.now.most) × (length self.now.log < 2 ^ 64 - 1)) (RefusesName self.now.most snap.now self.now.log) }
+    {
+        let count = self.log.len();
+        if self.log.set_at(key).is_some() {
+            return Some(StoreErr::Taken { place: count });
+        }
+        if count >= self.most {
+            return Some(StoreErr::Spent { count });
+        }
+        None
+    }
+
+    /// Why an unname is refused, if it is. `key` is the key of the snapshot.
+    fn refuses_unname(&self, snap: &SnapName, key: &Key, since: u64) -> Option<StoreErr>
+        requires key { key.now ≡ snapshot_key snap.now }
+        ensures { MatchOption result (StandsSince self.now.log snap.now since × (length self.now.log < self.now.most) × (length self.now.log < 2 ^ 64 - 1)) (RefusesUnname self.now.most snap.now since self.now.log) }
+    {
+        if let Some(place) = self.log.missing_at(snap, key, since) {
+            return Some(StoreErr::Missing { place });
+        }
+        let count = self.log.len();
+        if count >= self.most {
+            return Some(StoreErr::Spent { count });
+        }
+        None
     }
 
     /// The events of the store, the oldest first.
@@ -162,15 +194,11 @@ impl<L: Law> Bucket<L> for PlainBucket<L> {
             Ok(key) => key,
             Err(NoMemory) => return Err(StoreErr::NoMemory),
         };
-        let count = self.log.len();
-        if self.log.set_at(&key).is_some() {
-            return Err(StoreErr::Taken { place: count });
-        }
-        if self.is_full(count) {
-            return Err(StoreErr::Spent { count });
+        if let Some(why) = self.refuses_name(snap, &key) {
+            return Err(why);
         }
         match self.log.name(self.alloc, self.number, snap, key, body) {
-            Ok(()) => Ok(count + 1),
+            Ok(()) => Ok(self.log.len()),
             Err(NoMemory) => Err(StoreErr::NoMemory),
         }
     }
@@ -180,15 +208,11 @@ impl<L: Law> Bucket<L> for PlainBucket<L> {
             Ok(key) => key,
             Err(NoMemory) => return Err(StoreErr::NoMemory),
         };
-        if let Some(place) = self.log.missing_at(snap, &key, since) {
-            return Err(StoreErr::Missing { place });
-        }
-        let count = self.log.len();
-        if self.is_full(count) {
-            return Err(StoreErr::Spent { count });
+        if let Some(why) = self.refuses_unname(snap, &key, since) {
+            return Err(why);
         }
         match self.log.unname(self.alloc, self.number, snap, &key) {
-            Ok(()) => Ok(count + 1),
+            Ok(()) => Ok(self.log.len()),
             Err(NoMemory) => Err(StoreErr::NoMemory),
         }
     }

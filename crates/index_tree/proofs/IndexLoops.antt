@@ -9,8 +9,10 @@ use Rattle.frame_core.specs.declared.cell.ColType.{ColType}
 use Rattle.frame_core.specs.Texts.{same_text}
 use Rattle.frame_core.specs.Schemas.{Head}
 use Rattle.segment_bytes.specs.Heads.{head_at}
-use Rattle.segment_bytes.proofs.ColumnLoops.{head_fresh, head_taken, head_fails}
 use Rattle.index_tree.specs.declared.index.Slot.{Slot}
+use Rattle.index_tree.specs.declared.fault.Stop.{Stop}
+use Rattle.index_tree.specs.declared.fault.Stop.TheVariants as stops
+use Rattle.index_tree.specs.IndexFaults.{Reads, Stops}
 use Rattle.index_tree.specs.IndexText.{Reach, no_reach, reach_of, heads_at, slot_at, slots_at}
 
 -- ---- what was read, and what is left
@@ -41,7 +43,7 @@ behind_push earlier (other ∷ heads) head = behind_push (other ∷ earlier) hea
 abbrev pub is_named : List ℕ → List Head → Bool
 is_named name heads = list_any (λ (head : Head). same_text name head.0) heads
 
-any_behind : (name : List ℕ) (earlier heads : List Head) → is_named name (behind earlier heads) ≡ (is_named name heads || is_named name earlier)
+pub any_behind : (name : List ℕ) (earlier heads : List Head) → is_named name (behind earlier heads) ≡ (is_named name heads || is_named name earlier)
 any_behind name earlier [] = refl
 any_behind name earlier (head ∷ heads) = any_behind name (head ∷ earlier) heads ∙ swapped (is_named name heads) (same_text name head.0) (is_named name earlier)
   where
@@ -50,13 +52,6 @@ any_behind name earlier (head ∷ heads) = any_behind name (head ∷ earlier) he
     swapped true false c = refl
     swapped false true c = refl
     swapped false false c = refl
-
-named_before : (name : List ℕ) (heads : List Head) (b : Bool) → b ≡ is_named name heads → is_named name (behind [] heads) ≡ b
-named_before name heads b e = any_behind name [] heads ∙ or_false (is_named name heads) ∙ sym e
-  where
-    or_false : (c : Bool) → (c || false) ≡ c
-    or_false true = refl
-    or_false false = refl
 
 -- the first columns were read, and what is left gives what the whole gives
 abbrev pub HeadsSoFar : ℕ → ℕ → List ℕ → List ℕ → List Head → Type 0
@@ -68,9 +63,8 @@ heads_none count first = let all : count - 0 ≡ count = omega arith in with_non
 heads_step : (count at : ℕ) (rest : List ℕ) (heads : List Head) → at < count → heads_at (behind [] heads) (count - at) rest ≡ (head_at (behind [] heads) rest >>= λ head. heads_at (head.0 ∷ behind [] heads) (count - (at + 1)) head.1 >>= λ more. Ok (head.0 ∷ more.0, more.1))
 heads_step count at rest heads lt = let k : count - at ≡ suc (count - (at + 1)) = omega arith in ap (λ (n : ℕ). heads_at (behind [] heads) n rest) k
 
-pub heads_more : (count at : ℕ) (first rest : List ℕ) (heads : List Head) (name : List ℕ) (kind : ColType) (after : List ℕ) → at < count → HeadsSoFar count at first rest heads → head_at [] rest ≡ Ok ((name, kind), after) → false ≡ is_named name heads → HeadsSoFar count (at + 1) first after (heads ++ (name, kind) ∷ [])
-heads_more count at first rest heads name kind after lt so_far h new =
-    let read = head_fresh (behind [] heads) rest (name, kind) after h (named_before name heads false new) in
+pub heads_more : (count at : ℕ) (first rest : List ℕ) (heads : List Head) (name : List ℕ) (kind : ColType) (after : List ℕ) → at < count → HeadsSoFar count at first rest heads → head_at (behind [] heads) rest ≡ Ok ((name, kind), after) → HeadsSoFar count (at + 1) first after (heads ++ (name, kind) ∷ [])
+heads_more count at first rest heads name kind after lt so_far read =
     let next = heads_at ((name, kind) ∷ behind [] heads) (count - (at + 1)) after in
     ap (λ (earlier : List Head). with_front (heads ++ (name, kind) ∷ []) (heads_at earlier (count - (at + 1)) after)) (behind_push [] heads (name, kind))
     ∙ sym (with_more heads (name, kind) next)
@@ -83,12 +77,10 @@ heads_stop count at first rest heads left lt so_far h =
     sym so_far ∙ ap (with_front heads) (heads_step count at rest heads lt)
     ∙ ap (λ r. with_front heads (r >>= λ head. heads_at (head.0 ∷ behind [] heads) (count - (at + 1)) head.1 >>= λ more. Ok (head.0 ∷ more.0, more.1))) h
 
-pub heads_fail : (count at : ℕ) (first rest : List ℕ) (heads : List Head) (left : ℕ) → at < count → HeadsSoFar count at first rest heads → head_at [] rest ≡ Err left → heads_at [] count first ≡ Err left
-heads_fail count at first rest heads left lt so_far h = heads_stop count at first rest heads left lt so_far (head_fails (behind [] heads) rest left h)
-
-pub heads_repeat : (count at : ℕ) (first rest : List ℕ) (heads : List Head) (name : List ℕ) (kind : ColType) (after : List ℕ) → at < count → HeadsSoFar count at first rest heads → head_at [] rest ≡ Ok ((name, kind), after) → true ≡ is_named name heads → heads_at [] count first ≡ Err (length name + length after)
-heads_repeat count at first rest heads name kind after lt so_far h taken =
-    heads_stop count at first rest heads (length name + length after) lt so_far (head_taken (behind [] heads) rest (name, kind) after h (named_before name heads true taken))
+-- the reading of a column stopped, and so does that of all
+pub heads_stopped : {X Y : Type 0} (seen : X → Head × List ℕ) (shown : Y → List Head × List ℕ) (count at : ℕ) (first rest : List ℕ) (heads : List Head) (why : Stop) → at < count → HeadsSoFar count at first rest heads → Reads seen (Err why) (head_at (behind [] heads) rest) → Reads shown (Err why) (heads_at [] count first)
+heads_stopped seen shown count at first rest heads (stops.Bad left) lt so_far h = heads_stop count at first rest heads left lt so_far h
+heads_stopped seen shown count at first rest heads stops.NoMemory lt so_far h = tt
 
 pub heads_end : (count at : ℕ) (first rest : List ℕ) (heads : List Head) → count ≤ at → HeadsSoFar count at first rest heads → heads_at [] count first ≡ Ok (heads, rest)
 heads_end count at first rest heads le so_far =
@@ -114,10 +106,15 @@ slots_more total columns count at first rest reach slots slot after lt so_far h 
     ∙ ap (with_front slots) (sym (slots_step total columns count at rest reach lt))
     ∙ so_far
 
-pub slots_fail : (total columns count at : ℕ) (first rest : List ℕ) (reach : Reach) (slots : List Slot) (left : ℕ) → at < count → SlotsSoFar total columns count at first rest reach slots → slot_at total columns reach rest ≡ Err left → slots_at total columns no_reach count first ≡ Err left
+slots_fail : (total columns count at : ℕ) (first rest : List ℕ) (reach : Reach) (slots : List Slot) (left : ℕ) → at < count → SlotsSoFar total columns count at first rest reach slots → slot_at total columns reach rest ≡ Err left → slots_at total columns no_reach count first ≡ Err left
 slots_fail total columns count at first rest reach slots left lt so_far h =
     sym so_far ∙ ap (with_front slots) (slots_step total columns count at rest reach lt)
     ∙ ap (λ r. with_front slots (r >>= λ s. slots_at total columns (reach_of columns s.0) (count - (at + 1)) s.1 >>= λ more. Ok (s.0 ∷ more.0, more.1))) h
+
+-- the reading of a slot stopped, and so does that of all
+pub slots_stopped : {Y : Type 0} (shown : Y → List Slot × List ℕ) (total columns count at : ℕ) (first rest : List ℕ) (reach : Reach) (slots : List Slot) (why : Stop) → at < count → SlotsSoFar total columns count at first rest reach slots → Stops why (slot_at total columns reach rest) → Reads shown (Err why) (slots_at total columns no_reach count first)
+slots_stopped shown total columns count at first rest reach slots (stops.Bad left) lt so_far h = slots_fail total columns count at first rest reach slots left lt so_far h
+slots_stopped shown total columns count at first rest reach slots stops.NoMemory lt so_far h = tt
 
 -- whether nothing is left to cover
 abbrev pub reach_is_whole : ℕ → Reach → Bool

@@ -6,3 +6,5 @@ pub mod Covers
 pub mod NameNotes
 pub mod SlotTextLaws
 pub mod RunLaws
+pub mod SlotPartLaws
+pub mod IndexPartLaws

@@ -7,8 +7,8 @@ use Rattle.std.proofs.lemmas.List.Folds.{list_any-append}
 use Rattle.frame_core.specs.declared.cell.ColType.{ColType}
 use Rattle.frame_core.specs.Texts.{same_text}
 use Rattle.frame_core.specs.Schemas.{Head}
-use Rattle.index_tree.specs.Names.{NameSet, has_name}
-use Rattle.index_tree.proofs.IndexLoops.{is_named}
+use Rattle.index_tree.specs.Names.{NameSet, has_name, AreNoted}
+use Rattle.index_tree.proofs.IndexLoops.{is_named, behind, any_behind}
 
 both : (a b : Bool) → (a ≡ true → b ≡ true) → (b ≡ true → a ≡ true) → a ≡ b
 both true b f g = sym (f refl)
@@ -26,10 +26,7 @@ noted_more name other old = ap (λ (b : Bool). cond b true old) (is_eq-slice_cmp
     as_or true = refl
     as_or false = refl
 
--- the names that are noted are those of the columns
-abbrev pub AreNoted : NameSet → List Head → Type 0
-AreNoted names heads = (other : List ℕ) → has_name names other ≡ is_named other heads
-
+-- one column more, whose name is noted
 pub noted_push : (old new : NameSet) (heads : List Head) (name : List ℕ) (kind : ColType) → AreNoted old heads → ((other : List ℕ) → has_name new other ≡ (same_text other name || has_name old other)) → AreNoted new (heads ++ (name, kind) ∷ [])
 noted_push old new heads name kind noted more = λ other.
     more other ∙ ap (λ (b : Bool). same_text other name || b) (noted other) ∙ swapped (same_text other name) (is_named other heads)
@@ -40,3 +37,11 @@ noted_push old new heads name kind noted more = λ other.
     swapped true false = refl
     swapped false true = refl
     swapped false false = refl
+
+-- the columns are noted in any order
+pub noted_behind : (names : NameSet) (heads : List Head) → AreNoted names heads → AreNoted names (behind [] heads)
+noted_behind names heads noted = λ other. noted other ∙ sym (any_behind other [] heads ∙ or_false (is_named other heads))
+  where
+    or_false : (b : Bool) → (b || false) ≡ b
+    or_false true = refl
+    or_false false = refl

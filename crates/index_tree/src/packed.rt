@@ -6,10 +6,9 @@ ghost use Rattle.index_tree.specs.IndexFaults.{Reads};
 ghost use Rattle.index_tree.specs.declared.index.Index.{Index};
 
 use crate::fault::Stop;
-use crate::reading::read_schema;
+use crate::reading::{read_columns, read_counts};
 use crate::slot_text::SlotText;
 use base_types::{Body, NoMemory};
-use byte_fields::{read_magic, read_u16, read_u32};
 use frame_core::Schema;
 use std::alloc::Global;
 use std::marker::Model;
@@ -68,18 +67,14 @@ pub fn open(alloc: Global, body: &Arc<Body>) -> Result<PackedIndex, NoMemory>
 }
 
 /// As `open`, where the body's bytes are lent beside it.
-#[tactic(auto, unfolding(crate::specs::IndexText::index_of, crate::specs::IndexText::index_at))]
 fn open_front(alloc: Global, body: &Arc<Body>, bytes: &[u8]) -> Result<PackedIndex, Stop>
     requires bytes { bytes.now ≡ arc_value body.now }
     requires spelled { (index : Index) × (index_of (arc_value body.now) ≡ Ok index) }
     ensures found { Reads (λ packed. packed) result (index_of (arc_value body.now)) }
     ensures is_index { IfOk result IsIndex }
 {
-    let rest = read_magic(b"AIX1".as_slice(), bytes)?;
-    let (columns, rest) = read_u16(rest)?;
-    let (schema, rest) = read_schema(alloc, columns, rest)?;
-    let (rows, rest) = read_u32(rest)?;
-    let (count, rest) = read_u32(rest)?;
+    let (schema, _, rest) = read_columns(alloc, bytes)?;
+    let (rows, count, rest) = read_counts(rest)?;
     let from = bytes.len() - rest.len();
     let shared = share(body)?;
     Ok(PackedIndex {

@@ -1,17 +1,25 @@
-ghost use Rattle.std.specs.Prelude.{◌≡◌, ◌||◌, not, ℕ, List, [], length, true, IfOk, IfErr, OnOk, Ok};
-ghost use Rattle.index_tree.specs.Names.{has_name};
+ghost use Rattle.std.specs.Prelude.{◌≡◌, ◌||◌, not, ℕ, List, [], ◌∷◌, ◌++◌, length, true, IfOk, IfErr, OnOk, Ok};
+ghost use Rattle.index_tree.specs.Names.{AreNoted, has_name};
+ghost use Rattle.frame_core.specs.Schemas.{Head};
 ghost use Rattle.frame_core.specs.Texts.{same_text};
-ghost use Rattle.index_tree.specs.IndexText.{no_reach, heads_at, slots_at, index_at, index_text, index_of};
+ghost use Rattle.segment_bytes.specs.Heads.{head_at};
+ghost use Rattle.byte_fields.specs.Readers.{Gives};
+ghost use Rattle.key_kind.specs.Keys.{IsKey};
+ghost use Rattle.key_kind.specs.KeyViews.{key_of};
+ghost use Rattle.index_tree.specs.SlotViews.{slot_seen};
+ghost use Rattle.index_tree.specs.IndexParts.{columns_at, counts_at, tiles_of};
+ghost use Rattle.index_tree.specs.declared.index.Slot.{Slot as ReadSlot};
+ghost use Rattle.index_tree.specs.IndexText.{no_reach, reach_of, slot_at, heads_at, slots_at, index_at, index_text, index_of};
 ghost use Rattle.index_tree.specs.IndexRules.{IsIndex};
-ghost use Rattle.index_tree.specs.IndexFaults.{IsIndexFault, Reads};
+ghost use Rattle.index_tree.specs.IndexFaults.{IsIndexFault, Reads, Stops};
 
 use crate::fault::{IndexFault, Stop};
 use crate::index::{Index, Slot};
 use crate::reach::Reach;
-use crate::slot_view::read_slot;
+use crate::slot_view::{SlotView, read_slot};
 use base_types::{Items, NoMemory};
 use byte_fields::{read_magic, read_u16, read_u32};
-use frame_core::{ColName, Schema};
+use frame_core::{ColName, ColType, Schema};
 use segment_bytes::read_head;
 use std::alloc::Global;
 use std::collections::BTreeSet;
@@ -47,24 +55,50 @@ pub fn read(alloc: Global, bytes: &[u8]) -> Result<Index, IndexFault>
     }
 }
 
-#[tactic(auto, unfolding(crate::specs::IndexText::index_of, crate::specs::IndexText::index_at))]
 fn read_index(alloc: Global, bytes: &[u8]) -> Result<Index, Stop>
     ensures { Reads (λ index. index) result (index_of bytes.now) }
 {
-    let rest = read_magic(b"AIX1".as_slice(), bytes)?;
-    let (columns, rest) = read_u16(rest)?;
-    let (schema, rest) = read_schema(alloc, columns, rest)?;
-    let (rows, rest) = read_u32(rest)?;
-    let (count, rest) = read_u32(rest)?;
-    let (slots, end) = read_slots(alloc, rows, columns, count, rest)?;
-    if !end.is_empty() {
-        return Err(Stop::Bad { left: end.len() });
-    }
+    let (schema, columns, rest) = read_columns(alloc, bytes)?;
+    let (rows, slots) = read_tiles(alloc, columns, rest)?;
     Ok(Index {
         schema,
         rows: rows as u64,
         slots,
     })
+}
+
+/// How many rows an index of so many columns has, and its slots, behind which nothing follows.
+fn read_tiles(alloc: Global, columns: u16, bytes: &[u8]) -> Result<(u32, Items<Slot>), Stop>
+    ensures { Reads (λ x. (x.0, x.1)) result (tiles_of columns bytes.now) }
+{
+    let (rows, count, rest) = read_counts(bytes)?;
+    let (slots, end) = read_slots(alloc, rows, columns, count, rest)?;
+    if !end.is_empty() {
+        return Err(Stop::Bad { left: end.len() });
+    }
+    Ok((rows, slots))
+}
+
+/// The schema of an index and the number of its columns, behind the bytes with which each index begins, and what follows them.
+#[tactic(auto, unfolding(crate::specs::IndexParts::columns_at))]
+pub(crate) fn read_columns(alloc: Global, bytes: &[u8]) -> Result<(Schema, u16, &[u8]), Stop>
+    ensures columns { Reads (λ x. ((x.1, x.0.columns), x.2.now)) result (columns_at bytes.now) }
+    ensures timed { IfOk result (λ x. x.0.timed ≡ true) }
+{
+    let rest = read_magic(b"AIX1".as_slice(), bytes)?;
+    let (columns, rest) = read_u16(rest)?;
+    let (schema, rest) = read_schema(alloc, columns, rest)?;
+    Ok((schema, columns, rest))
+}
+
+/// How many rows and slots an index has, and what follows.
+#[tactic(auto, unfolding(crate::specs::IndexParts::counts_at))]
+pub(crate) fn read_counts(bytes: &[u8]) -> Result<(u32, u32, &[u8]), usize>
+    ensures { Gives (λ x. ((x.0, x.1), x.2.now)) result (counts_at bytes.now) }
+{
+    let (rows, rest) = read_u32(bytes)?;
+    let (count, rest) = read_u32(rest)?;
+    Ok((rows, count, rest))
 }
 
 /// Whether no earlier column has the name, which is noted.
@@ -86,8 +120,38 @@ fn make_name(alloc: Global, name: &str) -> Result<ColName, NoMemory>
     }
 }
 
+/// Adds a column of this name, which has 1 to 255 bytes, behind the others.
+fn push_column(
+    schema: &mut Schema,
+    alloc: Global,
+    name: &str,
+    kind: ColType,
+) -> Result<(), NoMemory>
+    ensures { OnOk result (schema.new ≡ record schema.old { columns = schema.old.columns ++ (name.now, kind) ∷ [] }) }
+{
+    schema.push(make_name(alloc, name)?, kind)
+}
+
+/// The next column's type and name, which none of the columns whose names are noted has, and what follows. The name is noted.
+fn read_new_head<'a>(
+    names: &mut BTreeSet<&'a str>,
+    bytes: &'a [u8],
+) -> Result<(ColType, &'a str, &'a [u8]), Stop>
+    ensures head { (earlier : List Head) → AreNoted names.old earlier → Reads (λ x. ((x.1.now, x.0), x.2.now)) result (head_at earlier bytes.now) }
+    ensures noted { IfOk result (λ x. (other : List ℕ)
+        → has_name names.new other ≡ (same_text other x.1.now || has_name names.old other)) }
+{
+    let (kind, name, after) = read_head(bytes)?;
+    if !note_name(names, name)? {
+        return Err(Stop::Bad {
+            left: name.len() + after.len(),
+        });
+    }
+    Ok((kind, name, after))
+}
+
 /// The schema of so many columns, whose names differ, and what follows them.
-pub(crate) fn read_schema(alloc: Global, count: u16, bytes: &[u8]) -> Result<(Schema, &[u8]), Stop>
+fn read_schema(alloc: Global, count: u16, bytes: &[u8]) -> Result<(Schema, &[u8]), Stop>
     ensures columns { Reads (λ x. (x.0.columns, x.1.now)) result (heads_at [] count bytes.now) }
     ensures timed { IfOk result (λ x. x.0.timed ≡ true) }
 {
@@ -95,13 +159,8 @@ pub(crate) fn read_schema(alloc: Global, count: u16, bytes: &[u8]) -> Result<(Sc
     let mut names = BTreeSet::new(alloc);
     let mut rest = bytes;
     for _ in 0..count {
-        let (kind, name, after) = read_head(rest)?;
-        if !note_name(&mut names, name)? {
-            return Err(Stop::Bad {
-                left: name.len() + after.len(),
-            });
-        }
-        schema.push(make_name(alloc, name)?, kind)?;
+        let (kind, name, after) = read_new_head(&mut names, rest)?;
+        push_column(&mut schema, alloc, name, kind)?;
         rest = after;
     }
     Ok((schema, rest))
@@ -123,13 +182,36 @@ fn read_slots(
     let mut reach = Reach::none();
     let mut rest = bytes;
     for _ in 0..count {
-        let (slot, after) = read_slot(total, columns, &reach, rest)?;
-        slots.push(slot.to_slot(alloc)?)?;
-        reach = Reach::of(columns, &slot);
-        rest = after;
+        rest = push_next(&mut slots, &mut reach, alloc, total, columns, rest)?;
     }
     if !reach.is_whole(total) {
         return Err(Stop::Bad { left: rest.len() });
     }
     Ok((slots, rest))
+}
+
+/// Adds a copy of a slot behind the others.
+fn push_slot(slots: &mut Items<Slot>, alloc: Global, slot: &SlotView<'_>) -> Result<(), NoMemory>
+    requires { IsKey (key_of slot.now.key) }
+    ensures { OnOk result (slots.new ≡ slots.old ++ slot_seen slot.now ∷ []) }
+{
+    slots.push(slot.to_slot(alloc)?)
+}
+
+/// Adds the next slot behind the others, whose reach goes on with it, and gives what follows.
+fn push_next<'a>(
+    slots: &mut Items<Slot>,
+    reach: &mut Reach,
+    alloc: Global,
+    total: u32,
+    columns: u16,
+    bytes: &'a [u8],
+) -> Result<&'a [u8], Stop>
+    ensures pushed { IfOk result (λ rest. (slot : ReadSlot) × (slot_at total columns reach.old bytes.now ≡ Ok (slot, rest.now)) × (slots.new ≡ slots.old ++ slot ∷ []) × (reach.new ≡ reach_of columns slot)) }
+    ensures stopped { IfErr result (λ why. Stops why (slot_at total columns reach.old bytes.now)) }
+{
+    let (slot, rest) = read_slot(total, columns, reach, bytes)?;
+    push_slot(slots, alloc, &slot)?;
+    *reach = Reach::of(columns, &slot);
+    Ok(rest)
 }

@@ -1,8 +1,9 @@
-ghost use Rattle.std.specs.Prelude.{◌≡◌, ◌&&◌, ◌+◌, IfOk, nat_eq, nat_le, if◌then◌else◌};
+ghost use Rattle.std.specs.Prelude.{◌≡◌, ℕ, ◌&&◌, ◌+◌, IfOk, nat_eq, nat_le, if◌then◌else◌};
 ghost use Rattle.byte_fields.specs.Readers.{Gives};
 ghost use Rattle.key_kind.specs.Keys.{IsKey};
 ghost use Rattle.key_kind.specs.KeyViews.{key_of};
-ghost use Rattle.index_tree.specs.IndexText.{slot_at};
+ghost use Rattle.index_tree.specs.IndexText.{rules_after, slot_at};
+ghost use Rattle.index_tree.specs.SlotParts.{rows_at, stamps_at, slice_at};
 ghost use Rattle.index_tree.specs.SlotViews.{slot_seen};
 
 use crate::index::Slot;
@@ -60,6 +61,59 @@ fn takes_cols(columns: u16, first_col: u16, cols: u16) -> bool
     }
 }
 
+/// The first row of a slot and its rows, of so many in the index, and what follows them.
+fn read_rows<'a>(total: u32, reach: &Reach, bytes: &'a [u8]) -> Result<(u32, u32, &'a [u8]), usize>
+    ensures { Gives (λ x. ((x.0, x.1), x.2.now)) result (rows_at (rules_after total reach.now) bytes.now) }
+{
+    let (first_row, at_rows) = read_u32(bytes)?;
+    if !reach.takes_first_row(first_row) {
+        return Err(bytes.len());
+    }
+    let (rows, rest) = read_u32(at_rows)?;
+    if !reach.takes_rows(total, rows) {
+        return Err(at_rows.len());
+    }
+    Ok((first_row, rows, rest))
+}
+
+/// The first and the last stamp of a slot of this key, and what follows them.
+fn read_stamps<'a>(
+    reach: &Reach,
+    key: &KeyView<'_>,
+    bytes: &'a [u8],
+) -> Result<(i64, i64, &'a [u8]), usize>
+    ensures { (total : ℕ) → Gives (λ x. ((x.0, x.1), x.2.now)) result (stamps_at (rules_after total reach.now) (key_of key.now) bytes.now) }
+{
+    let (first, at_last) = read_i64(bytes)?;
+    if !reach.takes_first(key.first, first) {
+        return Err(bytes.len());
+    }
+    let (last, rest) = read_i64(at_last)?;
+    if !reach.takes_last(key.last, first, last) {
+        return Err(at_last.len());
+    }
+    Ok((first, last, rest))
+}
+
+/// The first column of a slot and its columns, of so many in the index, and what follows them.
+fn read_slice<'a>(
+    columns: u16,
+    reach: &Reach,
+    bytes: &'a [u8],
+) -> Result<(u16, u16, &'a [u8]), usize>
+    ensures { (total : ℕ) → Gives (λ x. ((x.0, x.1), x.2.now)) result (slice_at columns (rules_after total reach.now) bytes.now) }
+{
+    let (first_col, at_cols) = read_u16(bytes)?;
+    if !reach.takes_first_col(first_col) {
+        return Err(bytes.len());
+    }
+    let (cols, rest) = read_u16(at_cols)?;
+    if !takes_cols(columns, first_col, cols) {
+        return Err(at_cols.len());
+    }
+    Ok((first_col, cols, rest))
+}
+
 /// The next slot of an index of so many rows and columns, behind slots that reach so far, and what follows it. Where a field
 /// is not whole or breaks its rule, the error is how many bytes are left from it on.
 pub fn read_slot<'a>(
@@ -71,31 +125,10 @@ pub fn read_slot<'a>(
     ensures gives { Gives (λ x. (slot_seen x.0, x.1.now)) result (slot_at total columns reach.now bytes.now) }
     ensures is_key { IfOk result (λ x. IsKey (key_of x.0.key)) }
 {
-    let (key, at_first_row) = view_key_of(KeyKind::TableData, bytes)?;
-    let (first_row, at_rows) = read_u32(at_first_row)?;
-    if !reach.takes_first_row(first_row) {
-        return Err(at_first_row.len());
-    }
-    let (rows, at_first) = read_u32(at_rows)?;
-    if !reach.takes_rows(total, rows) {
-        return Err(at_rows.len());
-    }
-    let (first, at_last) = read_i64(at_first)?;
-    if !reach.takes_first(key.first, first) {
-        return Err(at_first.len());
-    }
-    let (last, at_first_col) = read_i64(at_last)?;
-    if !reach.takes_last(key.last, first, last) {
-        return Err(at_last.len());
-    }
-    let (first_col, at_cols) = read_u16(at_first_col)?;
-    if !reach.takes_first_col(first_col) {
-        return Err(at_first_col.len());
-    }
-    let (cols, rest) = read_u16(at_cols)?;
-    if !takes_cols(columns, first_col, cols) {
-        return Err(at_cols.len());
-    }
+    let (key, at_rows) = view_key_of(KeyKind::TableData, bytes)?;
+    let (first_row, rows, at_stamps) = read_rows(total, reach, at_rows)?;
+    let (first, last, at_slice) = read_stamps(reach, &key, at_stamps)?;
+    let (first_col, cols, rest) = read_slice(columns, reach, at_slice)?;
     let slot = SlotView {
         key,
         first_row,

@@ -1,6 +1,6 @@
 use Rattle.std.proofs.Common.{◌≡◌, true}
 use Rattle.index_tree.proofs.IndexLoops.{HeadsSoFar}
-use Rattle.index_tree.proofs.NameNotes.{AreNoted}
+use Rattle.index_tree.specs.Names.{AreNoted}
 use Rattle.index_tree.proofs.reading.read_schema.Given as goal
 
 -- the columns so far were read and their names noted, and what is left gives what the whole gives
