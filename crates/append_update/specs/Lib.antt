@@ -9,3 +9,4 @@ pub mod RowBlocks
 pub mod Asking
 pub mod Sizes
 pub mod Blocks
+pub mod TooLarge

@@ -20,13 +20,11 @@ ghost use Rattle.append_update.specs.Sizes.{text_total, kept_rows};
 use crate::base::{Base, base_of, out_of_memory};
 use crate::blocks::block_frame;
 use crate::cuts::Cuts;
-use crate::edges::edges_of;
+use crate::fitting::small_edges;
 use crate::judging::{first_difference, judge_append};
 use crate::packed_base::PackedBase;
 use crate::planning::{plan_alone, plan_append, plan_update};
-use crate::sizes::{
-    TEXT_LIMIT, has_texts, kept_text_bytes, replaced_too_large, text_bytes, too_many_texts,
-};
+use crate::sizes::{TEXT_LIMIT, has_texts, kept_text_bytes, text_bytes, too_many_texts};
 use crate::wish::Wish;
 use base_types::{Keep, NoMemory};
 use bucket_core::{Bucket, Change};
@@ -134,14 +132,57 @@ fn plan_over<R: Wait, B: Bucket<StoreLaw>>(
             frame,
             range,
             upsert: _,
-        } => match base.unpacked(alloc) {
-            Ok(base) => replace_over(rt, alloc, bucket, symbol, &base, frame, range, options),
-            Err(_) => Err(out_of_memory(bucket.place())),
-        },
-        Wish::Clear(range) => match base.unpacked(alloc) {
-            Ok(base) => clear_over(rt, alloc, bucket, symbol, &base, range, options),
-            Err(_) => Err(out_of_memory(bucket.place())),
-        },
+        } => replace_packed(rt, alloc, bucket, symbol, base, frame, range, options),
+        Wish::Clear(range) => clear_packed(rt, alloc, bucket, symbol, base, range, options),
+    }
+}
+
+/// The plan of the frame's rows in place of those of the newest live version in a range, whose index's slots are read first.
+fn replace_packed<R: Wait, B: Bucket<StoreLaw>>(
+    rt: &R,
+    alloc: Global,
+    bucket: &mut B,
+    symbol: &Symbol,
+    base: &PackedBase,
+    frame: &Frame,
+    range: Range,
+    options: &Options,
+) -> Result<LinkPlan, Refused>
+    requires base { IsBaseAt (B.number bucket.old) (B.seen bucket.old) symbol.now base.now }
+    requires storable { IsStorable frame.now }
+    requires order { IsRange range }
+    requires inside { outside 1 range frame.now.rows ≡ None }
+    ensures looks { Looks IsClaimed (B.number bucket.old) (B.sole bucket.old) (B.seen bucket.old) (B.seen bucket.new) }
+    ensures steady { IsSteady B.number B.limit B.faults B.sole bucket.old bucket.new }
+    ensures plan { (b : IsBaseAt (B.number bucket.old) (B.seen bucket.old) symbol.now base.now) (upsert : Bool) → IfOk result (IsPlanOf b.before symbol.now options.now (λ st. update_answer st upsert options.now.prune options.now.at (Some range) frame.now)) }
+    ensures refused { (b : IsBaseAt (B.number bucket.old) (B.seen bucket.old) symbol.now base.now) (upsert : Bool) → IfErr result (RefusesPlan (B.number bucket.old) symbol.now (λ st. update_answer st upsert options.now.prune options.now.at (Some range) frame.now) b.before (B.faults bucket.old) (B.faults bucket.new) (B.seen bucket.old) (B.seen bucket.new)) }
+{
+    match base.unpacked(alloc) {
+        Ok(base) => replace_over(rt, alloc, bucket, symbol, &base, frame, range, options),
+        Err(_) => Err(out_of_memory(bucket.place())),
+    }
+}
+
+/// The plan of no rows in place of those of the newest live version in a range, whose index's slots are read first.
+fn clear_packed<R: Wait, B: Bucket<StoreLaw>>(
+    rt: &R,
+    alloc: Global,
+    bucket: &mut B,
+    symbol: &Symbol,
+    base: &PackedBase,
+    range: Range,
+    options: &Options,
+) -> Result<LinkPlan, Refused>
+    requires base { IsBaseAt (B.number bucket.old) (B.seen bucket.old) symbol.now base.now }
+    requires order { IsRange range }
+    ensures looks { Looks IsClaimed (B.number bucket.old) (B.sole bucket.old) (B.seen bucket.old) (B.seen bucket.new) }
+    ensures steady { IsSteady B.number B.limit B.faults B.sole bucket.old bucket.new }
+    ensures plan { (b : IsBaseAt (B.number bucket.old) (B.seen bucket.old) symbol.now base.now) → IfOk result (IsPlanOf b.before symbol.now options.now (λ st. update_answer st false options.now.prune options.now.at (Some range) (record b.version.frame { rows = [] }))) }
+    ensures refused { (b : IsBaseAt (B.number bucket.old) (B.seen bucket.old) symbol.now base.now) → IfErr result (RefusesPlan (B.number bucket.old) symbol.now (λ st. update_answer st false options.now.prune options.now.at (Some range) (record b.version.frame { rows = [] })) b.before (B.faults bucket.old) (B.faults bucket.new) (B.seen bucket.old) (B.seen bucket.new)) }
+{
+    match base.unpacked(alloc) {
+        Ok(base) => clear_over(rt, alloc, bucket, symbol, &base, range, options),
+        Err(_) => Err(out_of_memory(bucket.place())),
     }
 }
 
@@ -236,15 +277,11 @@ fn replace_over<R: Wait, B: Bucket<StoreLaw>>(
         let why = Refusal::SchemaDiffers { column };
         return Err(Refused { place, why });
     }
-    let many = exceeds_texts(rt, alloc, bucket, symbol, base, frame, Some(range))?;
     let cuts = Cuts::of(base.index.slots.items(), range);
-    let edges = match edges_of(rt, alloc, bucket, symbol, base, range, cuts) {
+    let edges = match small_edges(rt, alloc, bucket, symbol, base, frame, range, cuts) {
         Ok(edges) => edges,
         Err(refused) => return Err(refused),
     };
-    if let Some(why) = replaced_too_large(&base.index, cuts, &edges, frame, many) {
-        return Err(Refused { place, why });
-    }
     let at = stamp_of(options);
     match plan_update(alloc, &base.index, cuts, edges, frame, range, at) {
         Ok(plan) => Ok(plan),
@@ -288,7 +325,7 @@ fn append_exceeds<R: Wait, B: Bucket<StoreLaw>>(
 /// Whether the texts of a frame, and of those rows of the base that lie outside a range, or of all, have too many bytes.
 ///
 /// The base's tiles are got only where there are texts and the frame has rows. It may wait for the store.
-fn exceeds_texts<R: Wait, B: Bucket<StoreLaw>>(
+pub(crate) fn exceeds_texts<R: Wait, B: Bucket<StoreLaw>>(
     rt: &R,
     alloc: Global,
     bucket: &mut B,

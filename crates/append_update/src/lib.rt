@@ -8,6 +8,7 @@ mod base;
 mod blocks;
 mod cuts;
 mod edges;
+mod fitting;
 mod judging;
 mod packed_base;
 mod pieces;

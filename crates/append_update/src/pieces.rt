@@ -1,8 +1,9 @@
 //! The pieces of a new version on a base.
 
-ghost use Rattle.std.specs.Prelude.{◌≡◌, ◌≤◌, ◌++◌, length, IfOk, OnOk};
+ghost use Rattle.std.specs.Prelude.{◌≡◌, ◌≤◌, [], ◌∷◌, ◌++◌, length, IfOk, OnOk};
 ghost use Rattle.std.specs.List.{AllByRecursion};
 ghost use Rattle.index_tree.specs.IndexRules.{FitsSlot};
+ghost use Rattle.frame_write.specs.declared.pieces.Piece.TheVariants.{Fresh, Shared};
 ghost use Rattle.append_update.specs.Replacing.{fresh, appended, replaced};
 
 use crate::cuts::Cuts;
@@ -48,14 +49,29 @@ pub(crate) fn pieces_replaced(
     requires reached { cuts.reached ≤ length slots.now }
     ensures { IfOk result (λ pieces. pieces ≡ replaced slots.now cuts edges frame) }
 {
-    let Edges { below, above } = edges;
     let mut pieces = Items::new(alloc);
-    pieces.push(Piece::Shared(SlotText::of(alloc, &slots[..cuts.below])?))?;
-    push_fresh(&mut pieces, below)?;
-    pieces.push(Piece::Fresh(frame))?;
-    push_fresh(&mut pieces, above)?;
-    pieces.push(Piece::Shared(SlotText::of(alloc, &slots[cuts.reached..])?))?;
+    push_shared(&mut pieces, alloc, &slots[..cuts.below])?;
+    push_middle(&mut pieces, edges, frame)?;
+    push_shared(&mut pieces, alloc, &slots[cuts.reached..])?;
     Ok(pieces)
+}
+
+/// Puts slots of the base behind the pieces.
+fn push_shared(pieces: &mut Items<Piece>, alloc: Global, slots: &[Slot]) -> Result<(), NoMemory>
+    requires fits { AllByRecursion FitsSlot slots.now }
+    ensures { OnOk result (pieces.new ≡ pieces.old ++ Shared slots.now ∷ []) }
+{
+    pieces.push(Piece::Shared(SlotText::of(alloc, slots)?))
+}
+
+/// Puts what takes the place of the base's rows in the range behind the pieces: the frame, with the edges on both sides of it.
+fn push_middle(pieces: &mut Items<Piece>, edges: Edges, frame: Frame) -> Result<(), NoMemory>
+    ensures { OnOk result (pieces.new ≡ pieces.old ++ (fresh edges.below ++ (Fresh frame ∷ fresh edges.above))) }
+{
+    let Edges { below, above } = edges;
+    push_fresh(pieces, below)?;
+    pieces.push(Piece::Fresh(frame))?;
+    push_fresh(pieces, above)
 }
 
 /// Puts a frame behind the pieces, if there is one.

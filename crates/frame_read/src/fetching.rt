@@ -13,6 +13,7 @@ ghost use Rattle.store_model.specs.Links.{links};
 ghost use Rattle.store_model.specs.Holders.{has_index};
 ghost use Rattle.frame_read.specs.Fetches.{RefusesGet, IsTargetIndex};
 ghost use Rattle.frame_read.specs.TileSets.{is_asked, places_asked, IsAskedSchema, RefusesColumns, IsGot, IsFetched, RefusesFetch};
+ghost use Rattle.frame_read.specs.Wanted.{IsWanted};
 
 use crate::objects::{get_reached, packed_index_of};
 use crate::resolving::out_of_memory;
@@ -45,26 +46,60 @@ pub fn fetch<R: Wait, B: Bucket<StoreLaw>>(
     // The version is gone only where it is buried and not held, and a key of it is gone.
     ensures refused { IfErr result (RefusesFetch (B.faults bucket.old) (B.faults bucket.new) (B.seen bucket.old) (B.seen bucket.new) target.now (option_copied columns.entry)) }
 {
+    let (schema, slots) = wanted(rt, alloc, bucket, target, range, columns)?;
+    match get_tiles(rt, alloc, bucket, target, slots.items()) {
+        Ok(tiles) => Ok(Tiles {
+            schema,
+            range,
+            tiles,
+        }),
+        Err(refused) => Err(refused),
+    }
+}
+
+/// The schema of the asked columns, by the target's index, and the slots that the range and these columns want. It may wait for
+/// the store.
+fn wanted<R: Wait, B: Bucket<StoreLaw>>(
+    rt: &R,
+    alloc: Global,
+    bucket: &mut B,
+    target: &Target,
+    range: Range,
+    columns: Option<&[ColName]>,
+) -> Result<(Schema, Items<Slot>), Refused>
+    requires linked { has_index (links (B.seen bucket.old) target.now.symbol) target.now.version target.now.index ≡ true }
+    ensures looks { Looks IsClaimed (B.number bucket.old) (B.sole bucket.old) (B.seen bucket.old) (B.seen bucket.new) }
+    ensures steady { IsSteady B.number B.limit B.faults B.sole bucket.old bucket.new }
+    ensures wanted { IfOk result (λ both. (index : Index) × IsTargetIndex (B.seen bucket.new) target.now index × IsWanted index range (option_copied columns.entry) both.0 both.1) }
+    ensures refused { IfErr result (RefusesFetch (B.faults bucket.old) (B.faults bucket.new) (B.seen bucket.old) (B.seen bucket.new) target.now (option_copied columns.entry)) }
+{
     let index = packed_index_of(rt, alloc, bucket, target)?;
-    let schema = match asked_schema(alloc, index.schema(), columns) {
-        Ok(schema) => schema,
-        Err(Refusal::NoSuchColumn { clause, position }) => {
-            return Err(Refused {
-                place: target.place,
-                why: Refusal::NoSuchColumn { clause, position },
-            });
-        }
-        Err(_) => return Err(out_of_memory(bucket.place())),
-    };
-    let Ok(slots) = covered_slots(alloc, &index, range, columns) else {
-        return Err(out_of_memory(bucket.place()));
-    };
-    let tiles = get_tiles(rt, alloc, bucket, target, slots.items())?;
-    Ok(Tiles {
-        schema,
-        range,
-        tiles,
-    })
+    match wanted_of(alloc, &index, range, columns) {
+        Ok(wanted) => Ok(wanted),
+        Err(Refusal::NoSuchColumn { clause, position }) => Err(Refused {
+            place: target.place,
+            why: Refusal::NoSuchColumn { clause, position },
+        }),
+        Err(_) => Err(out_of_memory(bucket.place())),
+    }
+}
+
+/// The schema of the asked columns of an index, and the slots that the range and these columns want.
+fn wanted_of(
+    alloc: Global,
+    index: &PackedIndex,
+    range: Range,
+    columns: Option<&[ColName]>,
+) -> Result<(Schema, Items<Slot>), Refusal>
+    requires { AreColumns index.now.schema.columns }
+    ensures wanted { IfOk result (λ both. IsWanted index.now range (option_copied columns.entry) both.0 both.1) }
+    ensures refused { IfErr result (RefusesColumns index.now.schema (option_copied columns.entry)) }
+{
+    let schema = asked_schema(alloc, index.schema(), columns)?;
+    match covered_slots(alloc, index, range, columns) {
+        Ok(slots) => Ok((schema, slots)),
+        Err(NoMemory) => Err(Refusal::NoMemory),
+    }
 }
 
 /// The slots that the range and the asked columns want.

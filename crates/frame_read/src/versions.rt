@@ -1,10 +1,16 @@
 //! The versions of a symbol.
 
-ghost use Rattle.std.specs.Prelude.{◌≡◌, map, IfOk, IfErr};
+ghost use Rattle.std.specs.Prelude.{◌≡◌, ℕ, [], map, Ok, IfOk, IfErr};
+ghost use Rattle.key_kind.specs.Names.{Name};
+ghost use Rattle.bucket_core.specs.History.{History};
 ghost use Rattle.bucket_core.specs.Laws.{Looks};
 ghost use Rattle.bucket_core.specs.Calls.{IsSteady};
-ghost use Rattle.store_model.specs.Law.{IsClaimed};
-ghost use Rattle.frame_read.specs.Versions.{row_counted, row_in, IsVersionList, RefusesVersions};
+ghost use Rattle.store_model.specs.Law.{IsClaimed, IsLawful};
+ghost use Rattle.store_model.specs.Library.{state_of};
+ghost use Rattle.version_chain.specs.States.{IsStateOf};
+ghost use Rattle.reply_model.specs.declared.outcome.Outcome.TheVariants.{Versions};
+ghost use Rattle.reply_model.specs.ReadAnswers.{versions_answer};
+ghost use Rattle.frame_read.specs.Versions.{row_counted, row_in, IsVersionList, IsVersionsRefusal, RefusesVersions};
 
 use crate::counts::{Counts, count_holds, count_versions};
 use crate::resolving::out_of_memory;
@@ -41,6 +47,14 @@ pub fn list_versions<R: Wait, B: Bucket<StoreLaw>>(
     ensures refused { IfErr result (RefusesVersions (B.faults bucket.old) (B.faults bucket.new) (B.seen bucket.old) (B.seen bucket.new) symbol.now) }
 {
     let state = walk(rt, alloc, bucket, symbol)?;
+    listed(alloc, &state)
+}
+
+/// The versions of a walked symbol. One without a reference is refused with NoSuchSymbol.
+fn listed(alloc: Global, state: &SymbolState) -> Result<VersionList, Refused>
+    ensures listed { (h : History) (symbol : Name) → ∥ IsLawful h ∥₁ → IsStateOf h symbol state.now → IfOk result (λ list. (list.place ≡ state.now.place) × (versions_answer (state_of h symbol) ≡ Ok (record { outcome = Versions list.rows; marks = [] }))) }
+    ensures refused { (before now : ℕ) (h : History) (symbol : Name) → IsStateOf h symbol state.now → IfErr result (λ refused. (refused.place ≡ state.now.place) × IsVersionsRefusal before now h symbol refused.why) }
+{
     let place = state.place;
     if state.was.is_none() {
         return Err(Refused {
@@ -48,7 +62,7 @@ pub fn list_versions<R: Wait, B: Bucket<StoreLaw>>(
             why: Refusal::NoSuchSymbol,
         });
     }
-    match version_rows(alloc, &state) {
+    match version_rows(alloc, state) {
         Ok(rows) => Ok(VersionList { rows, place }),
         Err(NoMemory) => Err(out_of_memory(place)),
     }

@@ -28,6 +28,39 @@ pub(crate) struct Placed {
     pub(crate) next: u64,
 }
 
+/// The key of a tile under this serial.
+fn tile_key(
+    alloc: Global,
+    client: u32,
+    name: &Name,
+    version: u64,
+    serial: u64,
+    tile: &Tile,
+) -> Result<Key, NoMemory>
+    ensures { IfOk result (λ key. key ≡ (slot_at client name.now version serial tile.now).key) }
+{
+    Ok(Key {
+        kind: KeyKind::TableData,
+        name: name.copy(alloc)?,
+        client,
+        serial,
+        version,
+        first: tile.first,
+        last: tile.last,
+    })
+}
+
+/// A tile as it is put under this key.
+fn tile_put(alloc: Global, key: &Key, tile: &Tile) -> Result<Prepared, NoMemory>
+    ensures key { IfOk result (λ put. put.key ≡ key.now) }
+    ensures body { IfOk result (λ put. arc_value put.body ≡ arc_value tile.now.body) }
+{
+    Ok(Prepared {
+        key: key.copy(alloc)?,
+        body: Arc::try_clone(&tile.body)?,
+    })
+}
+
 impl Placed {
     /// Puts a tile behind the others.
     fn add(
@@ -46,19 +79,8 @@ impl Placed {
         let Some(next) = self.next.checked_add(1) else {
             return Err(NoMemory);
         };
-        let key = Key {
-            kind: KeyKind::TableData,
-            name: name.copy(alloc)?,
-            client,
-            serial: self.next,
-            version,
-            first: tile.first,
-            last: tile.last,
-        };
-        self.puts.push(Prepared {
-            key: key.copy(alloc)?,
-            body: Arc::try_clone(&tile.body)?,
-        })?;
+        let key = tile_key(alloc, client, name, version, self.next, tile)?;
+        self.puts.push(tile_put(alloc, &key, tile)?)?;
         self.slots.push(Slot {
             key,
             part: tile.part,
@@ -97,6 +119,41 @@ pub(crate) fn place_tiles(
     Ok(all)
 }
 
+/// The key of the frame's index under this serial.
+fn index_key_of(
+    alloc: Global,
+    client: u32,
+    serial: u64,
+    symbol: &Symbol,
+    version: u64,
+    frame: &Frame,
+) -> Result<Key, NoMemory>
+    ensures { IfOk result (λ key. key ≡ index_key client symbol.now version serial frame.now) }
+{
+    Ok(Key {
+        kind: KeyKind::TableIndex,
+        name: symbol.name().copy(alloc)?,
+        client,
+        serial,
+        version,
+        first: frame.first_stamp().unwrap_or(0),
+        last: frame.last_stamp().unwrap_or(0),
+    })
+}
+
+/// The spelling of the frame's index over these slots.
+fn index_body(alloc: Global, frame: &Frame, slots: Items<Slot>) -> Result<Arc<Body>, NoMemory>
+    requires { IsIndex (record { schema = frame.now.schema; rows = length frame.now.rows; slots = slots }) }
+    ensures { IfOk result (λ body. index_of (arc_value body) ≡ Ok (record { schema = frame.now.schema; rows = length frame.now.rows; slots = slots })) }
+{
+    let index = Index {
+        schema: frame.schema().copy(alloc)?,
+        rows: frame.rows(),
+        slots,
+    };
+    Ok(Arc::new(alloc, Body::make(build(alloc, &index)?))?)
+}
+
 /// The index of these slots under its key.
 pub(crate) fn place_index(
     alloc: Global,
@@ -111,20 +168,7 @@ pub(crate) fn place_index(
     ensures key { IfOk result (λ put. put.key ≡ index_key client symbol.now version serial frame.now) }
     ensures body { IfOk result (λ put. index_of (arc_value put.body) ≡ Ok (record { schema = frame.now.schema; rows = length frame.now.rows; slots = slots })) }
 {
-    let key = Key {
-        kind: KeyKind::TableIndex,
-        name: symbol.name().copy(alloc)?,
-        client,
-        serial,
-        version,
-        first: frame.first_stamp().unwrap_or(0),
-        last: frame.last_stamp().unwrap_or(0),
-    };
-    let index = Index {
-        schema: frame.schema().copy(alloc)?,
-        rows: frame.rows(),
-        slots,
-    };
-    let body = Arc::new(alloc, Body::make(build(alloc, &index)?))?;
+    let body = index_body(alloc, frame, slots)?;
+    let key = index_key_of(alloc, client, serial, symbol, version, frame)?;
     Ok(Prepared { key, body })
 }

@@ -2,7 +2,7 @@ use Rattle.std.proofs.Common.{length, sym, subst}
 use Rattle.std.specs.List.{AllByRecursion}
 use Rattle.index_tree.specs.IndexRules.{FitsSlot}
 use Rattle.index_tree.proofs.SlotRules.{fits_all}
-use Rattle.append_update.proofs.planning.plan_update.Goals as goal
+use Rattle.append_update.proofs.planning.pieces_of_update.Goals as goal
 
 pub pieces_replaced-requires-clause-fits : goal.pieces_replaced-requires-clause-fits
 pieces_replaced-requires-clause-fits c =
