@@ -179,13 +179,13 @@ fn what_a_client_wrote_on_its_thread_is_found_behind_the_joins(
     rt: HostRuntime,
 ) -> Result<(), Fail> {
     let places = three_writes(&rt, rt.alloc())?;
-    assert!(rt; places.is_some_and(is_found_behind_the_joins));
+    assert!(rt; matches!(places, Some(places) if is_found_behind_the_joins(places)));
     Ok(())
 }
 
 #[test]
 fn each_client_writes_once(rt: HostRuntime) -> Result<(), Fail> {
     let places = three_writes(&rt, rt.alloc())?;
-    assert!(rt; places.is_some_and(are_written_once));
+    assert!(rt; matches!(places, Some(places) if are_written_once(places)));
     Ok(())
 }
