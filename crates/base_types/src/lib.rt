@@ -5,8 +5,6 @@ mod body;
 mod items;
 mod keep;
 mod memory;
-#[cfg(test)]
-mod tests;
 mod text;
 
 pub use body::Body;

@@ -5,8 +5,8 @@ ghost use Rattle.key_kind.specs.KeyText.{key_text};
 
 use base_types::{Items, Keep};
 use bucket_core::{
-    Body, Bucket, Changes, Counting, Flaky, Gate, GatePoint, Gated, Law, OpenGate, PlainBucket,
-    Step, StoreErr, When,
+    Body, Bucket, Changes, Counting, Flaky, Found, Gate, GatePoint, Gated, Law, OpenGate,
+    PlainBucket, Step, StoreErr, When,
 };
 use key_kind::{Key, KeyKind, SnapName, Symbol};
 use std::alloc::Global;
@@ -61,7 +61,30 @@ fn marked(alloc: Global, serial: u64) -> Result<(Key, Arc<Body>), Fail>
 // What a change answers: the place of its event, or why it was not made.
 type Told = Result<u64, StoreErr>;
 
-// What the second of two refers answers, each of which takes S for one without a reference.
+// What the second of two refers answers, each of which takes the symbol for one without a reference.
+fn refer_both<R: Wait>(
+    rt: &R,
+    bucket: &mut PlainBucket<OnceLaw>,
+    symbol: &Symbol,
+    first: (&Key, Arc<Body>, Arc<Changes>),
+    second: (&Key, Arc<Body>, Arc<Changes>),
+) -> Told
+    requires empty { ⟦<PlainBucket<OnceLaw> as Bucket<OnceLaw>>⟧.seen bucket.old ≡ [] }
+    requires keys { (IsKey first.0.now) × (IsKey second.0.now) }
+    requires mark { arc_value first.1 ≡ key_text first.0.now }
+    requires other { arc_value second.1 ≡ key_text second.0.now }
+{
+    let (key, mark, changes) = first;
+    match bucket.refer(rt, symbol, None, key, mark, changes) {
+        Ok(_) => {
+            let (key, mark, changes) = second;
+            bucket.refer(rt, symbol, None, key, mark, changes)
+        }
+        Err(why) => Err(why),
+    }
+}
+
+// The same of S.
 fn refer_twice<R: Wait>(
     rt: &R,
     alloc: Global,
@@ -74,16 +97,19 @@ fn refer_twice<R: Wait>(
     let again = Arc::try_clone(&changes)?;
     let (first, mark) = marked(alloc, 0)?;
     let (second, other) = marked(alloc, 1)?;
-    match bucket.refer(rt, &symbol, None, &first, mark, changes) {
-        Ok(_) => Ok(bucket.refer(rt, &symbol, None, &second, other, again)),
-        Err(why) => Ok(Err(why)),
-    }
+    let first = (&first, mark, changes);
+    Ok(refer_both(rt, bucket, &symbol, first, (&second, other, again)))
+}
+
+// The same in a new store.
+fn refer_twice_anew<R: Wait>(rt: &R, alloc: Global) -> Result<Told, Fail> {
+    let mut bucket = PlainBucket::make(alloc, 1, 1)?;
+    refer_twice(rt, alloc, &mut bucket)
 }
 
 #[test]
 fn a_refer_that_lost_tells_the_place_of_the_one_that_won(rt: HostRuntime) -> Result<(), Fail> {
-    let mut bucket = PlainBucket::make(rt.alloc(), 1, 1)?;
-    let told = refer_twice(&rt, rt.alloc(), &mut bucket)?;
+    let told = refer_twice_anew(&rt, rt.alloc())?;
     assert!(rt; told == Err(StoreErr::Moved { now: 1 }));
     Ok(())
 }
@@ -139,12 +165,16 @@ fn get<R: Wait, B: Bucket<OnceLaw>>(
 ) -> Result<Told, Fail> {
     let key = element(alloc, 0)?;
     match bucket.get(rt, &key) {
-        Ok(found) => match &found.body {
-            Some(body) if body.bytes() == bytes => Ok(Ok(found.since)),
-            Some(_) => Ok(Err(StoreErr::Fault)),
-            None => Ok(Ok(0)),
-        },
+        Ok(found) => Ok(since(&found, bytes)),
         Err(why) => Ok(Err(why)),
+    }
+}
+
+fn since(found: &Found, bytes: &[u8]) -> Told {
+    match &found.body {
+        Some(body) if body.bytes() == bytes => Ok(found.since),
+        Some(_) => Err(StoreErr::Fault),
+        None => Ok(0),
     }
 }
 
@@ -186,11 +216,21 @@ const PUTS: &[(Call, Told)] = &[
     (Call::Put(b"past"), Err(StoreErr::Spent { count: 2 })),
 ];
 
+// Whether calls in a store of so many events answer so, and how many events there are then.
+fn plain_answers<R: Wait>(
+    rt: &R,
+    alloc: Global,
+    limit: u64,
+    calls: &[(Call, Told)],
+) -> Result<(bool, usize), Fail> {
+    let mut bucket = plain(alloc, limit)?;
+    let good = answer_so(rt, alloc, &mut bucket, calls)?;
+    Ok((good, bucket.events().len()))
+}
+
 #[test]
 fn a_get_answers_the_body_put_last_and_its_place(rt: HostRuntime) -> Result<(), Fail> {
-    let mut bucket = plain(rt.alloc(), 2)?;
-    assert!(rt; answer_so(&rt, rt.alloc(), &mut bucket, PUTS)?);
-    assert!(rt; bucket.events().len() == 2);
+    assert!(rt; plain_answers(&rt, rt.alloc(), 2, PUTS)? == (true, 2));
     Ok(())
 }
 
@@ -204,8 +244,7 @@ const NAMES: &[(Call, Told)] = &[
 
 #[test]
 fn a_name_is_taken_away_as_it_was_set(rt: HostRuntime) -> Result<(), Fail> {
-    let mut bucket = plain(rt.alloc(), 9)?;
-    assert!(rt; answer_so(&rt, rt.alloc(), &mut bucket, NAMES)?);
+    assert!(rt; plain_answers(&rt, rt.alloc(), 9, NAMES)? == (true, 2));
     Ok(())
 }
 
@@ -218,24 +257,43 @@ const PUTS_THAT_FAIL: &[(Call, Told)] = &[
     (Call::Put(b"b"), Err(StoreErr::Fault)),
 ];
 
+// A store with these failures.
+fn flaky(alloc: Global) -> Result<Flaky<PlainBucket<OnceLaw>>, Fail> {
+    let fails = Items::from_slice(alloc, FAILS)?;
+    Ok(Flaky::make(plain(alloc, 9)?, fails))
+}
+
+// Whether puts in it answer so, and how many events there are then.
+fn flaky_answers<R: Wait>(rt: &R, alloc: Global) -> Result<(bool, usize), Fail> {
+    let mut bucket = flaky(alloc)?;
+    let good = answer_so(rt, alloc, &mut bucket, PUTS_THAT_FAIL)?;
+    Ok((good, bucket.into_inner().events().len()))
+}
+
 #[test]
 fn a_put_that_fails_after_stands_and_one_that_fails_before_does_not(
     rt: HostRuntime,
 ) -> Result<(), Fail> {
-    let fails = Items::from_slice(rt.alloc(), FAILS)?;
-    let mut bucket = Flaky::make(plain(rt.alloc(), 9)?, fails);
-    assert!(rt; answer_so(&rt, rt.alloc(), &mut bucket, PUTS_THAT_FAIL)?);
-    assert!(rt; bucket.into_inner().events().len() == 1);
+    assert!(rt; flaky_answers(&rt, rt.alloc())? == (true, 1));
     Ok(())
 }
 
 const GETS: &[(Call, Told)] = &[(Call::Get(b"a"), Ok(0)), (Call::Get(b"a"), Ok(0))];
 
+// Whether they answer so, and how many elements and tiles were got.
+fn counted_gets<R: Wait>(rt: &R, alloc: Global) -> Result<(bool, u64, u64), Fail> {
+    let mut bucket = Counting::make(plain(alloc, 9)?);
+    let good = answer_so(rt, alloc, &mut bucket, GETS)?;
+    Ok((
+        good,
+        bucket.gets(KeyKind::Version),
+        bucket.gets(KeyKind::TableData),
+    ))
+}
+
 #[test]
 fn gets_are_counted_by_kind(rt: HostRuntime) -> Result<(), Fail> {
-    let mut bucket = Counting::make(plain(rt.alloc(), 9)?);
-    assert!(rt; answer_so(&rt, rt.alloc(), &mut bucket, GETS)?);
-    assert!(rt; bucket.gets(KeyKind::Version) == 2 && bucket.gets(KeyKind::TableData) == 0);
+    assert!(rt; counted_gets(&rt, rt.alloc())? == (true, 2, 0));
     Ok(())
 }
 
@@ -269,15 +327,21 @@ fn puts_at<R: Wait>(rt: &R, alloc: Global, gate: &PutsPassed) -> Result<(bool, u
     Ok((good, bucket.into_inner().events().len()))
 }
 
-#[test]
-fn a_gate_is_passed_before_and_behind_each_put(rt: HostRuntime) -> Result<(), Fail> {
+// Whether they are made, how many events there are then, and how often the gate was passed before them and behind.
+fn puts_and_passes<R: Wait>(rt: &R, alloc: Global) -> Result<(bool, usize, u64, u64), Fail> {
     let gate = PutsPassed {
         before: Mutex::new(0),
         behind: Mutex::new(0),
     };
-    assert!(rt; puts_at(&rt, rt.alloc(), &gate)? == (true, 2));
-    assert!(rt; *gate.before.lock(&rt) == 2);
-    assert!(rt; *gate.behind.lock(&rt) == 2);
+    let (good, events) = puts_at(rt, alloc, &gate)?;
+    let before = *gate.before.lock(rt);
+    let behind = *gate.behind.lock(rt);
+    Ok((good, events, before, behind))
+}
+
+#[test]
+fn a_gate_is_passed_before_and_behind_each_put(rt: HostRuntime) -> Result<(), Fail> {
+    assert!(rt; puts_and_passes(&rt, rt.alloc())? == (true, 2, 2, 2));
     Ok(())
 }
 
@@ -338,27 +402,42 @@ fn is_one_below<R: Wait, B: Bucket<OnceLaw>>(
     Ok(before == (1, 0, 0, 0, true) && refer == Ok(1) && good && after == (1, 1, 4, 2, false))
 }
 
+// Whether a counting bucket is so, and how many events there are then.
+fn counting_is_one_below<R: Wait>(rt: &R, alloc: Global) -> Result<(bool, usize), Fail> {
+    let mut fresh = Counting::make(plain(alloc, 9)?);
+    let mut bucket = Counting::make(PlainBucket::make(alloc, 1, 9)?);
+    let good = is_one_below(rt, alloc, &mut fresh, &mut bucket)?;
+    Ok((good, bucket.into_inner().events().len()))
+}
+
 #[test]
 fn each_call_of_a_counting_bucket_is_one_below(rt: HostRuntime) -> Result<(), Fail> {
-    let mut fresh = Counting::make(plain(rt.alloc(), 9)?);
-    let mut bucket = Counting::make(PlainBucket::make(rt.alloc(), 1, 9)?);
-    assert!(rt; is_one_below(&rt, rt.alloc(), &mut fresh, &mut bucket)?);
-    assert!(rt; bucket.into_inner().events().len() == 4);
+    assert!(rt; counting_is_one_below(&rt, rt.alloc())? == (true, 4));
     Ok(())
+}
+
+// Whether a flaky bucket without a failure is so.
+fn flaky_is_one_below<R: Wait>(rt: &R, alloc: Global) -> Result<bool, Fail> {
+    let mut fresh = Flaky::make(plain(alloc, 9)?, Items::new(alloc));
+    let mut bucket = Flaky::make(PlainBucket::make(alloc, 1, 9)?, Items::new(alloc));
+    is_one_below(rt, alloc, &mut fresh, &mut bucket)
 }
 
 #[test]
 fn each_call_of_a_flaky_bucket_without_a_failure_is_one_below(rt: HostRuntime) -> Result<(), Fail> {
-    let mut fresh = Flaky::make(plain(rt.alloc(), 9)?, Items::new(rt.alloc()));
-    let mut bucket = Flaky::make(PlainBucket::make(rt.alloc(), 1, 9)?, Items::new(rt.alloc()));
-    assert!(rt; is_one_below(&rt, rt.alloc(), &mut fresh, &mut bucket)?);
+    assert!(rt; flaky_is_one_below(&rt, rt.alloc())?);
     Ok(())
+}
+
+// Whether a bucket behind an open gate is so.
+fn gated_is_one_below<R: Wait>(rt: &R, alloc: Global) -> Result<bool, Fail> {
+    let mut fresh = Gated::make(plain(alloc, 9)?, &OpenGate);
+    let mut bucket = Gated::make(PlainBucket::make(alloc, 1, 9)?, &OpenGate);
+    is_one_below(rt, alloc, &mut fresh, &mut bucket)
 }
 
 #[test]
 fn each_call_of_a_gated_bucket_is_one_below(rt: HostRuntime) -> Result<(), Fail> {
-    let mut fresh = Gated::make(plain(rt.alloc(), 9)?, &OpenGate);
-    let mut bucket = Gated::make(PlainBucket::make(rt.alloc(), 1, 9)?, &OpenGate);
-    assert!(rt; is_one_below(&rt, rt.alloc(), &mut fresh, &mut bucket)?);
+    assert!(rt; gated_is_one_below(&rt, rt.alloc())?);
     Ok(())
 }

@@ -1,6 +1,6 @@
 //! Commands of S as data, and the one place where a library carries them out.
 
-ghost use Rattle.std.specs.Prelude.{◌≡◌, ◌<◌, true, length, IfOk};
+ghost use Rattle.std.specs.Prelude.{◌≡◌, ◌<◌, ◌≤◌, true, length, IfOk};
 ghost use Rattle.library_api.specs.Steps.{is_carried_out, IsNamed};
 
 use base_types::{Items, NoMemory};
@@ -57,13 +57,19 @@ pub(crate) fn symbol(alloc: Global) -> Result<Symbol, NoMemory> {
     }
 }
 
+fn tries(twice: bool) -> u32
+    ensures { (1 ≤ result) × (result ≤ 1000) }
+{
+    if twice { 2 } else { 1 }
+}
+
 /// The library of a bucket, with tiles of so many rows and the moment 50, and with one try or two.
 pub(crate) fn library<B>(bucket: B, rows: u32, twice: bool) -> Library<B> {
     Library::make(
         bucket,
         Settings {
             cutting: Cutting::make(rows, 127).unwrap_or(Cutting::largest()),
-            tries: if twice { 2 } else { 1 },
+            tries: tries(twice),
             workers: 1,
             moment: 50,
         },

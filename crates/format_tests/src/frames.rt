@@ -201,14 +201,17 @@ fn sample_slice(alloc: Global, from: u64, to: u64) -> Result<Option<Frame>, Fail
     slice_of(alloc, &frame, from, to)
 }
 
-fn are_the_last_two(part: &Frame) -> bool {
-    has_stamps(part, &[2, 2]) && has_text(part, 1, 1, "yz")
+fn are_the_last_two(part: &Option<Frame>) -> bool {
+    match part {
+        Some(part) => has_stamps(part, &[2, 2]) && has_text(part, 1, 1, "yz"),
+        None => false,
+    }
 }
 
 #[test]
 fn rows_are_cut_from_one_place_up_to_another(rt: HostRuntime) -> Result<(), Fail> {
     let part = sample_slice(rt.alloc(), 1, 3)?;
-    assert!(rt; matches!(&part, Some(part) if are_the_last_two(part)));
+    assert!(rt; are_the_last_two(&part));
     Ok(())
 }
 
@@ -275,14 +278,24 @@ fn has_it_again(both: &Frame) -> bool {
     has_stamps(both, &[1, 2, 2, 2]) && has_text(both, 3, 1, "yz")
 }
 
+// The sample and these rows behind it.
+fn sample_and(alloc: Global, more: &Frame) -> Result<Option<Frame>, Fail> {
+    let frame = frame_of(alloc, &SAMPLE)?;
+    joined(alloc, &frame, more)
+}
+
+// Whether the row goes behind the sample.
+fn goes_behind(alloc: Global, end: &Frame) -> Result<bool, Fail> {
+    match sample_and(alloc, end)? {
+        Some(both) => Ok(has_it_again(&both)),
+        None => Ok(false),
+    }
+}
+
 // Whether the last row of the sample is cut from it, and goes behind it.
 fn last_row_goes_behind(alloc: Global) -> Result<bool, Fail> {
-    let frame = frame_of(alloc, &SAMPLE)?;
-    match slice_of(alloc, &frame, 2, 3)? {
-        Some(end) => match joined(alloc, &frame, &end)? {
-            Some(both) => Ok(is_the_last(&end) && has_it_again(&both)),
-            None => Ok(false),
-        },
+    match sample_slice(alloc, 2, 3)? {
+        Some(end) => Ok(is_the_last(&end) && goes_behind(alloc, &end)?),
         None => Ok(false),
     }
 }

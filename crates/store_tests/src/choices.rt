@@ -61,6 +61,12 @@ fn chooses(state: &SymbolState, asked: Asked, version: Option<u64>) -> bool {
     }
 }
 
+// The same in the state above.
+fn is_chosen(alloc: Global, asked: Asked, version: Option<u64>) -> Result<bool, Fail> {
+    let state = state(alloc)?;
+    Ok(chooses(&state, asked, version))
+}
+
 // What is asked, and the version that is chosen: buried ones are passed over, and a moment takes the greatest number, not the greatest
 // stamp.
 const CHOICES: &[(Asked, Option<u64>)] = &[
@@ -78,9 +84,8 @@ const CHOICES: &[(Asked, Option<u64>)] = &[
 
 #[test]
 fn the_version_that_is_asked_is_chosen(rt: HostRuntime) -> Result<(), Fail> {
-    let state = state(rt.alloc())?;
     for (row, (asked, version)) in CHOICES.iter().enumerate() {
-        assert!(rt; chooses(&state, *asked, *version), "row {row}");
+        assert!(rt; is_chosen(rt.alloc(), *asked, *version)?, "row {row}");
     }
     Ok(())
 }

@@ -130,24 +130,34 @@ fn has_slots(alloc: Global, bucket: &PlainBucket<StoreLaw>) -> Result<bool, Fail
     }
 }
 
+// Whether the update leaves them.
+fn leaves_slots<R: Wait>(rt: &R, alloc: Global) -> Result<bool, Fail> {
+    match updated(rt, alloc)? {
+        Some(bucket) => has_slots(alloc, &bucket),
+        None => Ok(false),
+    }
+}
+
 #[test]
 fn a_shared_slot_follows_the_new_rows_and_is_not_put(rt: HostRuntime) -> Result<(), Fail> {
-    let bucket = updated(&rt, rt.alloc())?;
-    assert!(rt;
-        match &bucket {
-            Some(bucket) => has_slots(rt.alloc(), bucket)?,
-            None => false,
-        }
-    );
+    assert!(rt; leaves_slots(&rt, rt.alloc())?);
     Ok(())
+}
+
+// Whether a step carries out a question for keys.
+fn carries_out_keys(alloc: Global) -> Result<bool, Fail> {
+    let symbol = symbol(alloc)?;
+    Ok(is_carried_out(&Command::Keys { symbol }))
+}
+
+// Whether it carries out a question for symbols.
+fn carries_out_symbols() -> bool {
+    is_carried_out(&Command::Symbols)
 }
 
 #[test]
 fn a_step_carries_out_what_it_says(rt: HostRuntime) -> Result<(), Fail> {
-    let keys = Command::Keys {
-        symbol: symbol(rt.alloc())?,
-    };
-    assert!(rt; is_carried_out(&keys));
-    assert!(rt; !is_carried_out(&Command::Symbols));
+    assert!(rt; carries_out_keys(rt.alloc())?);
+    assert!(rt; !carries_out_symbols());
     Ok(())
 }
