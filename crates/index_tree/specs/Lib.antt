@@ -5,3 +5,5 @@ pub mod IndexFaults
 pub mod Covering
 pub mod Names
 pub mod SlotTexts
+pub mod PageText
+pub mod PageRules
