@@ -36,9 +36,6 @@ pub mod Collecting
 pub mod Settling
 pub mod WitnessCollected
 pub mod Flat
-pub mod Former
-pub mod Plain
-pub mod Formerly
 pub mod Widening
 pub mod Restating
 pub mod Plainly

@@ -103,10 +103,10 @@ pieces_at before (suc n) bytes = do
       (pieces_at (Some (record { client = client.0; serial = serial.0 })) n serial.1)
   Ok (record { client = client.0; serial = serial.0 } ∷ more.0, more.1)
 
--- Gate B, closed: no bytes spell a Compact, so none can be put, and an element is read as one of the five forms alone. It opens as
--- `is_compact tag = nat_eq tag 6`, once version_chain reads and spells a Compact. With it go: that each reading of an element is one of before
--- (`plain_entry` in proofs/Plain). Seen to prove with this gate and gate C open: that an element on another one has no Compact
--- (`no_compact_on_another_element`, with its fault at the tag)
+-- Gate B, closed: no bytes spell a Compact, so none can be put, and an element is read in one of the five forms alone. It opens as
+-- `is_compact tag = nat_eq tag 6`, once version_chain reads and spells a Compact. With it goes: that the readers and writers of version_chain, which
+-- know no Compact, are exact (`IsMark` and `IsForm` of its Entries). Seen to prove with this gate and gate C open: that an element on
+-- another one has no Compact (`no_compact_on_another_element`, with its fault at the tag)
 abbrev pub is_compact : ℕ → Bool
 is_compact tag = false
 
