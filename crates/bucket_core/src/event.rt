@@ -32,6 +32,8 @@ pub enum Change {
     Released { holder: Holder },
     /// These staged pieces are consumed.
     Discarded { pieces: Items<PieceName> },
+    /// The symbol is what it was; one element tells all of it anew.
+    Restated,
 }
 
 /// The changes of one commit, which an event shares with its caller. Contracts see the list.

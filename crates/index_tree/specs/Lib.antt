@@ -7,3 +7,5 @@ pub mod Names
 pub mod SlotTexts
 pub mod SlotParts
 pub mod IndexParts
+pub mod PageText
+pub mod PageRules

@@ -6,6 +6,7 @@ mod index;
 mod laws;
 mod lookup;
 mod packed;
+mod page;
 mod reach;
 mod reading;
 mod slot_runs;
@@ -20,6 +21,7 @@ pub use index::{Index, Slot};
 pub use laws::one_spelling;
 pub use lookup::{covered, covering};
 pub use packed::{PackedIndex, open};
+pub use page::{IndexObject, PageRow, Root};
 pub use reading::read;
 pub use slot_runs::SlotRuns;
 pub use slot_text::SlotText;
@@ -28,3 +30,6 @@ pub use writing::{build, build_packed};
 
 /// The tiles of an index, in order of their first row and then of their first column, seen as a list.
 pub type Slots = Items<Slot>;
+
+/// The pages of a root, in order, seen as a list.
+pub type PageRows = Items<PageRow>;

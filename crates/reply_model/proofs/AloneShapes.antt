@@ -16,11 +16,12 @@ use Rattle.bucket_core.specs.History.{History, stored, body_put}
 use Rattle.store_model.specs.Library.{State, Version, state_of, first_of, number_after, next_number, after_change, after_changes}
 use Rattle.store_model.specs.declared.chain.LinkRow.{LinkRow}
 use Rattle.store_model.specs.Links.{Linked, links, links_of, links_in, links_at}
-use Rattle.store_model.specs.Commits.{FitsLink, is_version, IsCommit, making, marking, marks_of, MayRefer}
+use Rattle.store_model.specs.Commits.{FitsLink, is_version, IsCommit, making, marking, marks_of, MayChange}
 use Rattle.store_model.proofs.Linking.{MakesNone, marks_make_none, refer_makes}
 use Rattle.store_model.proofs.Referring.{linked_row}
 use Rattle.store_model.specs.Law.{IsLawful}
 use Rattle.store_model.proofs.Lawful.{lawful_is_intact, beginning_lawful}
+use Rattle.store_model.proofs.Plainly.{is_commit}
 use Rattle.reply_model.specs.Rows.{keys_of}
 use Rattle.reply_model.specs.Blocks.{Cutting, Block, made_for, blocks_made, with_version, shape_after}
 use Rattle.reply_model.specs.Keyed.{HasKeys}
@@ -116,8 +117,8 @@ module _ (c : Cutting) (client : ℕ) (symbol : Name) (makes : Bool) (old behind
       (r.shape symbol).versions (stands.shapes symbol).made
 
   -- its links
-  abbrev may : MayRefer before client symbol was entry (first ∷ rest)
-  may = lawful.0.1
+  abbrev may : MayChange before client symbol was entry (first ∷ rest)
+  may = is_commit before client symbol was entry (first ∷ rest) lawful.0.1
 
   links_behind : links new symbol ≡ links_in before (marks_of may.row (first ∷ rest)) ++ links old symbol
   links_behind = ap (λ b. cond b (links_at before entry ++ links before symbol) (links before symbol)) (same_name_self symbol)

@@ -58,6 +58,7 @@ blocks_are c st s (changes.Removed versions) e = absurd (true≢false (sym e))
 blocks_are c st s (changes.Held holder version) e = absurd (true≢false (sym e))
 blocks_are c st s (changes.Released holder) e = absurd (true≢false (sym e))
 blocks_are c st s (changes.Discarded pieces) e = absurd (true≢false (sym e))
+blocks_are c st s changes.Restated e = absurd (true≢false (sym e))
 
 one_more : (st : State) (change : Change) (rest : List Change) → is_version change ≡ true → suc (next_number st) ≤ next_number (after_changes st (change ∷ rest))
 one_more st (changes.Wrote frame at) rest e = numbers_kept (after_change st (changes.Wrote frame at)) rest
@@ -67,6 +68,7 @@ one_more st (changes.Removed versions) rest e = absurd (true≢false (sym e))
 one_more st (changes.Held holder version) rest e = absurd (true≢false (sym e))
 one_more st (changes.Released holder) rest e = absurd (true≢false (sym e))
 one_more st (changes.Discarded pieces) rest e = absurd (true≢false (sym e))
+one_more st changes.Restated rest e = absurd (true≢false (sym e))
 
 -- what is laid out is what the run makes
 pub laid_makes : (c : Cutting) (s : Shape) (symbol : Name) (tiles place : ℕ) (change : Change) (rest : List Change) (old new : History) → is_version change ≡ true → HasShape old symbol s

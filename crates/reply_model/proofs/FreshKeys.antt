@@ -1,13 +1,12 @@
 -- The keys that a try puts are new, and those of a version are the ones of its new row blocks.
-use Rattle.std.proofs.Common.{◌≡◌, ℕ, Bool, true, false, List, [], ◌∷◌, ◌++◌, map, length, Option, Some, None, refl, sym, ◌∙◌, ap, subst, inl, inr, arith, cond, ◌≤◌, append_assoc, length-append}
-use Rattle.std.specs.Prelude.{◌*◌, ⊤, Contains, filter, reverse, is_some, option_map, option_and_then}
+use Rattle.std.proofs.Common.{◌≡◌, ℕ, Bool, true, false, List, [], ◌∷◌, ◌++◌, map, length, Some, None, refl, sym, ◌∙◌, ap, subst, inl, inr, arith, cond, ◌≤◌, append_assoc, length-append}
+use Rattle.std.specs.Prelude.{◌*◌, ⊤, Contains, filter, reverse, is_some}
 use Rattle.std.specs.List.{AllByRecursion, AllZip, IsDistinct}
 use Rattle.std.proofs.Math.Nat.{suc-mul}
 use Rattle.std.proofs.lemmas.Bool.{true≢false}
 use Rattle.std.proofs.lemmas.List.{reverse-append}
 use Rattle.std.proofs.lemmas.List.Elements.{filter-append}
 use Rattle.std.proofs.lemmas.List.Concat.{flat_map-cons}
-use Rattle.segment_cut.specs.Tiles.{Tile}
 use Rattle.index_tree.specs.declared.index.Index.{Index}
 use Rattle.key_kind.specs.declared.key.Key.{Key}
 use Rattle.key_kind.specs.Keys.{same_key}
@@ -15,7 +14,8 @@ use Rattle.key_kind.proofs.KeyTests.{same_key_is, same_key_self}
 use Rattle.bucket_core.specs.declared.event.Event.TheVariants as events
 use Rattle.bucket_core.specs.History.{History, Bytes, stored, body_put, PutOnce}
 use Rattle.store_model.specs.declared.chain.LinkRow.{LinkRow}
-use Rattle.store_model.specs.Links.{Linked, linked, tiles_put, index_put}
+use Rattle.store_model.specs.Links.{Linked, linked, index_put}
+use Rattle.store_model.proofs.PlainLinks.{flat as flat_index, flat_index_is}
 use Rattle.store_model.proofs.Lists.{contains_cases, contains_none}
 use Rattle.store_model.proofs.Histories.{put_stays}
 use Rattle.reply_model.specs.Tries.{put_of, keys_of_puts}
@@ -28,19 +28,9 @@ use Rattle.reply_model.proofs.KeyedShapes.{flat}
 
 -- ---- the index of a link
 
--- a link has the index that was put under its row's key
-pub index_is : (h : History) (row : LinkRow) (link : Linked) (index : Index) → linked h row ≡ Some link → index_put h row.index ≡ Some index → link.index ≡ index
-index_is h row link index is put = by_index (index_put h row.index) is put
-  where
-    by_tiles : (o : Option (List Tile)) → option_map (λ tiles. record { row = row; index = index; tiles = tiles }) o ≡ Some link → link.index ≡ index
-    by_tiles None e = absurd cc
-    by_tiles (Some tiles) e = sym (ap (λ (l : Linked). l.index) (same (record { row = row; index = index; tiles = tiles }) link e))
-      where
-        same : (a b : Linked) → Some a ≡ Some b → a ≡ b
-        same a b f = cc
-
-    by_index : (o : Option Index) → option_and_then (λ i. option_map (λ tiles. record { row = row; index = i; tiles = tiles }) (tiles_put h i.slots)) o ≡ Some link → o ≡ Some index → link.index ≡ index
-    by_index o e f = by_tiles (tiles_put h index.slots) (subst (λ p. option_and_then (λ i. option_map (λ tiles. record { row = row; index = i; tiles = tiles }) (tiles_put h i.slots)) p ≡ Some link) f e)
+-- a link has the index that was put whole under its row's key
+pub index_is : (h : History) (row : LinkRow) (link : Linked) (index : Index) → linked h row ≡ Some link → index_put h row.index ≡ Some (flat_index index) → link.index ≡ index
+index_is h row link index is put = flat_index_is h row link index is put
 
 -- ---- puts behind a history
 

@@ -89,6 +89,7 @@ hold_marks holder (changes.Updated frame range at) m = absurd m
 hold_marks holder (changes.Removed versions) m = absurd m
 hold_marks holder (changes.Released other) m = absurd m
 hold_marks holder (changes.Discarded pieces) m = absurd m
+hold_marks holder changes.Restated m = absurd m
 
 release_marks : (holder : Holder) → Marking (IsRelease holder)
 release_marks holder (changes.Released other) m = refl
@@ -98,6 +99,7 @@ release_marks holder (changes.Appended frame at) m = absurd m
 release_marks holder (changes.Updated frame range at) m = absurd m
 release_marks holder (changes.Removed versions) m = absurd m
 release_marks holder (changes.Discarded pieces) m = absurd m
+release_marks holder changes.Restated m = absurd m
 
 mark_harms_nothing : (c : ℕ) (symbol : Name) (was : Option Key) (entry : Key) (list : List Change) → is_mark list ≡ true → harms (events.Refer c symbol was entry list) ≡ false
 mark_harms_nothing c symbol was entry list e = ap not e

@@ -22,6 +22,7 @@ use Rattle.reply_model.specs.Legal.{IsLegalSeen}
 use Rattle.reply_model.proofs.HonestWrites.{client, window, reply}
 use Rattle.index_tree.specs.IndexText.{index_text, index_of}
 use Rattle.store_model.proofs.WitnessCleared as cleared
+use Rattle.index_tree.specs.PageText.{object_of}
 
 -- ---- delete_range
 
@@ -29,7 +30,7 @@ abbrev clear_puts : List (Key × Bytes)
 clear_puts = (cleared.index_key, index_text cleared.empty_index) ∷ (w.key kinds.Version 4, entry_text cleared.clear_entry) ∷ []
 
 clear_try : IsTry S true clear_puts (w.key kinds.Version 4)
-unfolding index_of entry_of head_at type_at length_at name_at text_at is_utf8 chars encode key_at key_text signed_text
+unfolding object_of index_of entry_of head_at type_at length_at name_at text_at is_utf8 chars encode key_at key_text signed_text
 clear_try = record {
   first = (cleared.index_key, index_text cleared.empty_index) ∷ [];
   body = entry_text cleared.clear_entry;
@@ -64,7 +65,7 @@ abbrev final_puts : List (Key × Bytes)
 final_puts = (w.table_key kinds.TableData 1, segment_text w.table) ∷ (w.table_key kinds.TableIndex 2, index_text cleared.final_index) ∷ (w.key kinds.Version 3, entry_text cleared.final_entry) ∷ []
 
 final_try : IsTry S true final_puts (w.key kinds.Version 3)
-unfolding index_of entry_of head_at type_at length_at name_at text_at is_utf8 chars encode key_at key_text signed_text
+unfolding object_of index_of entry_of head_at type_at length_at name_at text_at is_utf8 chars encode key_at key_text signed_text
 final_try = record {
   first = (w.table_key kinds.TableData 1, segment_text w.table) ∷ (w.table_key kinds.TableIndex 2, index_text cleared.final_index) ∷ [];
   body = entry_text cleared.final_entry;

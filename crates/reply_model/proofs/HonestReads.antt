@@ -25,6 +25,7 @@ use Rattle.store_model.specs.Links.{Linked, links, reaches, is_needed, IsUnneede
 use Rattle.store_model.proofs.SmallFrames.{S}
 use Rattle.store_model.proofs.Witness as w
 use Rattle.store_model.proofs.WitnessPruned as pruned
+use Rattle.index_tree.specs.PageText.{object_of}
 use Rattle.expr_clause.specs.declared.command.Command.TheVariants as commands
 use Rattle.reply_model.specs.declared.outcome.Outcome.TheVariants as outcomes
 use Rattle.reply_model.specs.Tries.{IsTry, of_version}
@@ -35,17 +36,17 @@ use Rattle.reply_model.proofs.HonestSnapshots.{none_consumed}
 
 -- the two links, the newest first
 abbrev new_link : Linked
-new_link = record { row = pruned.row; index = pruned.index; tiles = (w.part, w.table) ∷ [] }
+new_link = record { row = pruned.row; pages = []; index = pruned.index; tiles = (w.part, w.table) ∷ [] }
 
 abbrev old_link : Linked
-old_link = record { row = w.row; index = w.index; tiles = (w.part, w.table) ∷ [] }
+old_link = record { row = w.row; pages = []; index = w.index; tiles = (w.part, w.table) ∷ [] }
 
 links_pruned : links pruned.pruned S ≡ new_link ∷ old_link ∷ []
-unfolding index_of entry_of segment_text sheet_text cells_text segment_of sheet_spelled sheet_at rows_at count_at stamps_at stamp_at columns_at series_at head_at type_at length_at name_at text_at cells_at is_utf8 chars encode signed_text key_at key_text
+unfolding object_of index_of entry_of segment_text sheet_text cells_text segment_of sheet_spelled sheet_at rows_at count_at stamps_at stamp_at columns_at series_at head_at type_at length_at name_at text_at cells_at is_utf8 chars encode signed_text key_at key_text
 links_pruned = refl
 
 links_dropped : links pruned.dropped S ≡ new_link ∷ old_link ∷ []
-unfolding index_of entry_of segment_text sheet_text cells_text segment_of sheet_spelled sheet_at rows_at count_at stamps_at stamp_at columns_at series_at head_at type_at length_at name_at text_at cells_at is_utf8 chars encode signed_text key_at key_text
+unfolding object_of index_of entry_of segment_text sheet_text cells_text segment_of sheet_spelled sheet_at rows_at count_at stamps_at stamp_at columns_at series_at head_at type_at length_at name_at text_at cells_at is_utf8 chars encode signed_text key_at key_text
 links_dropped = refl
 
 -- ---- the read
@@ -83,7 +84,7 @@ abbrev puts : List (Key × Bytes)
 puts = (pruned.key kinds.TableData 0, segment_text w.table) ∷ (pruned.key kinds.TableIndex 1, index_text pruned.index) ∷ (pruned.element_key, entry_text pruned.entry) ∷ []
 
 is_try : IsTry S true puts pruned.element_key
-unfolding index_of entry_of head_at type_at length_at name_at text_at is_utf8 chars encode key_at key_text signed_text
+unfolding object_of index_of entry_of head_at type_at length_at name_at text_at is_utf8 chars encode key_at key_text signed_text
 is_try = record {
   first = (pruned.key kinds.TableData 0, segment_text w.table) ∷ (pruned.key kinds.TableIndex 1, index_text pruned.index) ∷ [];
   body = entry_text pruned.entry;
@@ -138,11 +139,11 @@ both_gone key n u = elim (or_cases (reaches new_link key) (reaches old_link key 
         (subst (λ m. list_any (λ l. is_needed (state_of pruned.pruned m) l && reaches l key) (links pruned.pruned m) ≡ false) n u.no_more)
 
 tile_dead : IsUnneeded pruned.pruned (w.table_key kinds.TableData 0)
-unfolding index_of entry_of segment_text sheet_text cells_text segment_of sheet_spelled sheet_at rows_at count_at stamps_at stamp_at columns_at series_at head_at type_at length_at name_at text_at cells_at is_utf8 chars encode signed_text key_at key_text
+unfolding object_of index_of entry_of segment_text sheet_text cells_text segment_of sheet_spelled sheet_at rows_at count_at stamps_at stamp_at columns_at series_at head_at type_at length_at name_at text_at cells_at is_utf8 chars encode signed_text key_at key_text
 tile_dead = record { once = refl; no_more = refl }
 
 index_dead : IsUnneeded pruned.pruned (w.table_key kinds.TableIndex 1)
-unfolding index_of entry_of segment_text sheet_text cells_text segment_of sheet_spelled sheet_at rows_at count_at stamps_at stamp_at columns_at series_at head_at type_at length_at name_at text_at cells_at is_utf8 chars encode signed_text key_at key_text
+unfolding object_of index_of entry_of segment_text sheet_text cells_text segment_of sheet_spelled sheet_at rows_at count_at stamps_at stamp_at columns_at series_at head_at type_at length_at name_at text_at cells_at is_utf8 chars encode signed_text key_at key_text
 index_dead = record { once = refl; no_more = refl }
 
 index_drops : IsDeadIndex pruned.pruned S (w.table_key kinds.TableIndex 1)
@@ -195,5 +196,5 @@ pruned_reclaim_is_legal = record {
 
 -- it frees what is dead where its window begins
 pub pruned_reclaim_counts_the_dead : reclaim_outcome (history_at pruned.dropped 8) S ≡ outcomes.Freed 1 1 0
-unfolding index_of entry_of segment_text sheet_text cells_text segment_of sheet_spelled sheet_at rows_at count_at stamps_at stamp_at columns_at series_at head_at type_at length_at name_at text_at cells_at is_utf8 chars encode signed_text key_at key_text
+unfolding object_of index_of entry_of segment_text sheet_text cells_text segment_of sheet_spelled sheet_at rows_at count_at stamps_at stamp_at columns_at series_at head_at type_at length_at name_at text_at cells_at is_utf8 chars encode signed_text key_at key_text
 pruned_reclaim_counts_the_dead = refl

@@ -31,6 +31,7 @@ use Rattle.store_model.specs.Links.{Linked, links, reaches, is_needed, IsUnneede
 use Rattle.store_model.proofs.SmallFrames.{S, k}
 use Rattle.store_model.proofs.Witness as w
 use Rattle.store_model.proofs.WitnessKept as kept
+use Rattle.index_tree.specs.PageText.{object_of}
 use Rattle.expr_clause.specs.declared.command.AsOf.TheVariants as moments
 use Rattle.reply_model.specs.declared.outcome.HeldAt.{HeldAt}
 use Rattle.expr_clause.specs.declared.command.Command.TheVariants as commands
@@ -162,14 +163,14 @@ delete_is_legal = record {
 -- ---- the reclaim that finds nothing dead
 
 abbrev link : Linked
-link = record { row = w.row; index = w.index; tiles = (w.part, w.table) ∷ [] }
+link = record { row = w.row; pages = []; index = w.index; tiles = (w.part, w.table) ∷ [] }
 
 links_deleted : links kept.deleted S ≡ link ∷ []
-unfolding index_of entry_of segment_text sheet_text cells_text segment_of sheet_spelled sheet_at rows_at count_at stamps_at stamp_at columns_at series_at head_at type_at length_at name_at text_at cells_at is_utf8 chars encode signed_text key_at key_text
+unfolding object_of index_of entry_of segment_text sheet_text cells_text segment_of sheet_spelled sheet_at rows_at count_at stamps_at stamp_at columns_at series_at head_at type_at length_at name_at text_at cells_at is_utf8 chars encode signed_text key_at key_text
 links_deleted = refl
 
 links_released : links kept.released S ≡ link ∷ []
-unfolding index_of entry_of segment_text sheet_text cells_text segment_of sheet_spelled sheet_at rows_at count_at stamps_at stamp_at columns_at series_at head_at type_at length_at name_at text_at cells_at is_utf8 chars encode signed_text key_at key_text
+unfolding object_of index_of entry_of segment_text sheet_text cells_text segment_of sheet_spelled sheet_at rows_at count_at stamps_at stamp_at columns_at series_at head_at type_at length_at name_at text_at cells_at is_utf8 chars encode signed_text key_at key_text
 links_released = refl
 
 -- a held version's keys are not dead
@@ -280,11 +281,11 @@ delete_snapshot_is_legal = record {
 -- ---- the reclaim that drops
 
 tile_dead : IsUnneeded kept.released (w.table_key kinds.TableData 0)
-unfolding index_of entry_of segment_text sheet_text cells_text segment_of sheet_spelled sheet_at rows_at count_at stamps_at stamp_at columns_at series_at head_at type_at length_at name_at text_at cells_at is_utf8 chars encode signed_text key_at key_text
+unfolding object_of index_of entry_of segment_text sheet_text cells_text segment_of sheet_spelled sheet_at rows_at count_at stamps_at stamp_at columns_at series_at head_at type_at length_at name_at text_at cells_at is_utf8 chars encode signed_text key_at key_text
 tile_dead = record { once = refl; no_more = refl }
 
 index_dead : IsUnneeded kept.released (w.table_key kinds.TableIndex 1)
-unfolding index_of entry_of segment_text sheet_text cells_text segment_of sheet_spelled sheet_at rows_at count_at stamps_at stamp_at columns_at series_at head_at type_at length_at name_at text_at cells_at is_utf8 chars encode signed_text key_at key_text
+unfolding object_of index_of entry_of segment_text sheet_text cells_text segment_of sheet_spelled sheet_at rows_at count_at stamps_at stamp_at columns_at series_at head_at type_at length_at name_at text_at cells_at is_utf8 chars encode signed_text key_at key_text
 index_dead = record { once = refl; no_more = refl }
 
 pub index_drops : IsDeadIndex kept.released S (w.table_key kinds.TableIndex 1)

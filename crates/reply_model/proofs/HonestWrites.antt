@@ -26,6 +26,7 @@ use Rattle.store_model.specs.ChainText.{entry_of, entry_text}
 use Rattle.store_model.proofs.SmallFrames.{S}
 use Rattle.store_model.proofs.Witness as w
 use Rattle.store_model.proofs.WitnessShared as shared
+use Rattle.index_tree.specs.PageText.{object_of}
 use Rattle.expr_clause.specs.declared.command.AsOf.TheVariants as moments
 use Rattle.expr_clause.specs.declared.command.Command.{Command}
 use Rattle.expr_clause.specs.declared.command.Command.TheVariants as commands
@@ -66,7 +67,7 @@ abbrev pub puts : List (Key × Bytes)
 puts = (w.table_key kinds.TableData 0, segment_text w.table) ∷ (w.table_key kinds.TableIndex 1, index_text w.index) ∷ (w.key kinds.Version 2, entry_text w.first_entry) ∷ []
 
 pub is_try : IsTry S true puts (w.key kinds.Version 2)
-unfolding index_of entry_of head_at type_at length_at name_at text_at is_utf8 chars encode key_at key_text signed_text
+unfolding object_of index_of entry_of head_at type_at length_at name_at text_at is_utf8 chars encode key_at key_text signed_text
 is_try = record {
   first = (w.table_key kinds.TableData 0, segment_text w.table) ∷ (w.table_key kinds.TableIndex 1, index_text w.index) ∷ [];
   body = entry_text w.first_entry;
@@ -177,7 +178,7 @@ abbrev append_puts : ℕ → List (Key × Bytes)
 append_puts c = (shared.tile_key c 0, segment_text shared.added) ∷ (shared.index_key c 1, index_text (shared.index c 0)) ∷ (shared.element_key c 2, entry_text (shared.entry c 1)) ∷ []
 
 is_append_2 : IsTry S true (append_puts 2) (shared.element_key 2 2)
-unfolding index_of entry_of head_at type_at length_at name_at text_at is_utf8 chars encode key_at key_text signed_text
+unfolding object_of index_of entry_of head_at type_at length_at name_at text_at is_utf8 chars encode key_at key_text signed_text
 is_append_2 = record {
   first = (shared.tile_key 2 0, segment_text shared.added) ∷ (shared.index_key 2 1, index_text (shared.index 2 0)) ∷ [];
   body = entry_text (shared.entry 2 1);
@@ -190,7 +191,7 @@ is_append_2 = record {
 }
 
 is_append_3 : IsTry S true (append_puts 3) (shared.element_key 3 2)
-unfolding index_of entry_of head_at type_at length_at name_at text_at is_utf8 chars encode key_at key_text signed_text
+unfolding object_of index_of entry_of head_at type_at length_at name_at text_at is_utf8 chars encode key_at key_text signed_text
 is_append_3 = record {
   first = (shared.tile_key 3 0, segment_text shared.added) ∷ (shared.index_key 3 1, index_text (shared.index 3 0)) ∷ [];
   body = entry_text (shared.entry 3 1);
@@ -280,7 +281,7 @@ abbrev last_puts : List (Key × Bytes)
 last_puts = (last_key, segment_text shared.added) ∷ (last_index_key, index_text last_index) ∷ (shared.element_key 3 5, entry_text last_entry) ∷ []
 
 is_last_append : IsTry S true last_puts (shared.element_key 3 5)
-unfolding index_of entry_of head_at type_at length_at name_at text_at is_utf8 chars encode key_at key_text signed_text
+unfolding object_of index_of entry_of head_at type_at length_at name_at text_at is_utf8 chars encode key_at key_text signed_text
 is_last_append = record {
   first = (last_key, segment_text shared.added) ∷ (last_index_key, index_text last_index) ∷ [];
   body = entry_text last_entry;

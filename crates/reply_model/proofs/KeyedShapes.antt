@@ -19,6 +19,7 @@ use Rattle.store_model.proofs.Lists.{contains_first, contains_later, contains_ca
 use Rattle.store_model.proofs.Histories.{stands_from}
 use Rattle.store_model.proofs.Dropping.{reaches_it}
 use Rattle.store_model.proofs.OwnPuts.{unput_is_unreached}
+use Rattle.store_model.proofs.PlainLinks.{index_in_reach, slot_in_reach, plain_reach}
 use Rattle.reply_model.specs.Tries.{IsKeyOf}
 use Rattle.reply_model.specs.Blocks.{Block, Shape, no_shape, same_block}
 use Rattle.reply_model.specs.Keyed.{with_key, begins_block, block_keys, has_index, standing_blocks, keys_named, HasNames, NamesTable, HasKeys}
@@ -150,10 +151,10 @@ pub link_at : (P : Linked → Type 0) (ls : List Linked) (l : Linked) → AllByR
 link_at P [] l all c = absurd (contains_none l c)
 link_at P (k ∷ ls) l all c = elim (contains_cases l k ls c) [ inl same ↦ subst P same all.0 | inr later ↦ link_at P ls l all.1 later ]
 
--- a key that a link reaches is its index's or a slot's
-pub reached_cases : (symbol : Name) (l : Linked) (key : Key) → NamesTable symbol l → Contains (reached l) key
+-- a key that a link without pages reaches is its index's or a slot's
+pub reached_cases : (symbol : Name) (l : Linked) (key : Key) → NamesTable symbol l → l.pages ≡ [] → Contains (reached l) key
     → (key ≡ l.row.index) ⊎ ((is_among (map (λ (s : Slot). s.key) l.index.slots) key ≡ true) × IsKeyOf kinds.TableData symbol key)
-reached_cases symbol l key table c = elim (contains_cases key l.row.index (map (λ (s : Slot). s.key) l.index.slots) c) [
+reached_cases symbol l key table none c = elim (contains_cases key l.row.index (map (λ (s : Slot). s.key) l.index.slots) (subst (λ ks. Contains ks key) (plain_reach l none) c)) [
   | inl same ↦ inl (sym same)
   | inr later ↦ inr (slot l.index.slots table.1 later)
 ]
@@ -171,7 +172,7 @@ reached_cases symbol l key table c = elim (contains_cases key l.row.index (map (
 
 -- a slot's key is reached
 pub slot_reached : (l : Linked) (key : Key) → is_among (map (λ (s : Slot). s.key) l.index.slots) key ≡ true → Contains (reached l) key
-slot_reached l key e = contains_later key l.row.index (map (λ (s : Slot). s.key) l.index.slots) (among_contains (map (λ (s : Slot). s.key) l.index.slots) key e)
+slot_reached l key e = slot_in_reach l key (among_contains (map (λ (s : Slot). s.key) l.index.slots) key e)
 
 -- no two links have one index
 pub one_index : (ls : List Linked) (a b : Linked) → IsDistinct same_key (map (λ (l : Linked). l.row.index) ls) → Contains ls a → Contains ls b → a.row.index ≡ b.row.index → a ≡ b
@@ -241,7 +242,7 @@ pub keys_stay : (h new : History) (symbol : Name) (s : Shape) → IsLawful h →
     → ((key : Key) → key.name ≡ symbol → is_some (body_put h key) ≡ true → is_some (stored new key) ≡ is_some (stored h key)) → HasKeys new symbol s
 keys_stay h new symbol s lawful keys same stays =
     let each : (l : Linked) → Contains (links h symbol) l → has_index new l ≡ has_index h l =
-    λ l c. let table = link_at (NamesTable symbol) (links h symbol) l keys.tables c in stays l.row.index table.0.1 (reached_was_put h symbol l l.row.index lawful c (contains_first l.row.index (map (λ (x : Slot). x.key) l.index.slots)) table.0.1) in
+    λ l c. let table = link_at (NamesTable symbol) (links h symbol) l keys.tables c in stays l.row.index table.0.1 (reached_was_put h symbol l l.row.index lawful c (index_in_reach l) table.0.1) in
     let has = has_same h new (links h symbol) s.versions each in
     record {
       names = keys.names;

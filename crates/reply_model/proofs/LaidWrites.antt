@@ -24,6 +24,8 @@ use Rattle.store_model.specs.Law.{IsLawful}
 use Rattle.store_model.specs.Links.{Linked, links, links_of, links_in, links_at, linked, index_put}
 use Rattle.store_model.specs.Commits.{FitsLink, is_version, marks_of}
 use Rattle.store_model.proofs.Linking.{refer_makes}
+use Rattle.store_model.proofs.Plainly.{is_commit}
+use Rattle.store_model.proofs.PlainLinks.{flat as flat_index}
 use Rattle.expr_clause.specs.declared.command.Command.{Command}
 use Rattle.expr_clause.specs.declared.command.Command.TheVariants as commands
 use Rattle.reply_model.specs.declared.outcome.Outcome.{Outcome}
@@ -68,13 +70,14 @@ version_links h client symbol row first rest version fits none = by first versio
     by (changes.Held holder version) v f e = true≢false (sym v)
     by (changes.Released holder) v f e = true≢false (sym v)
     by (changes.Discarded pieces) v f e = true≢false (sym v)
+    by changes.Restated v f e = true≢false (sym v)
 
 -- the newest link of a lawful history whose last event refers to a new version
 pub newest_link : (client : ℕ) (symbol : Name) (was : Option Key) (entry : Key) (first : Change) (rest : List Change) (before : History) (lawful : IsLawful (events.Refer client symbol was entry (first ∷ rest) ∷ before))
-    → is_version first ≡ true → (index : Index) → index_put before lawful.0.1.row.index ≡ Some index
+    → is_version first ≡ true → (index : Index) → index_put before (is_commit before client symbol was entry (first ∷ rest) lawful.0.1).row.index ≡ Some (flat_index index)
     → (link : Linked) × (first_of (links (events.Refer client symbol was entry (first ∷ rest) ∷ before) symbol) ≡ Some link) × (link.index ≡ index)
 newest_link client symbol was entry first rest before lawful version index put =
-    let may = lawful.0.1 in
+    let may = is_commit before client symbol was entry (first ∷ rest) lawful.0.1 in
     let here : links (events.Refer client symbol was entry (first ∷ rest) ∷ before) symbol ≡ links_at before entry ++ links before symbol =
     ap (λ b. cond b (links_at before entry ++ links before symbol) (links before symbol)) (same_name_self symbol) in
     elim (refer_makes before client symbol may.row (first ∷ rest) may.form may.fits) [

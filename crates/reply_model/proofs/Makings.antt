@@ -25,6 +25,7 @@ number_kept st (changes.Removed versions) = omega arith
 number_kept st (changes.Held holder version) = omega arith
 number_kept st (changes.Released holder) = omega arith
 number_kept st (changes.Discarded pieces) = omega arith
+number_kept st changes.Restated = omega arith
 
 pub numbers_kept : (st : State) (list : List Change) → next_number st ≤ next_number (fold after_change st list)
 numbers_kept st [] = omega arith

@@ -7,7 +7,6 @@ use Rattle.std.proofs.lemmas.Bool.{true≢false, or_left, and_from, eq-eqb, eqb-
 use Rattle.std.proofs.lemmas.List.{length-map}
 use Rattle.byte_fields.specs.Reading.{read_of}
 use Rattle.index_tree.specs.declared.index.Slot.{Slot}
-use Rattle.index_tree.specs.IndexText.{index_of}
 use Rattle.key_kind.specs.Names.{Name}
 use Rattle.key_kind.specs.declared.key.Key.{Key}
 use Rattle.key_kind.specs.declared.key.KeyKind.TheVariants as kinds
@@ -24,11 +23,13 @@ use Rattle.store_model.specs.ChainText.{entry_of}
 use Rattle.store_model.specs.Library.{State, Version, state_of, base_of, first_of, next_number, is_kept, is_live, is_buried, is_linked}
 use Rattle.store_model.specs.Law.{IsLawful}
 use Rattle.store_model.specs.Links.{Linked, links, reached, element, index_put}
-use Rattle.store_model.specs.Commits.{FitsLink, MayRefer, MayNameKey, is_version, marks_of}
+use Rattle.store_model.specs.Commits.{FitsLink, MayChange, MayNameKey, is_version, marks_of}
 use Rattle.store_model.proofs.Lists.{contains_first, contains_later, contains_cases, contains_none, contains_right, filter_in, passes}
 use Rattle.store_model.proofs.Histories.{stands_from}
 use Rattle.store_model.proofs.Lawful.{lawful_is_intact, beginning_lawful}
 use Rattle.store_model.proofs.Referring.{linked_row}
+use Rattle.store_model.proofs.Plainly.{is_commit, lawful_links}
+use Rattle.store_model.proofs.PlainLinks.{flat as flat_index, flat_is_put, index_in_reach}
 use Rattle.reply_model.specs.Tries.{put_of, keys_of_puts, IsKeyOf, index_linked}
 use Rattle.reply_model.specs.Blocks.{Cutting, Block, Part, shared, fresh, Shape, base_blocks, blocks_from, made_for}
 use Rattle.reply_model.specs.Keyed.{block_keys, has_index, standing_blocks, keys_named, HasNames, NamesTable, HasKeys, IsKeyedPart}
@@ -120,6 +121,7 @@ row_linked row (changes.Removed versions) rest e = absurd (true≢false (sym e))
 row_linked row (changes.Held holder version) rest e = absurd (true≢false (sym e))
 row_linked row (changes.Released holder) rest e = absurd (true≢false (sym e))
 row_linked row (changes.Discarded pieces) rest e = absurd (true≢false (sym e))
+row_linked row changes.Restated rest e = absurd (true≢false (sym e))
 
 same_entry : (a b : Entry) → Some a ≡ Some b → a ≡ b
 same_entry a b e = cc
@@ -130,7 +132,7 @@ same_some_key a b e = cc
 module _ (c : Cutting) (client other : ℕ) (symbol : Name) (old behind : History) (was : Option Key) (entry : Key) (first : Change) (rest : List Change) (s : Shape) (shape : HasShape old symbol s) (tiles : ℕ) (ps : List (Key × Bytes))
     (behind_is : behind ≡ reverse (map (put_of other) ps)) (table : PutsVersion entry tiles ps) (lawful : IsLawful (events.Refer client symbol was entry (first ∷ rest) ∷ (behind ++ old)))
     (made : MakesVersion c (state_of old symbol) s (links old symbol) (first_of (links (events.Refer client symbol was entry (first ∷ rest) ∷ (behind ++ old)) symbol)) tiles first rest)
-    (v : Version) (fits : FitsLink (behind ++ old) client symbol lawful.0.1.row v) (link_is : fits.link ≡ made.link) (links_before : links (behind ++ old) symbol ≡ links old symbol)
+    (v : Version) (fits : FitsLink (behind ++ old) client symbol (is_commit (behind ++ old) client symbol was entry (first ∷ rest) lawful.0.1).row v) (link_is : fits.link ≡ made.link) (links_before : links (behind ++ old) symbol ≡ links old symbol)
     (links_are : links (events.Refer client symbol was entry (first ∷ rest) ∷ (behind ++ old)) symbol ≡ made.link ∷ links old symbol) (number : made.link.row.version ≡ next_number (state_of old symbol)) where
   abbrev before : History
   before = behind ++ old
@@ -190,8 +192,8 @@ module _ (c : Cutting) (client other : ℕ) (symbol : Name) (old behind : Histor
       (contains_left (table.tile_puts ++ (table.key, table.body) ∷ []) ((entry, table.element_body) ∷ []) (table.key, table.body)
       (contains_right table.tile_puts ((table.key, table.body) ∷ []) (table.key, table.body) (contains_first (table.key, table.body) []))))
 
-  abbrev may : MayRefer before client symbol was entry (first ∷ rest)
-  may = lawful.0.1
+  abbrev may : MayChange before client symbol was entry (first ∷ rest)
+  may = is_commit before client symbol was entry (first ∷ rest) lawful.0.1
 
   key_is : table.key ≡ may.row.index
   key_is =
@@ -203,7 +205,7 @@ module _ (c : Cutting) (client other : ℕ) (symbol : Name) (old behind : Histor
   index_same =
       ap (λ (l : Linked). l.index) (sym link_is)
       ∙ index_is before may.row fits.link table.index fits.link_is
-      (subst (λ k. index_put before k ≡ Some table.index) key_is (ap (λ o. option_and_then (λ body. read_of (index_of body)) o) index_found ∙ ap (λ r. read_of r) table.spelled))
+      (subst (λ k. index_put before k ≡ Some (flat_index table.index)) key_is (flat_is_put before table.key table.body table.index index_found table.spelled))
 
   row_same : made.link.row ≡ may.row
   row_same = ap (λ (l : Linked). l.row) (sym link_is) ∙ linked_row before may.row fits.link fits.link_is
@@ -226,7 +228,7 @@ module _ (c : Cutting) (client other : ℕ) (symbol : Name) (old behind : Histor
       let slot = subst (λ ks. is_among ks key ≡ true) (sym r.2.keys) (named_among keys.names r.1.1 a.0 key a.1 (subst (λ ks. is_among ks key ≡ true) (same_keys keys.names b a.0 a.2) named)) in
       let reach = slot_reached r.0 key slot in
       let names_table = link_at (NamesTable symbol) (links old symbol) r.0 keys.tables r.2.there in
-      reached_was_put old symbol r.0 key lawful_old r.2.there reach (name_of r.0 names_table (reached_cases symbol r.0 key names_table reach))
+      reached_was_put old symbol r.0 key lawful_old r.2.there reach (name_of r.0 names_table (reached_cases symbol r.0 key names_table (lawful_links old lawful_old symbol r.0 r.2.there) reach))
     where
       name_of : (l : Linked) → NamesTable symbol l → (key ≡ l.row.index) ⊎ ((is_among (map (λ (x : Slot). x.key) l.index.slots) key ≡ true) × IsKeyOf kinds.TableData symbol key) → key.name ≡ symbol
       name_of l t (inl same) = ap (λ (k : Key). k.name) same ∙ t.0.1
@@ -374,26 +376,26 @@ module _ (c : Cutting) (client other : ℕ) (symbol : Name) (old behind : Histor
   index_apart (l ∷ ls) inside = (
     not_passing (same_key made.link.row.index l.row.index) (λ e.
         let same : l.row.index ≡ may.row.index = sym (same_key_is made.link.row.index l.row.index e) ∙ ap (λ (r : LinkRow). r.index) row_same in
-        true≢false (sym (reaching before symbol may.row.index fits.index_name l (subst (λ xs. Contains xs l) (sym links_before) (inside l (contains_first l ls)))
-        (subst (λ k. Contains (reached l) k) same (contains_first l.row.index (map (λ (x : Slot). x.key) l.index.slots)))) ∙ fits.index_fresh.unreached)),
+        true≢false (sym (reaching before symbol may.row.index fits.new_index.name l (subst (λ xs. Contains xs l) (sym links_before) (inside l (contains_first l ls)))
+        (subst (λ k. Contains (reached l) k) same (index_in_reach l))) ∙ fits.new_index.fresh.unreached)),
     index_apart ls (λ k d. inside k (contains_later k l ls d)),
   )
 
   index_stands : has_index new made.link ≡ true
   index_stands =
       ap (λ (r : LinkRow). is_some (stored new r.index)) row_same
-      ∙ (ap (λ b. is_some (cond b (Some (key_text entry)) (stored before may.row.index))) (put_is_no_reference symbol may.row.index (ap is_put fits.index_kind)) ∙ fits.index_stands)
+      ∙ (ap (λ b. is_some (cond b (Some (key_text entry)) (stored before may.row.index))) (put_is_no_reference symbol may.row.index (ap is_put fits.new_index.kind)) ∙ fits.new_index.stands)
 
   old_indexes : (l : Linked) → Contains (links old symbol) l → has_index new l ≡ has_index old l
   old_indexes l there =
       let names_table = link_at (NamesTable symbol) (links old symbol) l keys.tables there in
-      stands l.row.index (reached_was_put old symbol l l.row.index lawful_old there (contains_first l.row.index (map (λ (x : Slot). x.key) l.index.slots)) names_table.0.1)
+      stands l.row.index (reached_was_put old symbol l l.row.index lawful_old there (index_in_reach l) names_table.0.1)
 
   -- the blocks of the base are stored
   base_stored : (b : Block) → has_block (base_blocks s (base_of st)) b ≡ true → has_block s.blocks b ≡ true
   base_stored b there =
       let r = base_pair keys.names old st (links old symbol) s b shape.versions keys.named there in
-      keys.blocks b ∙ r.2.standing (needed_stands old symbol r.0 r.0.row.index lawful_old r.2.there (ap (is_kept st) r.2.number ∙ r.3) (contains_first r.0.row.index (map (λ (x : Slot). x.key) r.0.index.slots))) b r.4
+      keys.blocks b ∙ r.2.standing (needed_stands old symbol r.0 r.0.row.index lawful_old r.2.there (ap (is_kept st) r.2.number ∙ r.3) (index_in_reach r.0)) b r.4
 
   blocks_behind : (b : Block) → has_block (made_blocks ++ s.blocks) b ≡ has_block (made.blocks ++ standing_blocks new (links old symbol) s.versions) b
   blocks_behind b =
@@ -419,7 +421,7 @@ module _ (c : Cutting) (client other : ℕ) (symbol : Name) (old behind : Histor
       older_links (links old symbol) s.versions shape.made keys.named,
     );
     tables = subst (λ ls. AllByRecursion (NamesTable symbol) ls) (sym links_are) (
-      (subst (λ (r : LinkRow). IsKeyOf kinds.TableIndex symbol r.index) (sym row_same) (fits.index_kind, fits.index_name), slot_kinds slots table_slots),
+      (subst (λ (r : LinkRow). IsKeyOf kinds.TableIndex symbol r.index) (sym row_same) (fits.new_index.kind, fits.new_index.name), slot_kinds slots table_slots),
       keys.tables,
     );
     apart = subst (λ ls. IsDistinct same_key (map (λ (l : Linked). l.row.index) ls)) (sym links_are) (distinct_more made.link.row.index (map (λ (l : Linked). l.row.index) (links old symbol)) (index_apart (links old symbol) (λ l d. d)) keys.apart);

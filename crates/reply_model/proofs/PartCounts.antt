@@ -86,6 +86,7 @@ bare_parts c base blocks (changes.Removed versions) = refl
 bare_parts c base blocks (changes.Held holder version) = refl
 bare_parts c base blocks (changes.Released holder) = refl
 bare_parts c base blocks (changes.Discarded pieces) = refl
+bare_parts c base blocks changes.Restated = refl
 
 pub fresh_bare : (ps : List Part) → fresh_in (map bare_part ps) ≡ fresh_in ps
 fresh_bare [] = refl
@@ -153,6 +154,7 @@ shared_parts n c base blocks (changes.Removed versions) made = tt
 shared_parts n c base blocks (changes.Held holder version) made = tt
 shared_parts n c base blocks (changes.Released holder) made = tt
 shared_parts n c base blocks (changes.Discarded pieces) made = tt
+shared_parts n c base blocks changes.Restated made = tt
 
 -- the new blocks have so many tiles
 pub parts_counted : (version tiles k : ℕ) (ps : List Part) → AreShared version ps → tiles_in (made_for version (blocks_from version tiles k ps)) ≡ fresh_in ps * tiles
@@ -281,3 +283,4 @@ module _ (n : ℕ) (blocks : List Block) (made : AreMade n blocks) where
   parts_share c base (changes.Held holder version) = tt
   parts_share c base (changes.Released holder) = tt
   parts_share c base (changes.Discarded pieces) = tt
+  parts_share c base changes.Restated = tt

@@ -92,6 +92,7 @@ parts_within c base rows (changes.Removed versions) some all = tt
 parts_within c base rows (changes.Held holder version) some all = tt
 parts_within c base rows (changes.Released holder) some all = tt
 parts_within c base rows (changes.Discarded pieces) some all = tt
+parts_within c base rows changes.Restated some all = tt
 
 rows_within : (most : ℕ) (ps : List Part) → PartsWithin most ps → AreWithin most (map part_rows ps)
 rows_within most [] a = tt

@@ -16,6 +16,8 @@ use Rattle.store_model.specs.Library.{State, state_of, is_kept, is_consumed}
 use Rattle.store_model.specs.Law.{IsLawful}
 use Rattle.store_model.specs.Links.{Linked, links, reached, IsUnneeded}
 use Rattle.store_model.proofs.Lists.{contains_first, contains_later, contains_cases, contains_none, filter_in, in_filter}
+use Rattle.store_model.proofs.Plainly.{lawful_links}
+use Rattle.store_model.proofs.PlainLinks.{index_in_reach}
 use Rattle.reply_model.specs.Tries.{IsKeyOf}
 use Rattle.reply_model.specs.Drops.{KeysRise, IsDeadIndex, IsDeadTile, IsDeadPiece}
 use Rattle.reply_model.specs.Blocks.{Block, Shape, is_unneeded, dead_blocks, dead_indexes, tiles_in, swept}
@@ -88,8 +90,11 @@ module _ (client : ℕ) (symbol : Name) (old : History) (s : Shape) (tiles index
   table_at : (l : Linked) → Contains (links old symbol) l → NamesTable symbol l
   table_at l there = link_at (NamesTable symbol) (links old symbol) l keys.tables there
 
+  no_pages : (l : Linked) → Contains (links old symbol) l → l.pages ≡ []
+  no_pages l there = lawful_links old lawful_old symbol l there
+
   index_reached : (l : Linked) → Contains (reached l) l.row.index
-  index_reached l = contains_first l.row.index (map (λ (x : Slot). x.key) l.index.slots)
+  index_reached l = index_in_reach l
 
   -- the stored index of a version that is neither live nor held is dead
   dead_index : (l : Linked) → Contains (links old symbol) l → has_index old l ≡ true → is_kept st l.row.version ≡ false → IsDeadIndex old symbol l.row.index
@@ -98,7 +103,7 @@ module _ (client : ℕ) (symbol : Name) (old : History) (s : Shape) (tiles index
         table.0,
         record {
           once = reaching old symbol l.row.index table.0.1 l there (index_reached l);
-          no_more = not_needed old symbol l.row.index table.0.1 (λ k there' kept reach. elim (reached_cases symbol k l.row.index (table_at k there') reach) [
+          no_more = not_needed old symbol l.row.index table.0.1 (λ k there' kept reach. elim (reached_cases symbol k l.row.index (table_at k there') (no_pages k there') reach) [
             | inl same ↦ true≢false (sym kept ∙ (ap (λ (x : Linked). is_kept st x.row.version) (sym (one_index (links old symbol) l k keys.apart there there' same)) ∙ unkept))
             | inr slot ↦ data_is_no_index l.row.index slot.1.0 table.0.0
           ]);
@@ -132,7 +137,7 @@ module _ (client : ℕ) (symbol : Name) (old : History) (s : Shape) (tiles index
   index_dropped key there =
       let dead = all_at (IsDeadIndex old symbol) indexes key frees.dead_indexes there in
       let by = reached_by old symbol key dead.0.1 dead.1.once in
-      elim (reached_cases symbol by.0 key (table_at by.0 by.1) by.2) [
+      elim (reached_cases symbol by.0 key (table_at by.0 by.1) (no_pages by.0 by.1) by.2) [
         | inl same ↦
             let unkept : is_kept st by.0.row.version ≡ false = not_passing (is_kept st by.0.row.version) (λ kept. no_needed old symbol key dead.0.1 dead.1.no_more by.0 by.1 kept by.2) in
             contains_among (map (λ (l : Linked). l.row.index) dead_links) key (subst (λ k. Contains (map (λ (l : Linked). l.row.index) dead_links) k) (sym same) (contains_mapped dead_links by.0
@@ -204,7 +209,7 @@ module _ (client : ℕ) (symbol : Name) (old : History) (s : Shape) (tiles index
       let dead = all_at (IsDeadTile old symbol) tiles key frees.dead_tiles there in
       let l : Linked = dead.2.0 in
       let v = version_of keys.names old st (links old symbol) s.versions has keys.named l dead.2.1 in
-      elim (reached_cases symbol l key (table_at l dead.2.1) dead.2.3) [
+      elim (reached_cases symbol l key (table_at l dead.2.1) (no_pages l dead.2.1) dead.2.3) [
         | inl same ↦ absurd (data_is_no_index key dead.0.0 (ap (λ (k : Key). k.kind) same ∙ (table_at l dead.2.1).0.0))
         | inr slot ↦
             let b = block_of_slot l v.0 key v.1 slot.0 in
@@ -216,7 +221,7 @@ module _ (client : ℕ) (symbol : Name) (old : History) (s : Shape) (tiles index
   -- a key of a stored block that is not needed is reached by no live or held link
   key_unneeded : (b : Block) (key : Key) → Contains s.blocks b → is_unneeded st s b ≡ true → IsKeyOf kinds.TableData symbol key → is_among (keys.names b.version b.number) key ≡ true
       → (k : Linked) → Contains (links old symbol) k → is_kept st k.row.version ≡ true → Contains (reached k) key → ⊥
-  key_unneeded b key there unneeded table named k link kept reach = elim (reached_cases symbol k key (table_at k link) reach) [
+  key_unneeded b key there unneeded table named k link kept reach = elim (reached_cases symbol k key (table_at k link) (no_pages k link) reach) [
     | inl same ↦ data_is_no_index key table.0 (ap (λ (z : Key). z.kind) same ∙ (table_at k link).0.0)
     | inr slot ↦
         let v = version_of keys.names old st (links old symbol) s.versions has keys.named k link in

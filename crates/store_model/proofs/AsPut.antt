@@ -8,9 +8,12 @@ use Rattle.byte_fields.specs.Reading.{read_of}
 use Rattle.store_model.proofs.Lists.{contains_append, contains_cases, contains_none}
 use Rattle.segment_bytes.specs.Segments.{segment_of}
 use Rattle.index_tree.specs.declared.index.Slot.{Slot}
-use Rattle.index_tree.specs.declared.index.Index.{Index}
+use Rattle.index_tree.specs.declared.page.PageRow.{PageRow}
+use Rattle.index_tree.specs.declared.page.IndexObject.{IndexObject}
+use Rattle.index_tree.specs.declared.page.IndexObject.TheVariants as objects
+use Rattle.index_tree.specs.PageText.{object_of}
+use Rattle.index_tree.specs.PageRules.{Page}
 use Rattle.segment_cut.specs.Tiles.{Tile}
-use Rattle.index_tree.specs.IndexText.{index_of}
 use Rattle.key_kind.specs.declared.key.Key.{Key}
 use Rattle.key_kind.specs.Names.{Name, same_name}
 use Rattle.key_kind.proofs.KeyTests.{same_key_self}
@@ -23,11 +26,12 @@ use Rattle.store_model.specs.declared.chain.ChainMark.{ChainMark}
 use Rattle.store_model.specs.declared.chain.ChainMark.TheVariants as marks
 use Rattle.store_model.specs.declared.chain.Entry.{Entry}
 use Rattle.store_model.specs.ChainText.{entry_of}
-use Rattle.store_model.specs.Links.{Linked, linked, links, links_at, links_of, links_in, index_put, tiles_put, frame_put, with_tile, element, entries}
+use Rattle.store_model.specs.Links.{Linked, linked, links, links_at, links_of, links_in, Paged, paged_index, object_put, page_in, with_page, pages_put, whole_index, index_put, tiles_put, frame_put, with_tile, element, entries}
 use Rattle.store_model.specs.Library.{State, Piece, state_of, after_change, piece_staged, staged_key, after_changes}
 use Rattle.store_model.specs.Law.{IsLawful, MayPut, SpellsKind, HasStamps}
 use Rattle.store_model.proofs.Putting.{staged_here, piece_here, staged_key_is}
-use Rattle.store_model.proofs.Referring.{linked_row}
+use Rattle.store_model.proofs.Linking.{linked_row}
+use Rattle.store_model.proofs.Telling.{element_there}
 
 -- an option that is Some by a step is Some before it, and the step gives what it gives
 module _ {A B : Type 0} where
@@ -39,8 +43,37 @@ module _ (h later : History) (stay : PutsStay h later) where
   pub frame_stays : (key : Key) (f : Frame) → frame_put h key ≡ Some f → frame_put later key ≡ Some f
   frame_stays key f e = then_some (λ body. read_of (segment_of body)) (body_put h key) (body_put later key) f (λ b is. stay key b is) e
 
-  pub index_stays : (key : Key) (i : Index) → index_put h key ≡ Some i → index_put later key ≡ Some i
-  index_stays key i e = then_some (λ body. read_of (index_of body)) (body_put h key) (body_put later key) i (λ b is. stay key b is) e
+  pub object_stays : (key : Key) (o : IndexObject) → object_put h key ≡ Some o → object_put later key ≡ Some o
+  object_stays key o e = then_some (λ body. read_of (object_of body)) (body_put h key) (body_put later key) o (λ b is. stay key b is) e
+
+  -- both parts of a page are there
+  page_parts : (row : PageRow) (s : Option (List Slot)) (rest : Option (List Page)) (pages : List Page) → with_page row s rest ≡ Some pages
+      → (slots : List Slot) × (more : List Page) × (s ≡ Some slots) × (rest ≡ Some more)
+  page_parts row None rest pages e = absurd cc
+  page_parts row (Some slots) None pages e = absurd cc
+  page_parts row (Some slots) (Some more) pages e = (slots, more, refl, refl)
+
+  pub pages_stay : (rows : List PageRow) (pages : List Page) → pages_put h rows ≡ Some pages → pages_put later rows ≡ Some pages
+  pages_stay [] pages e = e
+  pages_stay (p ∷ rows) pages e =
+      let r = page_parts p (option_and_then page_in (object_put h p.key)) (pages_put h rows) pages e in
+      let front : option_and_then page_in (object_put later p.key) ≡ Some r.0 = then_some page_in (object_put h p.key) (object_put later p.key) r.0 (λ o is. object_stays p.key o is) r.2 in
+      let back : pages_put later rows ≡ Some r.1 = pages_stay rows r.1 r.3 in
+      let now : with_page p (option_and_then page_in (object_put later p.key)) (pages_put later rows) ≡ with_page p (option_and_then page_in (object_put h p.key)) (pages_put h rows) =
+      (λ i. with_page p ((front ∙ sym r.2) i) ((back ∙ sym r.3) i)) in
+      now ∙ e
+
+  whole_stays : (o : IndexObject) (i : Paged) → whole_index h o ≡ Some i → whole_index later o ≡ Some i
+  whole_stays (objects.Flat x) i e = e
+  whole_stays (objects.Root r) i e = then_some (paged_index r) (pages_put h r.pages) (pages_put later r.pages) i (λ pages is. pages_stay r.pages pages is) e
+  whole_stays (objects.Page slots) i e = absurd cc
+
+  pub index_stays : (key : Key) (i : Paged) → index_put h key ≡ Some i → index_put later key ≡ Some i
+  index_stays key i e = by (object_put h key) refl e
+    where
+      by : (o : Option IndexObject) → object_put h key ≡ o → option_and_then (whole_index h) o ≡ Some i → index_put later key ≡ Some i
+      by None is e = absurd cc
+      by (Some o) is e = ap (option_and_then (whole_index later)) (object_stays key o is) ∙ whole_stays o i e
 
   pub element_stays : (key : Key) (x : Entry) → element h key ≡ Some x → element later key ≡ Some x
   element_stays key x e = then_some (λ body. read_of (entry_of body)) (body_put h key) (body_put later key) x (λ b is. stay key b is) e
@@ -65,14 +98,14 @@ module _ (h later : History) (stay : PutsStay h later) where
   pub linked_stays : (row : LinkRow) (l : Linked) → linked h row ≡ Some l → linked later row ≡ Some l
   linked_stays row l e = by (index_put h row.index) refl e
     where
-      of : (i : Index) (tiles : Option (List Tile)) → tiles_put h i.slots ≡ tiles → option_map (λ t. record { row = row; index = i; tiles = t }) tiles ≡ Some l
-          → option_map (λ t. record { row = row; index = i; tiles = t }) (tiles_put later i.slots) ≡ Some l
+      of : (i : Paged) (tiles : Option (List Tile)) → tiles_put h i.index.slots ≡ tiles → option_map (λ t. record { row = row; pages = i.pages; index = i.index; tiles = t }) tiles ≡ Some l
+          → option_map (λ t. record { row = row; pages = i.pages; index = i.index; tiles = t }) (tiles_put later i.index.slots) ≡ Some l
       of i None is e = absurd cc
-      of i (Some tiles) is e = ap (option_map (λ t. record { row = row; index = i; tiles = t })) (tiles_stay i.slots tiles is) ∙ e
+      of i (Some tiles) is e = ap (option_map (λ t. record { row = row; pages = i.pages; index = i.index; tiles = t })) (tiles_stay i.index.slots tiles is) ∙ e
 
-      by : (i : Option Index) → index_put h row.index ≡ i → option_and_then (λ i. option_map (λ t. record { row = row; index = i; tiles = t }) (tiles_put h i.slots)) i ≡ Some l → linked later row ≡ Some l
+      by : (i : Option Paged) → index_put h row.index ≡ i → option_and_then (λ i. option_map (λ t. record { row = row; pages = i.pages; index = i.index; tiles = t }) (tiles_put h i.index.slots)) i ≡ Some l → linked later row ≡ Some l
       by None is e = absurd cc
-      by (Some i) is e = ap (option_and_then (λ i. option_map (λ t. record { row = row; index = i; tiles = t }) (tiles_put later i.slots))) (index_stays row.index i is) ∙ of i (tiles_put h i.slots) refl e
+      by (Some i) is e = ap (option_and_then (λ i. option_map (λ t. record { row = row; pages = i.pages; index = i.index; tiles = t }) (tiles_put later i.index.slots))) (index_stays row.index i is) ∙ of i (tiles_put h i.index.slots) refl e
 
 -- ---- links
 
@@ -91,6 +124,7 @@ links_made h (marks.Tomb version ∷ list) l c = links_made h list l c
 links_made h (marks.Hold holder version ∷ list) l c = links_made h list l c
 links_made h (marks.Release holder ∷ list) l c = links_made h list l c
 links_made h (marks.Discard pieces ∷ list) l c = links_made h list l c
+links_made h (marks.Compact told ∷ list) l c = links_made h list l c
 
 entry_links_made : (h : History) (o : Option Entry) (l : Linked) → Contains (links_of h o) l → linked h l.row ≡ Some l
 entry_links_made h None l c = absurd (contains_none l c)
@@ -114,7 +148,7 @@ links_as_put (events.Drop client key ∷ h) once symbol l c = links_as_put h onc
 
 -- ---- pieces
 
-staged_same : (st : State) (list : List Change) → (fold after_change st list).staged ≡ st.staged
+pub staged_same : (st : State) (list : List Change) → (fold after_change st list).staged ≡ st.staged
 staged_same st [] = refl
 staged_same st (c ∷ list) = staged_same (after_change st c) list
 
@@ -160,7 +194,7 @@ elements_as_put (events.Put client k body ∷ h) lawful once symbol key c =
 elements_as_put (events.Refer client s was entry list ∷ h) lawful once symbol key c =
     elim (same_name s symbol) as (λ t. Contains (cond t (entry ∷ entries h symbol) (entries h symbol)) key → is_some (element h key) ≡ true) [
       | true ↦ λ d. elim (contains_cases key entry (entries h symbol) d) [
-        | inl is ↦ subst (λ k. is_some (element h k) ≡ true) is (ap is_some lawful.0.1.spelled)
+        | inl is ↦ subst (λ k. is_some (element h k) ≡ true) is (ap is_some (element_there h client s was entry list lawful.0.1).1)
         | inr old ↦ elements_as_put h lawful.1 once symbol key old
       ]
       | false ↦ λ d. elements_as_put h lawful.1 once symbol key d

@@ -1,5 +1,5 @@
 -- Following a chain from its newest element: each element names the entry before it, and stands as it was put in every later history.
-use Rattle.std.proofs.Common.{◌≡◌, ℕ, zero, suc, true, false, List, [], ◌∷◌, ◌++◌, refl, ap, sym, ◌∙◌, subst, Some, cond}
+use Rattle.std.proofs.Common.{◌≡◌, ℕ, zero, suc, true, false, List, [], ◌∷◌, ◌++◌, refl, ap, sym, ◌∙◌, subst, inl, inr, Some, None, cond}
 use Rattle.std.specs.Prelude.{Contains, slice_get}
 use Rattle.std.specs.List.{AllZip, list_any, cons_option}
 use Rattle.std.proofs.lemmas.Bool.{or_right}
@@ -10,7 +10,10 @@ use Rattle.key_kind.proofs.KeyTests.{same_key_is, same_key_self}
 use Rattle.bucket_core.specs.declared.event.Event.TheVariants as events
 use Rattle.bucket_core.specs.History.{History, Bytes, body_put, reference, PutsStay}
 use Rattle.store_model.specs.declared.chain.Entry.{Entry}
-use Rattle.store_model.specs.Links.{entries, is_entry, element}
+use Rattle.store_model.specs.Links.{entries, is_entry, restates, left_behind, chain_entries, element}
+use Rattle.store_model.specs.declared.chain.ChainMark.TheVariants as marks
+use Rattle.store_model.specs.Commits.{marks_of}
+use Rattle.store_model.proofs.Telling.{commit_restates_none}
 use Rattle.store_model.specs.Walks.{chain, HasElements}
 use Rattle.store_model.specs.Law.{IsLawful}
 use Rattle.store_model.proofs.Lists.{contains_first, contains_later, one_passes, passes}
@@ -18,38 +21,53 @@ use Rattle.store_model.proofs.Histories.{put_stays}
 use Rattle.store_model.proofs.Lawful.{lawful_is_intact}
 use Rattle.store_model.proofs.Referring.{at_symbol}
 
--- the newest entry is the reference
-pub entries-first : (h : History) (symbol : Name) → slice_get (entries h symbol) 0 ≡ reference h symbol
+-- the newest entry of the chain is the reference
+pub entries-first : (h : History) (symbol : Name) → slice_get (chain_entries h symbol) 0 ≡ reference h symbol
 entries-first [] symbol = refl
 entries-first (events.Put c key body ∷ h) symbol = entries-first h symbol
 entries-first (events.Refer c s was entry list ∷ h) symbol =
-    elim (same_name s symbol) as (λ b. slice_get (cond b (entry ∷ entries h symbol) (entries h symbol)) 0 ≡ cond b (Some entry) (reference h symbol)) [ true ↦ refl | false ↦ entries-first h symbol ]
+    elim (same_name s symbol) as (λ b. slice_get (cond b (entry ∷ left_behind list (chain_entries h symbol)) (chain_entries h symbol)) 0 ≡ cond b (Some entry) (reference h symbol)) [ true ↦ refl | false ↦ entries-first h symbol ]
 entries-first (events.Name c snap body ∷ h) symbol = entries-first h symbol
 entries-first (events.Unname c snap ∷ h) symbol = entries-first h symbol
 entries-first (events.Drop c key ∷ h) symbol = entries-first h symbol
 
--- each element names the entry before its own
-pub chain-prev : (h : History) → IsLawful h → (symbol : Name) (i : ℕ) (e : Entry) → slice_get (chain h symbol) i ≡ Some e → e.prev ≡ slice_get (entries h symbol) (suc i)
+-- each element names the entry before its own; one that tells the whole state stands on none
+pub chain-prev : (h : History) → IsLawful h → (symbol : Name) (i : ℕ) (e : Entry) → slice_get (chain h symbol) i ≡ Some e → e.prev ≡ slice_get (chain_entries h symbol) (suc i)
 chain-prev [] lawful symbol i e is = absurd cc
 chain-prev (events.Put c key body ∷ h) lawful symbol i e is = chain-prev h lawful.1 symbol i e is
 chain-prev (events.Refer c s was entry list ∷ h) lawful symbol i e is =
-    at_symbol s symbol (λ b. slice_get (cond b (cons_option (element h entry) (chain h symbol)) (chain h symbol)) i ≡ Some e → e.prev ≡ slice_get (cond b (entry ∷ entries h symbol) (entries h symbol)) (suc i))
-    (λ same here. newest i _ (subst (λ o. slice_get (cons_option o (chain h symbol)) i ≡ Some e) lawful.0.1.spelled here) (sym lawful.0.0 ∙ ap (reference h) same) (λ k f. chain-prev h lawful.1 symbol k e f))
+    at_symbol s symbol (λ b. slice_get (cond b (cons_option (element h entry) (left_behind list (chain h symbol))) (chain h symbol)) i ≡ Some e
+    → e.prev ≡ slice_get (cond b (entry ∷ left_behind list (chain_entries h symbol)) (chain_entries h symbol)) (suc i))
+    (λ same here. elim lawful.0.1.how [
+      | inl change ↦
+          let whole : restates list ≡ false = commit_restates_none h c s change.row list change.fits in
+          subst (λ b. e.prev ≡ slice_get (entry ∷ cond b [] (chain_entries h symbol)) (suc i)) (sym whole)
+          (newest i _ (subst (λ b. slice_get (cons_option (Some (record { prev = was; changes = marks_of change.row list })) (cond b [] (chain h symbol))) i ≡ Some e) whole
+          (subst (λ o. slice_get (cons_option o (left_behind list (chain h symbol))) i ≡ Some e) change.spelled here)) (sym lawful.0.0 ∙ ap (reference h) same) (λ k f. chain-prev h lawful.1 symbol k e f))
+      | inr restate ↦
+          subst (λ l. e.prev ≡ slice_get (entry ∷ left_behind l (chain_entries h symbol)) (suc i)) (sym restate.alone)
+          (alone i _ (subst (λ l. slice_get (record { prev = None; changes = marks.Compact restate.told ∷ [] } ∷ left_behind l (chain h symbol)) i ≡ Some e) restate.alone
+          (subst (λ o. slice_get (cons_option o (left_behind list (chain h symbol))) i ≡ Some e) restate.spelled here)) refl)
+    ])
     (λ older. chain-prev h lawful.1 symbol i e older) is
   where
     some_is : (a b : Entry) → Some a ≡ Some b → a ≡ b
     some_is a b e = cc
 
-    newest : (i : ℕ) (made : Entry) → slice_get (made ∷ chain h symbol) i ≡ Some e → made.prev ≡ reference h symbol → ((k : ℕ) → slice_get (chain h symbol) k ≡ Some e → e.prev ≡ slice_get (entries h symbol) (suc k)) → e.prev ≡ slice_get (entry ∷ entries h symbol) (suc i)
+    newest : (i : ℕ) (made : Entry) → slice_get (made ∷ chain h symbol) i ≡ Some e → made.prev ≡ reference h symbol → ((k : ℕ) → slice_get (chain h symbol) k ≡ Some e → e.prev ≡ slice_get (chain_entries h symbol) (suc k)) → e.prev ≡ slice_get (entry ∷ chain_entries h symbol) (suc i)
     newest zero made here before older = ap (λ (x : Entry). x.prev) (sym (some_is made e here)) ∙ (before ∙ sym (entries-first h symbol))
     newest (suc i) made here before older = older i here
+
+    alone : (i : ℕ) (made : Entry) → slice_get (made ∷ []) i ≡ Some e → made.prev ≡ None → e.prev ≡ slice_get (entry ∷ []) (suc i)
+    alone zero made here none = ap (λ (x : Entry). x.prev) (sym (some_is made e here)) ∙ none
+    alone (suc i) made here none = absurd cc
 chain-prev (events.Name c snap body ∷ h) lawful symbol i e is = chain-prev h lawful.1 symbol i e is
 chain-prev (events.Unname c snap ∷ h) lawful symbol i e is = chain-prev h lawful.1 symbol i e is
 chain-prev (events.Drop c key ∷ h) lawful symbol i e is = chain-prev h lawful.1 symbol i e is
 
 -- the element at the place of an entry
-pub chain-at : (h : History) (symbol : Name) → HasElements h symbol → (i : ℕ) (key : Key) → slice_get (entries h symbol) i ≡ Some key → (e : Entry) × (slice_get (chain h symbol) i ≡ Some e) × (element h key ≡ Some e)
-chain-at h symbol all i key is = by (entries h symbol) (chain h symbol) i all is
+pub chain-at : (h : History) (symbol : Name) → HasElements h symbol → (i : ℕ) (key : Key) → slice_get (chain_entries h symbol) i ≡ Some key → (e : Entry) × (slice_get (chain h symbol) i ≡ Some e) × (element h key ≡ Some e)
+chain-at h symbol all i key is = by (chain_entries h symbol) (chain h symbol) i all is
   where
     by : (keys : List Key) (es : List Entry) (i : ℕ) → AllZip (λ (k : Key) (e : Entry). element h k ≡ Some e) keys es → slice_get keys i ≡ Some key → (e : Entry) × (slice_get es i ≡ Some e) × (element h key ≡ Some e)
     by [] es i z is = absurd cc

@@ -1,6 +1,6 @@
 -- Every lawful history is intact, and what follows from it.
-use Rattle.std.proofs.Common.{◌≡◌, ℕ, true, false, [], ◌∷◌, ◌++◌, refl, sym, ◌∙◌, subst, not, nat_eq, Ok, Result}
-use Rattle.std.specs.List.{list_any}
+use Rattle.std.proofs.Common.{◌≡◌, ℕ, true, false, [], ◌∷◌, ◌++◌, refl, sym, ◌∙◌, subst, inl, inr, not, nat_eq, Ok, Result}
+use Rattle.std.specs.List.{list_any, AllByRecursion}
 use Rattle.std.proofs.lemmas.Bool.{not-true, and_parts, eqb-true}
 use Rattle.store_model.proofs.Lists.{contains_none, all_weaker, one_passes, filter_in, passes}
 use Rattle.bucket_core.specs.declared.event.Event.{Event}
@@ -43,7 +43,8 @@ nothing_intact = record {
   pieces = λ s p c. absurd (contains_none p c);
   versions = λ s. tt;
   below = λ s l c. absurd (contains_none l c);
-  chain = λ s. tt;
+  chain = λ s. record { rows = refl; tombs = λ n. refl; holds = λ test. refl; pieces = λ test. refl };
+  buried = λ s n e. e;
   held = λ snap body e. absurd cc;
   one_name = λ a b x y e. absurd cc;
   unnamed = λ snap body c e. refl;
@@ -74,7 +75,7 @@ lawful_as_put h lawful =
 
 -- ---- pieces and holders once
 
-consumes_new : (h : History) (client : ℕ) (symbol : Name) (c : Change) → FitsMark h client symbol c → ConsumesNew (state_of h symbol) c
+pub consumes_new : (h : History) (client : ℕ) (symbol : Name) (c : Change) → FitsMark h client symbol c → ConsumesNew (state_of h symbol) c
 consumes_new h client symbol (changes.Discarded pieces) f =
     all_weaker (λ name. list_any (λ (p : Piece). same_piece name p.name) (open_pieces (state_of h symbol)) ≡ true)
     (λ name. (is_consumed (state_of h symbol) name ≡ false) × (list_any (λ (p : Piece). same_piece name p.name) (state_of h symbol).staged ≡ true)) one pieces f.staged
@@ -93,11 +94,15 @@ consumes_new h client symbol (changes.Updated frame range at) f = tt
 consumes_new h client symbol (changes.Removed versions) f = tt
 consumes_new h client symbol (changes.Held holder version) f = tt
 consumes_new h client symbol (changes.Released holder) f = tt
+consumes_new h client symbol changes.Restated f = tt
 
 pub pieces_once : (h : History) → IsLawful h → PiecesOnce h
 pieces_once [] lawful = tt
 pieces_once (events.Refer c symbol was entry list ∷ h) lawful = (
-  all_weaker (FitsChange h c symbol lawful.0.1.row) (ConsumesNew (state_of h symbol)) (λ x f. consumes_new h c symbol x f.1) list lawful.0.1.fits,
+  elim lawful.0.1.how [
+    | inl change ↦ all_weaker (FitsChange h c symbol change.row) (ConsumesNew (state_of h symbol)) (λ x f. consumes_new h c symbol x f.1) list change.fits
+    | inr restate ↦ subst (AllByRecursion (ConsumesNew (state_of h symbol))) (sym restate.alone) (tt, tt)
+  ],
   pieces_once h lawful.1,
 )
 pieces_once (events.Put c key body ∷ h) lawful = pieces_once h lawful.1

@@ -1,9 +1,11 @@
 pub mod Lists
+pub mod Often
 pub mod Histories
 pub mod Dropping
 pub mod Putting
 pub mod Needing
 pub mod Linking
+pub mod Telling
 pub mod Naming
 pub mod Referring
 pub mod AsPut
@@ -30,3 +32,14 @@ pub mod Untouched
 pub mod Numbering
 pub mod Writing
 pub mod Told
+pub mod Collecting
+pub mod Settling
+pub mod WitnessCollected
+pub mod Flat
+pub mod Widening
+pub mod Restating
+pub mod Plainly
+pub mod PlainWalking
+pub mod PlainFollowing
+pub mod PlainLinks
+pub mod Distinct

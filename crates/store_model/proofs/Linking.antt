@@ -1,8 +1,12 @@
 -- Which link a Refer makes: that of the version that its changes make, or none.
-use Rattle.std.proofs.Common.{◌≡◌, ℕ, true, false, List, [], ◌∷◌, ◌++◌, refl, ap, sym, ◌∙◌, inl, inr, Some}
-use Rattle.std.specs.Prelude.{◌⊎◌, IfSome, fold, map}
+use Rattle.std.proofs.Common.{◌≡◌, ℕ, true, false, List, [], ◌∷◌, ◌++◌, refl, ap, sym, ◌∙◌, inl, inr, Option, Some, None}
+use Rattle.std.specs.Prelude.{◌⊎◌, Contains, IfSome, fold, map, option_map, option_and_then}
 use Rattle.std.specs.List.{AllByRecursion, cons_option}
 use Rattle.std.proofs.lemmas.Bool.{true≢false}
+use Rattle.index_tree.specs.declared.index.Slot.{Slot}
+use Rattle.index_tree.specs.PageRules.{Page}
+use Rattle.segment_cut.specs.Tiles.{Tile}
+use Rattle.key_kind.specs.declared.key.Key.{Key}
 use Rattle.key_kind.specs.Names.{Name}
 use Rattle.bucket_core.specs.declared.event.Change.{Change}
 use Rattle.bucket_core.specs.declared.event.Change.TheVariants as changes
@@ -11,8 +15,35 @@ use Rattle.store_model.specs.declared.chain.LinkRow.{LinkRow}
 use Rattle.store_model.specs.declared.chain.ChainMark.{ChainMark}
 use Rattle.store_model.specs.declared.chain.ChainMark.TheVariants as marks
 use Rattle.store_model.specs.Library.{State, Version, state_of, next_number, new_version, after_change}
-use Rattle.store_model.specs.Links.{linked, links_in}
+use Rattle.store_model.specs.Links.{Linked, Paged, linked, reached, index_put, tiles_put, links_in}
+use Rattle.store_model.proofs.Lists.{contains_append, contains_cases}
 use Rattle.store_model.specs.Commits.{FitsChange, FitsLink, marks_of, is_version, Consumes, no_pieces, some_pieces, Buries, no_tombs, some_tombs, IsCommit, making, marking}
+
+-- ---- links
+
+-- a link has the row that it was made of
+pub linked_row : (h : History) (row : LinkRow) (l : Linked) → linked h row ≡ Some l → l.row ≡ row
+linked_row h row l e = by (index_put h row.index) e
+  where
+    of : (i : Paged) (tiles : Option (List Tile)) → option_map (λ t. record { row = row; pages = i.pages; index = i.index; tiles = t }) tiles ≡ Some l → l.row ≡ row
+    of i None e = absurd cc
+    of i (Some tiles) e = ap (λ (o : Linked). o.row) (sym (some_same e))
+      where
+        some_same : {x y : Linked} → Some x ≡ Some y → x ≡ y
+        some_same e = cc
+
+    by : (i : Option Paged) → option_and_then (λ i. option_map (λ t. record { row = row; pages = i.pages; index = i.index; tiles = t }) (tiles_put h i.index.slots)) i ≡ Some l → l.row ≡ row
+    by None e = absurd cc
+    by (Some i) e = of i (tiles_put h i.index.slots) e
+
+-- a key that a link reaches is that of its index, of a page or of a slot
+pub reached_cases : (l : Linked) (key : Key) → Contains (reached l) key → (l.row.index ≡ key) ⊎ Contains (map (λ (p : Page). p.row.key) l.pages) key ⊎ Contains (map (λ (s : Slot). s.key) l.index.slots) key
+reached_cases l key c = elim (contains_cases key l.row.index (map (λ (p : Page). p.row.key) l.pages ++ map (λ (s : Slot). s.key) l.index.slots) c) [
+  | inl e ↦ inl e
+  | inr d ↦ inr (contains_append (map (λ (p : Page). p.row.key) l.pages) (map (λ (s : Slot). s.key) l.index.slots) key d)
+]
+
+-- ---- what changes make
 
 -- the changes make no version, and no link
 pub record MakesNone (h : History) (row : LinkRow) (st : State) (list : List Change) : Type 0 where
@@ -53,6 +84,7 @@ marks_make_none h row st (changes.Removed versions) e = record { links = tombs_m
 marks_make_none h row st (changes.Held holder version) e = record { links = refl; versions = refl }
 marks_make_none h row st (changes.Released holder) e = record { links = refl; versions = refl }
 marks_make_none h row st (changes.Discarded pieces) e = record { links = refl; versions = refl }
+marks_make_none h row st changes.Restated e = record { links = refl; versions = refl }
 
 -- the version of a change, behind which no more are made
 version_makes : (h : History) (client : ℕ) (symbol : Name) (row : LinkRow) (st : State) (c : Change) (rest : List Change) (v : Version)
@@ -81,3 +113,4 @@ refer_makes h client symbol row _ (making c {rest = rest} e buries) fits = inr (
     by (changes.Held holder version) f e = absurd (true≢false (sym e))
     by (changes.Released holder) f e = absurd (true≢false (sym e))
     by (changes.Discarded pieces) f e = absurd (true≢false (sym e))
+    by changes.Restated f e = absurd (true≢false (sym e))

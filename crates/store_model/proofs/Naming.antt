@@ -19,10 +19,10 @@ use Rattle.store_model.proofs.Histories.{stands_at_name, stands_at_unname}
 use Rattle.store_model.specs.declared.chain.LinkRow.{LinkRow}
 use Rattle.store_model.specs.declared.snapshot.SnapBody.{SnapBody}
 use Rattle.store_model.specs.ChainText.{snap_of}
-use Rattle.store_model.specs.Library.{State, Hold, after_change, staged_key}
+use Rattle.store_model.specs.Library.{State, Hold, state_of, after_change, staged_key}
 use Rattle.store_model.specs.Snapshots.{snap_body}
 use Rattle.store_model.specs.Holders.{IsHeldRow, holder_is, has_name, has_unnamed, is_held_by}
-use Rattle.store_model.specs.Commits.{FitsChange, FitsMark, FitsReleased}
+use Rattle.store_model.specs.Commits.{FitsChange, FitsMark, FitsReleased, MayRefer}
 use Rattle.store_model.specs.Law.{MayName}
 use Rattle.store_model.specs.Intact.{IsIntact}
 
@@ -92,13 +92,23 @@ hold_stays h client symbol holder n st (changes.Released other) fits kept e =
     let apart : same_holder other r.0.holder ≡ false = subst (λ x. same_holder other x ≡ false) is (kept other fits) in
     passes test (filter (λ (w : Hold). not (same_holder other w.holder)) st.holds) r.0 (in_filter (λ (w : Hold). not (same_holder other w.holder)) st.holds r.0 r.1 (not_from_false _ apart)) r.2
 hold_stays h client symbol holder n st (changes.Discarded pieces) fits kept e = e
+hold_stays h client symbol holder n st changes.Restated fits kept e = absurd fits
 
-pub holds_stay : (h : History) (client : ℕ) (symbol : Name) (row : LinkRow) (holder : Holder) (n : ℕ) (list : List Change) (st : State) → AllByRecursion (FitsChange h client symbol row) list
+holds_stay : (h : History) (client : ℕ) (symbol : Name) (row : LinkRow) (holder : Holder) (n : ℕ) (list : List Change) (st : State) → AllByRecursion (FitsChange h client symbol row) list
     → ((other : Holder) → FitsReleased h client symbol other → same_holder other holder ≡ false)
     → is_held_by st holder n ≡ true → is_held_by (fold after_change st list) holder n ≡ true
 holds_stay h client symbol row holder n [] st fits kept e = e
 holds_stay h client symbol row holder n (c ∷ list) st fits kept e =
     holds_stay h client symbol row holder n list (after_change st c) fits.1 kept (hold_stays h client symbol holder n st c fits.0.1 kept e)
+
+-- so after a Refer
+pub refer_holds_stay : (h : History) (client : ℕ) (symbol : Name) (was : Option Key) (entry : Key) (list : List Change) (holder : Holder) (n : ℕ) → MayRefer h client symbol was entry list
+    → ((other : Holder) → FitsReleased h client symbol other → same_holder other holder ≡ false)
+    → is_held_by (state_of h symbol) holder n ≡ true → is_held_by (fold after_change (state_of h symbol) list) holder n ≡ true
+refer_holds_stay h client symbol was entry list holder n may kept e = elim may.how [
+  | inl change ↦ holds_stay h client symbol change.row holder n list (state_of h symbol) change.fits kept e
+  | inr restate ↦ subst (λ l. is_held_by (fold after_change (state_of h symbol) l) holder n ≡ true) (sym restate.alone) e
+]
 
 -- ---- the steps of names
 
@@ -137,6 +147,7 @@ module _ (h : History) (client : ℕ) (snap : Name) (bytes : Bytes) (may : MayNa
     versions = i.versions;
     below = i.below;
     chain = i.chain;
+    buried = i.buried;
     held = λ x body e. elim (stands_after x body e) [
       | inl new ↦ subst (λ (b : SnapBody). AllByRecursion (IsHeldRow h b.holder) b.rows) new.1 may.rows
       | inr old ↦ i.held x body old
@@ -203,6 +214,7 @@ module _ (h : History) (client : ℕ) (snap : Name) (i : IsIntact h) where
     versions = i.versions;
     below = i.below;
     chain = i.chain;
+    buried = i.buried;
     held = λ x body e. i.held x body (stood_before x body e).1;
     one_name = λ a b x y e f s. i.one_name a b x y (stood_before a x e).1 (stood_before b y f).1 s;
     unnamed = λ x body c e.

@@ -1,10 +1,11 @@
 -- What the changes of a Refer leave of a symbol's state: no old version is needed that was not needed before, and no piece is opened.
-use Rattle.std.proofs.Common.{◌≡◌, ℕ, ◌<◌, ◌≤◌, Bool, true, false, ◌||◌, ◌&&◌, List, [], ◌∷◌, ◌++◌, ap, sym, ◌∙◌, subst, inl, inr, not, nat_eq, arith}
+use Rattle.std.proofs.Common.{◌≡◌, ℕ, ◌<◌, ◌≤◌, Bool, true, false, ◌||◌, ◌&&◌, List, [], ◌∷◌, ◌++◌, ap, sym, ◌∙◌, subst, inl, inr, not, nat_eq, arith, Option}
 use Rattle.std.specs.Prelude.{Contains, fold, filter}
 use Rattle.std.specs.List.{list_any, AllByRecursion}
 use Rattle.std.proofs.lemmas.Bool.{and_parts, and_from, or_cases, or_parts, or_left, or_right, eqb-true, ne_eqb, not-true}
 use Rattle.std.proofs.lemmas.List.Folds.{list_any-append}
-use Rattle.store_model.proofs.Lists.{one_passes, passes, filter_in, in_filter}
+use Rattle.store_model.proofs.Lists.{one_passes, passes, filter_in, in_filter, contains_none, contains_cases}
+use Rattle.key_kind.specs.declared.key.Key.{Key}
 use Rattle.key_kind.specs.Names.{Name}
 use Rattle.key_kind.specs.Keys.{same_holder}
 use Rattle.bucket_core.specs.declared.event.Change.{Change}
@@ -12,7 +13,7 @@ use Rattle.bucket_core.specs.declared.event.Change.TheVariants as changes
 use Rattle.bucket_core.specs.History.{History}
 use Rattle.store_model.specs.declared.chain.LinkRow.{LinkRow}
 use Rattle.store_model.specs.Library.{State, Hold, Piece, state_of, is_buried, is_linked, is_live, is_held, is_kept, next_number, after_change, is_consumed, open_pieces}
-use Rattle.store_model.specs.Commits.{FitsChange, FitsMark}
+use Rattle.store_model.specs.Commits.{FitsChange, FitsMark, MayRefer}
 
 -- each old version that is kept after was kept before
 pub record KeepsNoMore (before after : State) : Type 0 where
@@ -67,6 +68,7 @@ change_keeps h client symbol st (changes.Released holder) fits k = record {
   ]);
 }
 change_keeps h client symbol st (changes.Discarded pieces) fits k = record { later = k.later; kept = k.kept }
+change_keeps h client symbol st changes.Restated fits k = absurd fits
 
 changes_keep : (h : History) (client : ℕ) (symbol : Name) (row : LinkRow) (list : List Change) (st : State) → AllByRecursion (FitsChange h client symbol row) list
     → KeepsNoMore (state_of h symbol) st → KeepsNoMore (state_of h symbol) (fold after_change st list)
@@ -75,9 +77,13 @@ changes_keep h client symbol row (c ∷ list) st fits k =
     changes_keep h client symbol row list (after_change st c) fits.1 (change_keeps h client symbol st c fits.0.1 k)
 
 -- after a Refer's changes each old version that is kept was kept before
-pub refer_keeps_no_more : (h : History) (client : ℕ) (symbol : Name) (row : LinkRow) (list : List Change) → AllByRecursion (FitsChange h client symbol row) list
+pub refer_keeps_no_more : (h : History) (client : ℕ) (symbol : Name) (was : Option Key) (entry : Key) (list : List Change) → MayRefer h client symbol was entry list
     → KeepsNoMore (state_of h symbol) (fold after_change (state_of h symbol) list)
-refer_keeps_no_more h client symbol row list fits = changes_keep h client symbol row list (state_of h symbol) fits (keeps_no_more_self (state_of h symbol))
+refer_keeps_no_more h client symbol was entry list may = elim may.how [
+  | inl change ↦ changes_keep h client symbol change.row list (state_of h symbol) change.fits (keeps_no_more_self (state_of h symbol))
+  | inr restate ↦ subst (λ l. KeepsNoMore (state_of h symbol) (fold after_change (state_of h symbol) l)) (sym restate.alone)
+      (record { later = omega arith; kept = λ n b e. e })
+]
 
 -- ---- pieces
 
@@ -89,6 +95,7 @@ consumed_stays st (changes.Updated frame range at) p e = e
 consumed_stays st (changes.Removed versions) p e = e
 consumed_stays st (changes.Held holder version) p e = e
 consumed_stays st (changes.Released holder) p e = e
+consumed_stays st changes.Restated p e = e
 consumed_stays st (changes.Discarded pieces) p e = (or_parts _ _ (sym (list_any-append _ pieces st.consumed) ∙ e)).1
 
 open_before : (list : List Change) (st : State) (p : Piece) → Contains (open_pieces (fold after_change st list)) p → Contains (open_pieces st) p
@@ -100,3 +107,57 @@ open_before (x ∷ list) st p c =
 
 pub refer_opens_none : (st : State) (list : List Change) (p : Piece) → Contains (open_pieces (fold after_change st list)) p → Contains (open_pieces st) p
 refer_opens_none st list p c = open_before list st p c
+
+-- ---- what is buried was made
+
+linked_stays_linked : (st : State) (c : Change) (n : ℕ) → is_linked st n ≡ true → is_linked (after_change st c) n ≡ true
+linked_stays_linked st (changes.Wrote frame at) n e = or_right _ _ e
+linked_stays_linked st (changes.Appended frame at) n e = or_right _ _ e
+linked_stays_linked st (changes.Updated frame range at) n e = or_right _ _ e
+linked_stays_linked st (changes.Removed versions) n e = e
+linked_stays_linked st (changes.Held holder version) n e = e
+linked_stays_linked st (changes.Released holder) n e = e
+linked_stays_linked st (changes.Discarded pieces) n e = e
+linked_stays_linked st changes.Restated n e = e
+
+-- a change buries only what was made before its Refer
+buries_made : (h : History) (client : ℕ) (symbol : Name) (st : State) (c : Change) (n : ℕ) → FitsMark h client symbol c → ((m : ℕ) → is_linked (state_of h symbol) m ≡ true → is_linked st m ≡ true)
+    → (is_buried st n ≡ true → is_linked st n ≡ true) → is_buried (after_change st c) n ≡ true → is_linked (after_change st c) n ≡ true
+buries_made h client symbol st (changes.Wrote frame at) n fits made old e = or_right _ _ (old e)
+buries_made h client symbol st (changes.Appended frame at) n fits made old e = or_right _ _ (old e)
+buries_made h client symbol st (changes.Updated frame range at) n fits made old e = or_right _ _ (old e)
+buries_made h client symbol st (changes.Removed versions) n fits made old e =
+    elim (or_cases (list_any (nat_eq n) versions) (list_any (nat_eq n) st.buried) (sym (list_any-append (nat_eq n) versions st.buried) ∙ e)) [
+      | inl this ↦
+          let r = one_passes (nat_eq n) versions this in
+          let live : is_live (state_of h symbol) r.0 ≡ true = all_in versions r.0 fits.live r.1 in
+          made n (subst (λ m. is_linked (state_of h symbol) m ≡ true) (sym (eqb-true n r.0 r.2)) (and_parts (is_linked (state_of h symbol) r.0) _ live).0)
+      | inr older ↦ old older
+    ]
+  where
+    all_in : (ms : List ℕ) (m : ℕ) → AllByRecursion (λ k. is_live (state_of h symbol) k ≡ true) ms → Contains ms m → is_live (state_of h symbol) m ≡ true
+    all_in [] m all c = absurd (contains_none m c)
+    all_in (k ∷ ms) m all c = elim (contains_cases m k ms c) [
+      | inl same ↦ subst (λ x. is_live (state_of h symbol) x ≡ true) same all.0
+      | inr d ↦ all_in ms m all.1 d
+    ]
+buries_made h client symbol st (changes.Held holder version) n fits made old e = old e
+buries_made h client symbol st (changes.Released holder) n fits made old e = old e
+buries_made h client symbol st (changes.Discarded pieces) n fits made old e = old e
+buries_made h client symbol st changes.Restated n fits made old e = absurd fits
+
+all_bury_made : (h : History) (client : ℕ) (symbol : Name) (row : LinkRow) (list : List Change) (st : State) → AllByRecursion (FitsChange h client symbol row) list
+    → ((m : ℕ) → is_linked (state_of h symbol) m ≡ true → is_linked st m ≡ true) → ((n : ℕ) → is_buried st n ≡ true → is_linked st n ≡ true)
+    → (n : ℕ) → is_buried (fold after_change st list) n ≡ true → is_linked (fold after_change st list) n ≡ true
+all_bury_made h client symbol row [] st fits made old n e = old n e
+all_bury_made h client symbol row (c ∷ list) st fits made old n e =
+    all_bury_made h client symbol row list (after_change st c) fits.1 (λ m f. linked_stays_linked st c m (made m f)) (λ m f. buries_made h client symbol st c m fits.0.1 made (old m) f) n e
+
+-- after a Refer what is buried was made
+pub refer_buries_made : (h : History) (client : ℕ) (symbol : Name) (was : Option Key) (entry : Key) (list : List Change) → MayRefer h client symbol was entry list
+    → ((n : ℕ) → is_buried (state_of h symbol) n ≡ true → is_linked (state_of h symbol) n ≡ true)
+    → (n : ℕ) → is_buried (fold after_change (state_of h symbol) list) n ≡ true → is_linked (fold after_change (state_of h symbol) list) n ≡ true
+refer_buries_made h client symbol was entry list may old n = elim may.how [
+  | inl change ↦ all_bury_made h client symbol change.row list (state_of h symbol) change.fits (λ m e. e) old n
+  | inr restate ↦ subst (λ l. is_buried (fold after_change (state_of h symbol) l) n ≡ true → is_linked (fold after_change (state_of h symbol) l) n ≡ true) (sym restate.alone) (old n)
+]

@@ -26,6 +26,7 @@ change_numbers st (changes.Removed versions) n = n
 change_numbers st (changes.Held holder version) n = n
 change_numbers st (changes.Released holder) n = n
 change_numbers st (changes.Discarded pieces) n = n
+change_numbers st changes.Restated n = n
 
 changes_number : (st : State) (list : List Change) → AreNumbered st.versions → AreNumbered (fold after_change st list).versions
 changes_number st [] n = n

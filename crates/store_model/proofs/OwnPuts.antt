@@ -1,7 +1,7 @@
 -- A key that a client has just put is neither reached nor an entry, and it stays so while others add lawful events, and while the client puts
 -- and drops other keys.
-use Rattle.std.proofs.Common.{◌≡◌, ℕ, true, false, List, [], ◌∷◌, ◌++◌, refl, ap, sym, ◌∙◌, subst, inl, inr, Option, Some, None, cond}
-use Rattle.std.specs.Prelude.{Contains, map, option_map, option_and_then, is_some}
+use Rattle.std.proofs.Common.{◌≡◌, ℕ, Bool, true, false, List, [], ◌∷◌, ◌++◌, refl, ap, sym, ◌∙◌, subst, inl, inr, Option, Some, None, cond, nat_eq}
+use Rattle.std.specs.Prelude.{Contains, length, map, option_map, option_and_then, is_some}
 use Rattle.std.specs.List.{list_any}
 use Rattle.std.proofs.lemmas.Bool.{true≢false}
 use Rattle.frame_core.specs.Frames.{Frame}
@@ -9,8 +9,11 @@ use Rattle.segment_bytes.specs.Segments.{segment_of}
 use Rattle.byte_fields.specs.Reading.{read_of}
 use Rattle.segment_cut.specs.Tiles.{Tile}
 use Rattle.index_tree.specs.declared.index.Slot.{Slot}
-use Rattle.index_tree.specs.declared.index.Index.{Index}
-use Rattle.index_tree.specs.IndexText.{index_of}
+use Rattle.index_tree.specs.declared.page.PageRow.{PageRow}
+use Rattle.index_tree.specs.declared.page.IndexObject.{IndexObject}
+use Rattle.index_tree.specs.declared.page.IndexObject.TheVariants as objects
+use Rattle.index_tree.specs.PageText.{object_of}
+use Rattle.index_tree.specs.PageRules.{Page}
 use Rattle.key_kind.specs.declared.key.KeyKind.{KeyKind}
 use Rattle.key_kind.specs.declared.key.KeyKind.TheVariants as kinds
 use Rattle.key_kind.specs.declared.key.Key.{Key}
@@ -22,7 +25,7 @@ use Rattle.bucket_core.specs.History.{History, Bytes, author, stored, body_put, 
 use Rattle.store_model.specs.declared.chain.LinkRow.{LinkRow}
 use Rattle.store_model.specs.declared.chain.Entry.{Entry}
 use Rattle.store_model.specs.ChainText.{entry_of}
-use Rattle.store_model.specs.Links.{Linked, linked, links, links_at, reached, reaches, is_reached, entries, is_entry, index_put, tiles_put, frame_put, with_tile, element, IsOwnUnlinked}
+use Rattle.store_model.specs.Links.{Linked, linked, links, links_at, reached, reaches, is_reached, entries, is_entry, Paged, paged_index, page_slots_of, object_put, page_in, with_page, pages_put, whole_index, tiles_put, frame_put, with_tile, element, IsOwnUnlinked}
 use Rattle.store_model.specs.Commits.{MayRefer}
 use Rattle.store_model.specs.Law.{IsClaimed, IsLawful, IsDead, MayPut}
 use Rattle.store_model.specs.Intact.{IsIntact}
@@ -31,7 +34,7 @@ use Rattle.store_model.proofs.Lists.{contains_cases, contains_none, one_passes, 
 use Rattle.store_model.proofs.Histories.{put_stays, stands_from}
 use Rattle.store_model.proofs.Putting.{put_is_new}
 use Rattle.store_model.proofs.Dropping.{it_is_reached}
-use Rattle.store_model.proofs.Referring.{at_symbol}
+use Rattle.store_model.proofs.Referring.{at_symbol, reached_cases}
 use Rattle.store_model.proofs.Lawful.{lawful_is_intact, lawful_as_put}
 use Rattle.store_model.proofs.Stability.{is_false, unreached_stays, no_entry_stays}
 use Rattle.store_model.proofs.StableRefer.{stored_stays}
@@ -58,23 +61,80 @@ tiles_were_put h (s ∷ slots) tiles key e c none =
       | inr there ↦ later more rest_is there
     ]
 
--- the keys that a link reaches were put
-reached_were_put : (h : History) (row : LinkRow) (l : Linked) (key : Key) → linked h row ≡ Some l → Contains (reached l) key → body_put h key ≡ None → ⊥
-reached_were_put h row l key e c none = by (index_put h row.index) refl e
+-- an object was put under a key that was put
+no_object : (h : History) (key : Key) (o : IndexObject) → body_put h key ≡ None → object_put h key ≡ Some o → ⊥
+no_object h key o none e = no_reading (λ body. read_of (object_of body)) (body_put h key) o none e
+
+no_page : (h : History) (key : Key) (slots : List Slot) → body_put h key ≡ None → option_and_then page_in (object_put h key) ≡ Some slots → ⊥
+no_page h key slots none e = by (object_put h key) refl e
   where
-    of : (i : Index) → index_put h row.index ≡ Some i → (tiles : Option (List Tile)) → tiles_put h i.slots ≡ tiles
-        → option_map (λ t. record { row = row; index = i; tiles = t }) tiles ≡ Some l → ⊥
-    of i is None tiles_is e = absurd cc
-    of i is (Some tiles) tiles_is e =
-        let same : record { row = row; index = i; tiles = tiles } ≡ l = cc in
-        elim (contains_cases key row.index (map (λ (s : Slot). s.key) i.slots) (subst (λ k. Contains (reached k) key) (sym same) c)) [
-          | inl first ↦ no_reading (λ body. read_of (index_of body)) (body_put h row.index) i (subst (λ k. body_put h k ≡ None) (sym first) none) is
-          | inr later ↦ tiles_were_put h i.slots tiles key tiles_is later none
+    by : (o : Option IndexObject) → object_put h key ≡ o → option_and_then page_in o ≡ Some slots → ⊥
+    by None is e = cc
+    by (Some o) is e = no_object h key o none is
+
+-- the keys of pages that were put were put
+pages_were_put : (h : History) (rows : List PageRow) (pages : List Page) (key : Key) → pages_put h rows ≡ Some pages → Contains (map (λ (p : Page). p.row.key) pages) key → body_put h key ≡ None → ⊥
+pages_were_put h [] pages key e c none =
+    let same : [] ≡ pages = cc in contains_none key (subst (λ ps. Contains (map (λ (p : Page). p.row.key) ps) key) (sym same) c)
+pages_were_put h (p ∷ rows) pages key e c none =
+    by (option_and_then page_in (object_put h p.key)) refl (pages_put h rows) refl e (λ more is later. pages_were_put h rows more key is later none)
+  where
+    by : (s : Option (List Slot)) → option_and_then page_in (object_put h p.key) ≡ s → (rest : Option (List Page)) → pages_put h rows ≡ rest → with_page p s rest ≡ Some pages
+        → ((more : List Page) → pages_put h rows ≡ Some more → Contains (map (λ (p : Page). p.row.key) more) key → ⊥) → ⊥
+    by None is rest rest_is e older = absurd cc
+    by (Some slots) is None rest_is e older = absurd cc
+    by (Some slots) is (Some more) rest_is e older =
+        let same : (record { row = p; slots = slots } ∷ more) ≡ pages = cc in
+        elim (contains_cases key p.key (map (λ (p : Page). p.row.key) more) (subst (λ ps. Contains (map (λ (p : Page). p.row.key) ps) key) (sym same) c)) [
+          | inl first ↦ no_page h p.key slots (subst (λ k. body_put h k ≡ None) (sym first) none) is
+          | inr later ↦ older more rest_is later
         ]
 
-    by : (i : Option Index) → index_put h row.index ≡ i → option_and_then (λ i. option_map (λ t. record { row = row; index = i; tiles = t }) (tiles_put h i.slots)) i ≡ Some l → ⊥
+-- the pages of a whole index are those that were put
+whole_pages_were_put : (h : History) (o : IndexObject) (i : Paged) (key : Key) → whole_index h o ≡ Some i → Contains (map (λ (p : Page). p.row.key) i.pages) key → body_put h key ≡ None → ⊥
+whole_pages_were_put h (objects.Flat x) i key e c none =
+    let same : record { pages = []; index = x } ≡ i = cc in contains_none key (subst (λ (j : Paged). Contains (map (λ (p : Page). p.row.key) j.pages) key) (sym same) c)
+whole_pages_were_put h (objects.Root r) i key e c none = by (pages_put h r.pages) refl e
+  where
+    of : (pages : List Page) (b : Bool) → cond b (Some (record { pages = pages; index = record { schema = r.schema; rows = r.rows; slots = page_slots_of pages } })) None ≡ Some i → i.pages ≡ pages
+    of pages true e = ap (λ (o : Option Paged). pages_in o) (sym e)
+      where
+        pages_in : Option Paged → List Page
+        pages_in None = []
+        pages_in (Some j) = j.pages
+    of pages false e = absurd cc
+
+    by : (o : Option (List Page)) → pages_put h r.pages ≡ o → option_and_then (paged_index r) o ≡ Some i → ⊥
     by None is e = absurd cc
-    by (Some i) is e = of i is (tiles_put h i.slots) refl e
+    by (Some pages) is e = pages_were_put h r.pages pages key is (subst (λ ps. Contains (map (λ (p : Page). p.row.key) ps) key) (of pages (nat_eq (length (page_slots_of pages)) r.slots) e) c) none
+whole_pages_were_put h (objects.Page slots) i key e c none = absurd cc
+
+-- the keys that a link reaches were put
+reached_were_put : (h : History) (row : LinkRow) (l : Linked) (key : Key) → linked h row ≡ Some l → Contains (reached l) key → body_put h key ≡ None → ⊥
+reached_were_put h row l key e c none = by (object_put h row.index) refl e
+  where
+    of : (o : IndexObject) → object_put h row.index ≡ Some o → (i : Paged) → whole_index h o ≡ Some i → (tiles : Option (List Tile)) → tiles_put h i.index.slots ≡ tiles
+        → option_map (λ t. record { row = row; pages = i.pages; index = i.index; tiles = t }) tiles ≡ Some l → ⊥
+    of o is i whole None tiles_is e = absurd cc
+    of o is i whole (Some tiles) tiles_is e =
+        let same : record { row = row; pages = i.pages; index = i.index; tiles = tiles } ≡ l = cc in
+        elim (reached_cases (record { row = row; pages = i.pages; index = i.index; tiles = tiles }) key (subst (λ k. Contains (reached k) key) (sym same) c)) [
+          | inl first ↦ no_object h row.index o (subst (λ k. body_put h k ≡ None) (sym first) none) is
+          | inr rest ↦ elim rest [
+            | inl page ↦ whole_pages_were_put h o i key whole page none
+            | inr slot ↦ tiles_were_put h i.index.slots tiles key tiles_is slot none
+          ]
+        ]
+
+    by_index : (o : IndexObject) → object_put h row.index ≡ Some o → (i : Option Paged) → whole_index h o ≡ i
+        → option_and_then (λ i. option_map (λ t. record { row = row; pages = i.pages; index = i.index; tiles = t }) (tiles_put h i.index.slots)) i ≡ Some l → ⊥
+    by_index o is None whole e = absurd cc
+    by_index o is (Some i) whole e = of o is i whole (tiles_put h i.index.slots) refl e
+
+    by : (o : Option IndexObject) → object_put h row.index ≡ o
+        → option_and_then (λ i. option_map (λ t. record { row = row; pages = i.pages; index = i.index; tiles = t }) (tiles_put h i.index.slots)) (option_and_then (whole_index h) o) ≡ Some l → ⊥
+    by None is e = absurd cc
+    by (Some o) is e = by_index o is (whole_index h o) refl e
 
 -- no link reaches a key that nobody put
 pub unput_is_unreached : (h : History) → IsLawful h → (key : Key) → body_put h key ≡ None → is_reached h key ≡ false
@@ -140,7 +200,7 @@ own_is_not_dead h other client key apart o dead = elim dead [
   | inl u ↦ true≢false (sym u.once ∙ o.unreached)
   | inr rest ↦ elim rest [
     | inl p ↦ staged_is_no_table key.kind o.table p.staged
-    | inr owned ↦ apart (sym owned.own ∙ o.own)
+    | inr later ↦ elim later [ inl owned ↦ apart (sym owned.own ∙ o.own) | inr r ↦ true≢false (sym r.once ∙ o.no_entry) ]
   ]
 ]
 

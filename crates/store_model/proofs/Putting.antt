@@ -105,7 +105,8 @@ put_keeps h client key body may i = record {
   pieces = λ s p there. pieces s p there;
   versions = i.versions;
   below = i.below;
-  chain = i.chain;
+  chain = λ s. let w = i.chain s in record { rows = w.rows; tombs = w.tombs; holds = w.holds; pieces = w.pieces };
+  buried = i.buried;
   held = i.held;
   one_name = i.one_name;
   unnamed = i.unnamed;

@@ -3,7 +3,7 @@ use Rattle.segment_bytes.specs.Heads.{head_at, length_at, name_at, text_at, type
 use Rattle.segment_bytes.specs.Sheets.{columns_at, count_at, rows_at, series_at, sheet_at, sheet_text, stamp_at, stamps_at}
 use Rattle.segment_bytes.specs.CellTexts.{cells_at, cells_text}
 use Rattle.byte_fields.specs.Reading.{signed_text}
-use Rattle.std.proofs.Common.{◌≡◌, ℕ, ℤ, false, List, [], ◌∷◌, sym, ap, inl, inr, arith, pos, Some, None, Option, subst, Ok, Result}
+use Rattle.std.proofs.Common.{◌≡◌, ℕ, ℤ, false, List, [], ◌∷◌, sym, ap, refl, inl, inr, arith, pos, Some, None, Option, subst, Ok, Result}
 use Rattle.std.specs.List.{AllByRecursion}
 use Rattle.std.proofs.lemmas.Bool.{true≢false}
 use Rattle.std.specs.Str.{is_utf8, chars}
@@ -14,6 +14,7 @@ use Rattle.frame_core.specs.Frames.{Row, Frame}
 use Rattle.segment_cut.specs.Tiles.{Tile, cut}
 use Rattle.segment_bytes.specs.Segments.{segment_of, segment_text, sheet_spelled}
 use Rattle.index_tree.specs.IndexText.{index_of}
+use Rattle.index_tree.specs.PageText.{object_of}
 use Rattle.key_kind.specs.declared.key.KeyKind.{KeyKind}
 use Rattle.key_kind.specs.declared.key.KeyKind.TheVariants as kinds
 use Rattle.key_kind.specs.Keys.{reference_key}
@@ -35,6 +36,7 @@ use Rattle.store_model.specs.declared.chain.Entry.{Entry}
 use Rattle.store_model.specs.Links.{Linked, linked}
 use Rattle.store_model.specs.Commits.{FitsLink}
 use Rattle.store_model.specs.Law.{IsClaimed}
+use Rattle.store_model.proofs.Telling.{is_change}
 use Rattle.store_model.proofs.SmallFrames.{S, k, frame}
 use Rattle.store_model.proofs.Witness as w
 use Rattle.store_model.proofs.WitnessKept as kept
@@ -57,21 +59,21 @@ no_refer_without_its_test may = absurd (some_is_not_none (w.key kinds.Version 2)
 
 -- a Tomb of a version that is buried
 pub no_tomb_of_a_buried_version : MayFollow IsClaimed w.deleted (refer (Some (w.key kinds.Version 3)) (changes.Removed (0 ∷ []))) → ⊥
-no_tomb_of_a_buried_version may = true≢false (sym may.1.fits.0.1.live.0)
+no_tomb_of_a_buried_version may = true≢false (sym (is_change _ _ _ _ _ _ refl may.1).fits.0.1.live.0)
 
 -- a Hold of a version that is buried
 pub no_hold_of_a_buried_version : MayFollow IsClaimed w.deleted (refer (Some (w.key kinds.Version 3)) (changes.Held (record { client = 2; serial = 0 }) 0)) → ⊥
-no_hold_of_a_buried_version may = true≢false (sym may.1.fits.0.1.live)
+no_hold_of_a_buried_version may = true≢false (sym (is_change _ _ _ _ _ _ refl may.1).fits.0.1.live)
 
 -- a Release of a hold whose snapshot stands
 pub no_release_under_a_name : MayFollow IsClaimed kept.kept (refer (Some (w.key kinds.Version 3)) (changes.Released kept.holder)) → ⊥
 unfolding snap_of key_at key_text signed_text
-no_release_under_a_name may = elim may.1.fits.0.1.allowed [ inl own ↦ true≢false own.1 | inr unnamed ↦ true≢false (sym unnamed) ]
+no_release_under_a_name may = elim (is_change _ _ _ _ _ _ refl may.1).fits.0.1.allowed [ inl own ↦ true≢false own.1 | inr unnamed ↦ true≢false (sym unnamed) ]
 
 -- a piece that is consumed a second time
 pub no_piece_twice : MayFollow IsClaimed shared.discarded (refer (Some (w.key kinds.Version 1)) (changes.Discarded (shared.piece ∷ []))) → ⊥
 unfolding segment_text sheet_text cells_text segment_of sheet_spelled sheet_at rows_at count_at stamps_at stamp_at columns_at series_at head_at type_at length_at name_at text_at cells_at is_utf8 chars encode signed_text
-no_piece_twice may = true≢false (sym may.1.fits.0.1.staged.0)
+no_piece_twice may = true≢false (sym (is_change _ _ _ _ _ _ refl may.1).fits.0.1.staged.0)
 
 -- ---- links
 
@@ -109,10 +111,11 @@ prepared = w.put_first ∷ w.put_index ∷ w.put_tile ∷ []
 
 -- a version whose tile holds another frame
 pub no_link_of_another_frame : MayFollow IsClaimed prepared (events.Refer 1 S None (w.key kinds.Version 2) (changes.Wrote other (pos 50) ∷ [])) → ⊥
-unfolding index_of entry_of segment_text sheet_text cells_text segment_of sheet_spelled sheet_at rows_at count_at stamps_at stamp_at columns_at series_at head_at type_at length_at name_at text_at cells_at is_utf8 chars encode signed_text key_at key_text
+unfolding object_of index_of entry_of segment_text sheet_text cells_text segment_of sheet_spelled sheet_at rows_at count_at stamps_at stamp_at columns_at series_at head_at type_at length_at name_at text_at cells_at is_utf8 chars encode signed_text key_at key_text
 no_link_of_another_frame may =
-    let fits : FitsLink prepared 1 S may.1.row (record { number = 0; stamp = pos 50; frame = other }) = may.1.fits.0.0 in
-    let row : w.row ≡ may.1.row = ap row_of_first may.1.spelled in
+    let change = is_change prepared 1 S None (w.key kinds.Version 2) (changes.Wrote other (pos 50) ∷ []) refl may.1 in
+    let fits : FitsLink prepared 1 S change.row (record { number = 0; stamp = pos 50; frame = other }) = change.fits.0.0 in
+    let row : w.row ≡ change.row = ap row_of_first change.spelled in
     let tiles : (w.part, w.table) ∷ [] ≡ fits.link.tiles = ap tiles_of (subst (λ r. linked prepared r ≡ Some fits.link) (sym row) fits.link_is) in
     let part = subst (λ (ts : List Tile). AllByRecursion (λ (t : Tile). t.1 ≡ cut other t.0) ts) (sym tiles) fits.tiled.parts in
     five_is_not_six (ap (λ (f : Frame). first_ints f.rows) part.0)
@@ -164,29 +167,32 @@ first_buried = events.Refer 1 S (Some (shared.element_key 2 2)) (w.key kinds.Ver
 
 -- a Drop of a tile that a live version shares
 pub no_drop_of_a_shared_tile : MayFollow IsClaimed first_buried (events.Drop 1 (w.table_key kinds.TableData 0)) → ⊥
-unfolding index_of entry_of segment_text sheet_text cells_text segment_of sheet_spelled sheet_at rows_at count_at stamps_at stamp_at columns_at series_at head_at type_at length_at name_at text_at cells_at is_utf8 chars encode signed_text key_at key_text
+unfolding object_of index_of entry_of segment_text sheet_text cells_text segment_of sheet_spelled sheet_at rows_at count_at stamps_at stamp_at columns_at series_at head_at type_at length_at name_at text_at cells_at is_utf8 chars encode signed_text key_at key_text
 no_drop_of_a_shared_tile may = elim may.1 [
   | inl unneeded ↦ true≢false unneeded.no_more
   | inr (inl piece) ↦ absurd (data_is_not_staged piece.staged)
-  | inr (inr own) ↦ true≢false own.unreached
+  | inr (inr (inl own)) ↦ true≢false own.unreached
+  | inr (inr (inr retold)) ↦ true≢false (sym retold.once)
 ]
 
 -- a Drop of a tile of a version that is buried and held
 pub no_drop_of_a_held_version : MayFollow IsClaimed kept.deleted (events.Drop 1 (w.table_key kinds.TableData 0)) → ⊥
-unfolding index_of entry_of segment_text sheet_text cells_text segment_of sheet_spelled sheet_at rows_at count_at stamps_at stamp_at columns_at series_at head_at type_at length_at name_at text_at cells_at is_utf8 chars encode signed_text key_at key_text
+unfolding object_of index_of entry_of segment_text sheet_text cells_text segment_of sheet_spelled sheet_at rows_at count_at stamps_at stamp_at columns_at series_at head_at type_at length_at name_at text_at cells_at is_utf8 chars encode signed_text key_at key_text
 no_drop_of_a_held_version may = elim may.1 [
   | inl unneeded ↦ true≢false unneeded.no_more
   | inr (inl piece) ↦ absurd (data_is_not_staged piece.staged)
-  | inr (inr own) ↦ true≢false own.unreached
+  | inr (inr (inl own)) ↦ true≢false own.unreached
+  | inr (inr (inr retold)) ↦ true≢false (sym retold.once)
 ]
 
 -- a Drop of an element of a chain
 pub no_drop_of_an_element : MayFollow IsClaimed w.deleted (events.Drop 1 (w.key kinds.Version 2)) → ⊥
-unfolding index_of entry_of segment_text sheet_text cells_text segment_of sheet_spelled sheet_at rows_at count_at stamps_at stamp_at columns_at series_at head_at type_at length_at name_at text_at cells_at is_utf8 chars encode signed_text key_at key_text
+unfolding object_of index_of entry_of segment_text sheet_text cells_text segment_of sheet_spelled sheet_at rows_at count_at stamps_at stamp_at columns_at series_at head_at type_at length_at name_at text_at cells_at is_utf8 chars encode signed_text key_at key_text
 no_drop_of_an_element may = elim may.1 [
   | inl unneeded ↦ true≢false (sym unneeded.once)
   | inr (inl piece) ↦ absurd (version_is_not_staged piece.staged)
-  | inr (inr own) ↦ true≢false own.no_entry
+  | inr (inr (inl own)) ↦ true≢false own.no_entry
+  | inr (inr (inr retold)) ↦ true≢false retold.no_more
 ]
 
 -- a Drop of another's key that nothing links yet
@@ -194,5 +200,6 @@ pub no_drop_of_anothers_key : MayFollow IsClaimed (w.put_tile ∷ []) (events.Dr
 no_drop_of_anothers_key may = elim may.1 [
   | inl unneeded ↦ true≢false (sym unneeded.once)
   | inr (inl piece) ↦ absurd (data_is_not_staged piece.staged)
-  | inr (inr own) ↦ omega (arith, own.own)
+  | inr (inr (inl own)) ↦ omega (arith, own.own)
+  | inr (inr (inr retold)) ↦ true≢false (sym retold.once)
 ]

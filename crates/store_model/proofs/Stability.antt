@@ -1,12 +1,13 @@
 -- What is claimed of an event stays so while others add lawful events that do not touch it.
 use Rattle.std.proofs.Common.{◌≡◌, ℕ, suc, Bool, true, false, ◌&&◌, List, [], ◌∷◌, ◌++◌, refl, ap, sym, ◌∙◌, subst, inl, inr, Option, cond}
-use Rattle.std.specs.Prelude.{◌⊎◌, Contains, fold, map}
+use Rattle.std.specs.Prelude.{◌⊎◌, Contains, fold}
 use Rattle.std.specs.List.{list_any}
 use Rattle.std.proofs.lemmas.Bool.{true≢false, and_parts, and_from, and_left, or_from, or_left, or_right, ne_eqb}
 use Rattle.std.proofs.lemmas.List.Folds.{list_any-append}
 use Rattle.byte_fields.specs.Reading.{read_of}
-use Rattle.store_model.proofs.Lists.{contains_append, contains_cases, none_passes, one_passes, passes, all_weaker, mapped_of, contains_first, contains_later}
+use Rattle.store_model.proofs.Lists.{contains_append, none_passes, one_passes, passes, all_weaker, mapped_of, contains_first, contains_later}
 use Rattle.index_tree.specs.declared.index.Slot.{Slot}
+use Rattle.index_tree.specs.PageRules.{Page}
 use Rattle.key_kind.specs.declared.key.Key.{Key}
 use Rattle.key_kind.specs.declared.key.Holder.{Holder}
 use Rattle.key_kind.specs.Names.{Name}
@@ -21,15 +22,15 @@ use Rattle.bucket_core.specs.History.{History, Bytes, author, puts_by}
 use Rattle.store_model.specs.declared.chain.LinkRow.{LinkRow}
 use Rattle.store_model.specs.declared.snapshot.SnapRow.{SnapRow}
 use Rattle.store_model.specs.Library.{State, Version, state_of, after_change, is_live, same_piece, after_changes}
-use Rattle.store_model.specs.Links.{Linked, links, links_at, reached, reaches, is_needed, is_reached, is_reached_by_needed, entries, is_entry}
+use Rattle.store_model.specs.Links.{Linked, links, links_at, reached, reaches, is_needed, is_reached, is_reached_by_needed, entries, is_entry, restates, left_behind, chain_entries, IsRetold}
 use Rattle.store_model.specs.Holders.{IsHeldRow, is_held_by, has_index, holder_is, has_name}
-use Rattle.store_model.specs.Commits.{MayRefer, FitsLink, FitsReleased, IsFresh, MayNameKey, newest_reaches}
+use Rattle.store_model.specs.Commits.{MayRefer, FitsLink, FitsReleased, IsFresh, IsNewIndex, MayNameKey, newest_reaches}
 use Rattle.store_model.specs.Law.{IsClaimed, MayPut, MayName, IsDead}
 use Rattle.store_model.specs.Intact.{IsIntact}
 use Rattle.store_model.proofs.Dropping.{it_is_reached}
 use Rattle.store_model.proofs.Needing.{refer_keeps_no_more}
-use Rattle.store_model.proofs.Naming.{holds_stay, unnamed_has_name}
-use Rattle.store_model.proofs.Referring.{at_symbol, linked_row, new_link}
+use Rattle.store_model.proofs.Naming.{refer_holds_stay, unnamed_has_name}
+use Rattle.store_model.proofs.Referring.{at_symbol, linked_row, reached_cases, new_link}
 
 -- ---- tests that fail
 
@@ -79,7 +80,7 @@ pub held_row_stays : (h : History) (x : Event) (holder : Holder) (r : SnapRow) �
 held_row_stays h (events.Refer c s was entry list) holder r claim apart unnamed k = (
   at_symbol s r.symbol (λ t. is_held_by (cond t (after_changes (state_of h r.symbol) list) (state_of h r.symbol)) holder r.version ≡ true)
       (λ same. let m : MayRefer h c r.symbol was entry list = subst (λ n. MayRefer h c n was entry list) same claim in
-      holds_stay h c r.symbol m.row holder r.version list (state_of h r.symbol) m.fits (λ other f. may_not_release_others h c r.symbol other holder apart unnamed f) k.0)
+      refer_holds_stay h c r.symbol was entry list holder r.version m (λ other f. may_not_release_others h c r.symbol other holder apart unnamed f) k.0)
       k.0,
   at_symbol s r.symbol (λ t. has_index (cond t (links_at h entry ++ links h r.symbol) (links h r.symbol)) r.version r.index ≡ true)
       (λ same. list_any-append _ (links_at h entry) (links h r.symbol) ∙ or_right _ _ k.1)
@@ -116,11 +117,16 @@ pub fits_source : (h : History) (client : ℕ) (symbol : Name) (row : LinkRow) (
     → IsFresh h client key ⊎ (newest_reaches (state_of h symbol) (links h symbol) key ≡ true)
 fits_source h client symbol row v f key c =
     let is : f.link.row ≡ row = linked_row h row f.link f.link_is in
-    elim (contains_cases key f.link.row.index (map (λ (s : Slot). s.key) f.link.index.slots) c) [
-      | inl e ↦ inl (subst (IsFresh h client) (ap (λ (r : LinkRow). r.index) (sym is) ∙ e) f.index_fresh)
-      | inr d ↦
-          let r = mapped_of (λ (s : Slot). MayNameKey h client symbol s.key) (λ (s : Slot). s.key) f.link.index.slots key f.keys d in
-          subst (λ k. IsFresh h client k ⊎ (newest_reaches (state_of h symbol) (links h symbol) k ≡ true)) r.3 r.2.fresh_or_shared
+    elim (reached_cases f.link key c) [
+      | inl e ↦ inl (subst (IsFresh h client) (ap (λ (r : LinkRow). r.index) (sym is) ∙ e) f.new_index.fresh)
+      | inr rest ↦ elim rest [
+        | inl d ↦
+            let r = mapped_of (λ (p : Page). IsNewIndex h client symbol p.row.key) (λ (p : Page). p.row.key) f.link.pages key f.new_pages d in
+            inl (subst (IsFresh h client) r.3 r.2.fresh)
+        | inr d ↦
+            let r = mapped_of (λ (s : Slot). MayNameKey h client symbol s.key) (λ (s : Slot). s.key) f.link.index.slots key f.keys d in
+            subst (λ k. IsFresh h client k ⊎ (newest_reaches (state_of h symbol) (links h symbol) k ≡ true)) r.3 r.2.fresh_or_shared
+      ]
     ]
 
 -- where a new link reaches a key, the key is fresh to the client, or some needed link reaches it
@@ -128,8 +134,8 @@ new_source : (h : History) (client : ℕ) (was : Option Key) (entry : Key) (list
     → Contains (links_at h entry) l → reaches l key ≡ true → IsFresh h client key ⊎ (is_reached_by_needed h key ≡ true)
 new_source h client was entry list key may i l there e =
     let m = new_link h client key.name was entry list may i l there in
-    let reach : Contains (reached m.0.fits.link) key = subst (λ k. Contains (reached k) key) (sym m.1) (it_is_reached l key e) in
-    elim (fits_source h client key.name may.row m.0.made m.0.fits key reach) [
+    let reach : Contains (reached m.one.fits.link) key = subst (λ k. Contains (reached k) key) (sym m.is) (it_is_reached l key e) in
+    elim (fits_source h client key.name m.row m.one.made m.one.fits key reach) [
       | inl fresh ↦ inl fresh
       | inr newest ↦
           let n = newest_is_needed (state_of h key.name) (links h key.name) key newest in
@@ -148,7 +154,7 @@ module _ (h : History) (client : ℕ) (was : Option Key) (entry : Key) (list : L
           | inr needed ↦ true≢false (sym needed ∙ no_more)
         ]
         | inr old ↦
-            let before : is_needed (state_of h key.name) l ≡ true = (refer_keeps_no_more h client key.name may.row list may.fits).kept l.row.version (i.below key.name l old) r.0 in
+            let before : is_needed (state_of h key.name) l ≡ true = (refer_keeps_no_more h client key.name was entry list may).kept l.row.version (i.below key.name l old) r.0 in
             true≢false (sym (and_from _ _ before r.1) ∙ none_passes (λ l. is_needed (state_of h key.name) l && reaches l key) (links h key.name) l no_more old)
       ]))
 
@@ -177,6 +183,14 @@ consumed_grows (changes.Updated frame range at ∷ list) st name e = consumed_gr
 consumed_grows (changes.Removed versions ∷ list) st name e = consumed_grows list (after_change st (changes.Removed versions)) name e
 consumed_grows (changes.Held holder version ∷ list) st name e = consumed_grows list (after_change st (changes.Held holder version)) name e
 consumed_grows (changes.Released holder ∷ list) st name e = consumed_grows list (after_change st (changes.Released holder)) name e
+consumed_grows (changes.Restated ∷ list) st name e = consumed_grows list (after_change st changes.Restated) name e
+
+-- an element that was told anew is not taken into the chain again
+retold_stays : (h : History) (client : ℕ) (was : Option Key) (entry : Key) (list : List Change) (key : Key) → MayRefer h client key.name was entry list → IsRetold h key
+    → list_any (λ k. same_key k key) (entry ∷ left_behind list (chain_entries h key.name)) ≡ false
+retold_stays h client was entry list key may r =
+    or_from _ _ (is_false (same_key entry key) (λ s. true≢false (sym (subst (λ k. is_entry h key.name k ≡ true) (sym (same_key_is entry key s)) r.once) ∙ may.fresh)))
+    (elim (restates list) as (λ b. list_any (λ k. same_key k key) (cond b [] (chain_entries h key.name)) ≡ false) [ true ↦ refl | false ↦ r.no_more ])
 
 -- a key that is dead stays dead
 pub dead_stays : (h : History) (x : Event) (key : Key) (client : ℕ) → IsClaimed h x → IsIntact h → (author x ≡ client → ⊥) → IsDead h key client → IsDead (x ∷ h) key client
@@ -193,14 +207,22 @@ dead_stays h (events.Refer c s was entry list) key client claim i apart dead = e
       consumed = at_symbol s key.name (λ t. list_any (same_piece (record { client = key.client; serial = key.serial })) (cond t (after_changes (state_of h key.name) list) (state_of h key.name)).consumed ≡ true)
           (λ e. consumed_grows list (state_of h key.name) (record { client = key.client; serial = key.serial }) p.consumed) p.consumed;
     })
-    | inr o ↦ inr (record {
-      own = o.own;
-      table = o.table;
-      unreached = at_symbol s key.name (λ t. list_any (λ l. reaches l key) (cond t (links_at h entry ++ links h key.name) (links h key.name)) ≡ false)
-          (λ e. unreached_stays h c was entry list key (may_at e) i client apart o.own o.unreached) o.unreached;
-      no_entry = at_symbol s key.name (λ t. list_any (λ k. same_key k key) (cond t (entry ∷ entries h key.name) (entries h key.name)) ≡ false)
-          (λ e. no_entry_stays h c was entry list key (may_at e) i client apart o.own o.no_entry) o.no_entry;
-    })
+    | inr later ↦ inr (elim later [
+      | inl o ↦ inl (record {
+        own = o.own;
+        table = o.table;
+        unreached = at_symbol s key.name (λ t. list_any (λ l. reaches l key) (cond t (links_at h entry ++ links h key.name) (links h key.name)) ≡ false)
+            (λ e. unreached_stays h c was entry list key (may_at e) i client apart o.own o.unreached) o.unreached;
+        no_entry = at_symbol s key.name (λ t. list_any (λ k. same_key k key) (cond t (entry ∷ entries h key.name) (entries h key.name)) ≡ false)
+            (λ e. no_entry_stays h c was entry list key (may_at e) i client apart o.own o.no_entry) o.no_entry;
+      })
+      | inr r ↦ inr (record {
+        not_yet = r.not_yet;
+        once = at_symbol s key.name (λ t. list_any (λ k. same_key k key) (cond t (entry ∷ entries h key.name) (entries h key.name)) ≡ true) (λ e. or_right _ _ r.once) r.once;
+        no_more = at_symbol s key.name (λ t. list_any (λ k. same_key k key) (cond t (entry ∷ left_behind list (chain_entries h key.name)) (chain_entries h key.name)) ≡ false)
+            (λ e. retold_stays h c was entry list key (may_at e) r) r.no_more;
+      })
+    ])
   ])
 ]
   where
@@ -210,27 +232,39 @@ dead_stays h (events.Put c k body) key client claim i apart dead = elim dead [
   | inl u ↦ inl (record { once = u.once; no_more = u.no_more })
   | inr rest ↦ inr (elim rest [
     | inl p ↦ inl (record { staged = p.staged; consumed = p.consumed })
-    | inr o ↦ inr (record { own = o.own; table = o.table; unreached = o.unreached; no_entry = o.no_entry })
+    | inr later ↦ inr (elim later [
+      | inl o ↦ inl (record { own = o.own; table = o.table; unreached = o.unreached; no_entry = o.no_entry })
+      | inr r ↦ inr (record { not_yet = r.not_yet; once = r.once; no_more = r.no_more })
+    ])
   ])
 ]
 dead_stays h (events.Name c snap body) key client claim i apart dead = elim dead [
   | inl u ↦ inl (record { once = u.once; no_more = u.no_more })
   | inr rest ↦ inr (elim rest [
     | inl p ↦ inl (record { staged = p.staged; consumed = p.consumed })
-    | inr o ↦ inr (record { own = o.own; table = o.table; unreached = o.unreached; no_entry = o.no_entry })
+    | inr later ↦ inr (elim later [
+      | inl o ↦ inl (record { own = o.own; table = o.table; unreached = o.unreached; no_entry = o.no_entry })
+      | inr r ↦ inr (record { not_yet = r.not_yet; once = r.once; no_more = r.no_more })
+    ])
   ])
 ]
 dead_stays h (events.Unname c snap) key client claim i apart dead = elim dead [
   | inl u ↦ inl (record { once = u.once; no_more = u.no_more })
   | inr rest ↦ inr (elim rest [
     | inl p ↦ inl (record { staged = p.staged; consumed = p.consumed })
-    | inr o ↦ inr (record { own = o.own; table = o.table; unreached = o.unreached; no_entry = o.no_entry })
+    | inr later ↦ inr (elim later [
+      | inl o ↦ inl (record { own = o.own; table = o.table; unreached = o.unreached; no_entry = o.no_entry })
+      | inr r ↦ inr (record { not_yet = r.not_yet; once = r.once; no_more = r.no_more })
+    ])
   ])
 ]
 dead_stays h (events.Drop c k) key client claim i apart dead = elim dead [
   | inl u ↦ inl (record { once = u.once; no_more = u.no_more })
   | inr rest ↦ inr (elim rest [
     | inl p ↦ inl (record { staged = p.staged; consumed = p.consumed })
-    | inr o ↦ inr (record { own = o.own; table = o.table; unreached = o.unreached; no_entry = o.no_entry })
+    | inr later ↦ inr (elim later [
+      | inl o ↦ inl (record { own = o.own; table = o.table; unreached = o.unreached; no_entry = o.no_entry })
+      | inr r ↦ inr (record { not_yet = r.not_yet; once = r.once; no_more = r.no_more })
+    ])
   ])
 ]

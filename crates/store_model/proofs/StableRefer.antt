@@ -1,10 +1,11 @@
 -- What is claimed of a Refer stays so while others add lawful events that are no Refer of its symbol.
 use Rattle.std.proofs.Common.{◌≡◌, ℕ, ◌<◌, true, false, not, List, [], ◌∷◌, ◌++◌, refl, ap, sym, ◌∙◌, subst, inl, inr, Option, Some, None, cond}
-use Rattle.std.specs.Prelude.{IfSome, is_some}
+use Rattle.std.specs.Prelude.{IfSome, is_some, map, reverse}
 use Rattle.std.specs.List.{list_any}
 use Rattle.std.proofs.lemmas.Bool.{true≢false, or_right, or_from, and_left}
 use Rattle.store_model.proofs.Lists.{filter_in, in_filter, all_weaker, one_passes, passes, contains_right}
 use Rattle.index_tree.specs.declared.index.Slot.{Slot}
+use Rattle.index_tree.specs.PageRules.{Page}
 use Rattle.key_kind.specs.declared.key.KeyKind.TheVariants as kinds
 use Rattle.key_kind.specs.declared.key.Key.{Key}
 use Rattle.key_kind.specs.declared.key.Holder.{Holder}
@@ -21,13 +22,14 @@ use Rattle.bucket_core.specs.History.{History, author, stored, PutOnce}
 use Rattle.bucket_core.specs.Laws.{refers}
 use Rattle.store_model.proofs.Histories.{put_stays}
 use Rattle.store_model.specs.declared.chain.LinkRow.{LinkRow}
-use Rattle.store_model.specs.Library.{State, Version, Hold, Piece, state_of, after_changes, new_version, open_pieces, is_consumed, is_live, same_piece, piece_staged}
-use Rattle.store_model.specs.Links.{Linked, links, links_at, reaches, is_reached, entries}
+use Rattle.store_model.specs.declared.chain.WholeState.{WholeState}
+use Rattle.store_model.specs.Library.{State, Version, Hold, Piece, hold_of, state_of, after_changes, new_version, open_pieces, is_consumed, is_live, same_piece, piece_staged}
+use Rattle.store_model.specs.Links.{Linked, links, links_at, reaches, is_reached, entries, is_entry}
 use Rattle.store_model.specs.Holders.{has_hold, has_unnamed}
-use Rattle.store_model.specs.Commits.{MayRefer, FitsLink, FitsMark, FitsChange, FitsRemoved, FitsDiscarded, IsFresh, MayNameKey, newest_reaches, BuriesAll}
+use Rattle.store_model.specs.Commits.{MayRefer, FitsLink, FitsMark, FitsChange, FitsRemoved, FitsDiscarded, IsFresh, IsNewIndex, MayNameKey, newest_reaches, BuriesAll, AsOften, told_link, TellsState}
 use Rattle.store_model.specs.Law.{IsClaimed, IsDead}
-use Rattle.store_model.specs.Intact.{IsIntact}
-use Rattle.store_model.proofs.Dropping.{needed_is_not_dead, reached_is_table, table_is_not_version, it_is_reached}
+use Rattle.store_model.specs.Intact.{IsIntact, IsTableKey}
+use Rattle.store_model.proofs.Dropping.{needed_is_not_dead, reached_is_table, table_is_not_version, table_is_not_staged, retold_is_version, it_is_reached}
 use Rattle.store_model.proofs.AsPut.{linked_stays, element_stays}
 use Rattle.store_model.proofs.Stability.{is_false, puts_other, unnamed_stays, newest_is_needed}
 
@@ -94,13 +96,16 @@ not_dead_here h x key alive k claim is =
     dead_of : IsClaimed h x → IsDead h k (author x)
     dead_of claim = subst (IsClaimed h) is claim
 
--- an own key that no link reached is not dead to others
-pub fresh_is_not_dead : (h : History) (other client : ℕ) (key : Key) → (other ≡ client → ⊥) → (key.kind ≡ kinds.Staged → ⊥) → IsFresh h client key → IsDead h key other → ⊥
-fresh_is_not_dead h other client key apart kind fresh dead = elim dead [
+-- an own key of a table that no link reached is not dead to others
+pub fresh_is_not_dead : (h : History) (other client : ℕ) (symbol : Name) (key : Key) → IsIntact h → (other ≡ client → ⊥) → IsTableKey symbol key → IsFresh h client key → IsDead h key other → ⊥
+fresh_is_not_dead h other client symbol key i apart table fresh dead = elim dead [
   | inl u ↦ true≢false (sym u.once ∙ fresh.unreached)
   | inr rest ↦ elim rest [
-    | inl p ↦ kind p.staged
-    | inr o ↦ apart (sym o.own ∙ fresh.own)
+    | inl p ↦ table_is_not_staged symbol key table p.staged
+    | inr later ↦ elim later [
+      | inl o ↦ apart (sym o.own ∙ fresh.own)
+      | inr r ↦ table_is_not_version symbol key table (retold_is_version h key i r)
+    ]
   ]
 ]
 
@@ -110,12 +115,12 @@ shared_is_not_dead h other symbol key i newest dead =
     needed_is_not_dead h other symbol n.0 key i n.1 n.2 (it_is_reached n.0 key n.3) dead
 
 -- a new entry of a client's own is not dead to others
-pub own_entry_is_not_dead : (h : History) (other client : ℕ) (key : Key) → IsIntact h → (other ≡ client → ⊥) → key.kind ≡ kinds.Version → key.client ≡ client → IsDead h key other → ⊥
-own_entry_is_not_dead h other client key i apart kind own dead = elim dead [
+pub own_entry_is_not_dead : (h : History) (other client : ℕ) (key : Key) → IsIntact h → (other ≡ client → ⊥) → key.kind ≡ kinds.Version → key.client ≡ client → is_entry h key.name key ≡ false → IsDead h key other → ⊥
+own_entry_is_not_dead h other client key i apart kind own fresh dead = elim dead [
   | inl u ↦ table_is_not_version key.name key (reached_is_table h key i u.once) kind
   | inr rest ↦ elim rest [
     | inl p ↦ cc (p.staged, kind)
-    | inr o ↦ apart (sym o.own ∙ own)
+    | inr later ↦ elim later [ inl o ↦ apart (sym o.own ∙ own) | inr r ↦ true≢false (sym r.once ∙ fresh) ]
   ]
 ]
 
@@ -144,12 +149,20 @@ module _ (h : History) (x : Event) (client : ℕ) (symbol : Name) (claim : IsCla
             | false ↦ λ f. unstaged more ls f
           ] e
 
+  new_index_of : (key : Key) → IsNewIndex h client symbol key → IsNewIndex (x ∷ h) client symbol key
+  new_index_of key n = record {
+    kind = n.kind;
+    name = n.name;
+    stands = stored_stays h x key (ap is_put n.kind) (not_dead_here h x key (λ dead. fresh_is_not_dead h (author x) client symbol key i apart (record { name = n.name; kind = inr n.kind }) n.fresh dead)) claim n.stands;
+    fresh = fresh_of key n.name n.fresh;
+  }
+
   key_of_link : (key : Key) → MayNameKey h client symbol key → MayNameKey (x ∷ h) client symbol key
   key_of_link key m = record {
     kind = m.kind;
     name = m.name;
     stands = stored_stays h x key (ap is_put m.kind) (not_dead_here h x key (λ dead. elim m.fresh_or_shared [
-      | inl fresh ↦ fresh_is_not_dead h (author x) client key apart (λ e. cc (e, m.kind)) fresh dead
+      | inl fresh ↦ fresh_is_not_dead h (author x) client symbol key i apart (record { name = m.name; kind = inl m.kind }) fresh dead
       | inr shared ↦ shared_is_not_dead h (author x) symbol key i shared dead
     ])) claim m.stands;
     fresh_or_shared = elim m.fresh_or_shared [ inl fresh ↦ inl (fresh_of key m.name fresh) | inr shared ↦ inr (newest_of key shared) ];
@@ -161,13 +174,11 @@ module _ (h : History) (x : Event) (client : ℕ) (symbol : Name) (claim : IsCla
     stamp = f.stamp;
     rows = f.rows;
     storable = f.storable;
-    index_name = f.index_name;
-    index_kind = f.index_kind;
-    index_stands = stored_stays h x row.index (ap is_put f.index_kind)
-        (not_dead_here h x row.index (λ dead. fresh_is_not_dead h (author x) client row.index apart (λ e. cc (e, f.index_kind)) f.index_fresh dead)) claim f.index_stands;
-    index_fresh = fresh_of row.index f.index_name f.index_fresh;
+    new_index = new_index_of row.index f.new_index;
     link = f.link;
     link_is = linked_stays h (x ∷ h) (put_stays h x once) row f.link f.link_is;
+    new_pages = all_weaker (λ (p : Page). IsNewIndex h client symbol p.row.key) (λ (p : Page). IsNewIndex (x ∷ h) client symbol p.row.key) (λ p n. new_index_of p.row.key n) f.link.pages f.new_pages;
+    pages_fit = f.pages_fit;
     schema = f.schema;
     index_rows = f.index_rows;
     keys = all_weaker (λ (s : Slot). MayNameKey h client symbol s.key) (λ (s : Slot). MayNameKey (x ∷ h) client symbol s.key) (λ s m. key_of_link s.key m) f.link.index.slots f.keys;
@@ -184,6 +195,7 @@ module _ (h : History) (x : Event) (client : ℕ) (symbol : Name) (claim : IsCla
   version_of_staging more (changes.Held holder version) = refl
   version_of_staging more (changes.Released holder) = refl
   version_of_staging more (changes.Discarded pieces) = refl
+  version_of_staging more changes.Restated = refl
 
   open_of : (more : List Piece) (st : State) (name : PieceName) → list_any (λ (p : Piece). same_piece name p.name) (open_pieces st) ≡ true → list_any (λ (p : Piece). same_piece name p.name) (open_pieces (staging more st)) ≡ true
   open_of more st name e =
@@ -217,6 +229,7 @@ module _ (h : History) (x : Event) (client : ℕ) (symbol : Name) (claim : IsCla
           | inr gone ↦ inr (has_unnamed_stays h x client holder gone)
         ];
       }
+  mark_of changes.Restated f = f
   mark_of (changes.Discarded pieces) f =
       let st = state_stays h symbol x other in
       subst (λ s. FitsDiscarded s pieces) (sym st.1) (record {
@@ -241,16 +254,38 @@ module _ (h : History) (x : Event) (client : ℕ) (symbol : Name) (claim : IsCla
   buries_of : (list : List Change) (more : List Piece) → BuriesAll (state_of h symbol) list → BuriesAll (staging more (state_of h symbol)) list
   buries_of list more b = b
 
+  -- what the state tells does not depend on what is staged
+  tells_of : (told : WholeState) → TellsState h symbol told → TellsState (x ∷ h) symbol told
+  tells_of told t =
+      let st = state_stays h symbol x other in
+      record {
+        links = t.links ∙ ((λ i. reverse (map (told_link (staging st.0 (state_of h symbol))) (sym (links_stay h symbol x other) i))) ∙ ap (λ s. reverse (map (told_link s) (links (x ∷ h) symbol))) (sym st.1));
+        holds = subst (λ s. AsOften (map hold_of told.holds) s.holds) (sym st.1) t.holds;
+        pieces = subst (λ s. AsOften told.pieces s.consumed) (sym st.1) t.pieces;
+      }
+
   pub refer_claim_stays : (was : Option Key) (entry : Key) (list : List Change) → MayRefer h client symbol was entry list → MayRefer (x ∷ h) client symbol was entry list
   refer_claim_stays was entry list may = record {
     kind = may.kind;
     name = may.name;
     own = may.own;
-    stands = stored_stays h x entry (ap is_put may.kind) (not_dead_here h x entry (own_entry_is_not_dead h (author x) client entry i apart may.kind may.own)) claim may.stands;
+    stands = stored_stays h x entry (ap is_put may.kind)
+        (not_dead_here h x entry (own_entry_is_not_dead h (author x) client entry i apart may.kind may.own (subst (λ s. is_entry h s entry ≡ false) (sym may.name) may.fresh))) claim may.stands;
     fresh = subst (λ ks. list_any (λ k. same_key k entry) ks ≡ false) (sym (entries_stay h symbol x other)) may.fresh;
-    form = may.form;
-    row = may.row;
-    spelled = element_stays h (x ∷ h) (put_stays h x once) entry _ may.spelled;
-    fits = all_weaker (FitsChange h client symbol may.row) (FitsChange (x ∷ h) client symbol may.row) (change_of may.row) list may.fits;
-    prunes = let st = state_stays h symbol x other in subst (λ s. BuriesAll s list) (sym st.1) (buries_of list st.0 may.prunes);
+    how = elim may.how [
+      | inl change ↦ inl (record {
+        form = change.form;
+        row = change.row;
+        spelled = element_stays h (x ∷ h) (put_stays h x once) entry _ change.spelled;
+        fits = all_weaker (FitsChange h client symbol change.row) (FitsChange (x ∷ h) client symbol change.row) (change_of change.row) list change.fits;
+        prunes = let st = state_stays h symbol x other in subst (λ s. BuriesAll s list) (sym st.1) (buries_of list st.0 change.prunes);
+      })
+      | inr restate ↦ inr (record {
+        not_yet = restate.not_yet;
+        alone = restate.alone;
+        told = restate.told;
+        spelled = element_stays h (x ∷ h) (put_stays h x once) entry _ restate.spelled;
+        tells = tells_of restate.told restate.tells;
+      })
+    ];
   }

@@ -16,7 +16,7 @@ use Rattle.store_model.specs.ChainText.{snap_of}
 use Rattle.store_model.specs.Snapshots.{snap_body}
 use Rattle.store_model.specs.Law.{IsLawful, IsDead}
 use Rattle.store_model.specs.Intact.{IsIntact, IsTableKey, IsShown}
-use Rattle.store_model.proofs.Dropping.{reached_is_table}
+use Rattle.store_model.proofs.Dropping.{reached_is_table, retold_is_version}
 use Rattle.store_model.proofs.Putting.{spelled_is_put}
 use Rattle.store_model.proofs.Lawful.{lawful_is_intact}
 use Rattle.store_model.proofs.Stability.{is_false}
@@ -43,7 +43,10 @@ own_is_put kinds.Staged e = refl
 dead_is_put : (h : History) (key : Key) (client : ℕ) → IsIntact h → IsDead h key client → is_put key.kind ≡ true
 dead_is_put h key client i dead = elim dead [
   | inl u ↦ table_is_put key.name key (reached_is_table h key i u.once)
-  | inr rest ↦ elim rest [ inl p ↦ ap is_put p.staged | inr o ↦ own_is_put key.kind o.table ]
+  | inr rest ↦ elim rest [
+    | inl p ↦ ap is_put p.staged
+    | inr later ↦ elim later [ inl o ↦ own_is_put key.kind o.table | inr r ↦ ap is_put (retold_is_version h key i r) ]
+  ]
 ]
 
 -- keys of one kind that are no client's are the same where their names are

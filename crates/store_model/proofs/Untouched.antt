@@ -97,4 +97,4 @@ has_moved_on h more symbol lawful e = by (reference h symbol) refl
 
 -- an own put may be dropped
 pub own_may_drop : (h : History) (client : ℕ) (key : Key) (body : Bytes) → IsOwnPut h client key body → MayTryDrop IsClaimed h client key
-own_may_drop h client key body o = inl (ap is_some o.stands, inr (inr o.unlinked))
+own_may_drop h client key body o = inl (ap is_some o.stands, inr (inr (inl o.unlinked)))

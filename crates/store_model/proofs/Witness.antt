@@ -14,6 +14,7 @@ use Rattle.segment_bytes.specs.Segments.{segment_text, segment_of, sheet_spelled
 use Rattle.index_tree.specs.declared.index.Slot.{Slot}
 use Rattle.index_tree.specs.declared.index.Index.{Index}
 use Rattle.index_tree.specs.IndexText.{index_text, index_of}
+use Rattle.index_tree.specs.PageText.{object_of}
 use Rattle.segment_cut.specs.Tiles.{Tile, Tiled, has_cell, has_row}
 use Rattle.key_kind.specs.declared.key.KeyKind.{KeyKind}
 use Rattle.key_kind.specs.declared.key.KeyKind.TheVariants as kinds
@@ -116,7 +117,7 @@ unfolding segment_text sheet_text cells_text segment_of sheet_spelled sheet_at r
 tile_claim = record { key_is = (table_key_rules kinds.TableData 0).0; fits = table_fits kinds.TableData 0 (lit< tt); own = refl; next = refl; spelled = refl }
 
 pub index_claim : MayPut (put_tile ∷ []) 1 (table_key kinds.TableIndex 1) (index_text index)
-unfolding index_of head_at type_at length_at name_at text_at is_utf8 chars encode key_at key_text signed_text
+unfolding object_of index_of head_at type_at length_at name_at text_at is_utf8 chars encode key_at key_text signed_text
 index_claim = record { key_is = (table_key_rules kinds.TableIndex 1).1; fits = table_fits kinds.TableIndex 1 (lit< tt); own = refl; next = refl; spelled = refl }
 
 pub first_claim : MayPut (put_index ∷ put_tile ∷ []) 1 (key kinds.Version 2) (entry_text first_entry)
@@ -143,18 +144,17 @@ tiled = record { inside = ((lit≤ tt, lit≤ tt), tt); parts = (refl, tt); cell
     one_row (suc r) h = absurd (omega (arith, h))
 
 link_fits : FitsLink (put_first ∷ put_index ∷ put_tile ∷ []) 1 S row (record { number = 0; stamp = pos 50; frame = table })
-unfolding index_of segment_text sheet_text cells_text segment_of sheet_spelled sheet_at rows_at count_at stamps_at stamp_at columns_at series_at head_at type_at length_at name_at text_at cells_at is_utf8 chars encode signed_text key_at key_text
+unfolding object_of index_of segment_text sheet_text cells_text segment_of sheet_spelled sheet_at rows_at count_at stamps_at stamp_at columns_at series_at head_at type_at length_at name_at text_at cells_at is_utf8 chars encode signed_text key_at key_text
 link_fits = record {
   number = refl;
   stamp = refl;
   rows = refl;
   storable = table_storable;
-  index_name = refl;
-  index_kind = refl;
-  index_stands = refl;
-  index_fresh = record { own = refl; unreached = refl };
-  link = record { row = row; index = index; tiles = (part, table) ∷ [] };
+  new_index = record { kind = refl; name = refl; stands = refl; fresh = record { own = refl; unreached = refl } };
+  link = record { row = row; pages = []; index = index; tiles = (part, table) ∷ [] };
   link_is = refl;
+  new_pages = tt;
+  pages_fit = tt;
   schema = refl;
   index_rows = refl;
   keys = (record { kind = refl; name = refl; stands = refl; fresh_or_shared = inl (record { own = refl; unreached = refl }) }, tt);
@@ -170,11 +170,7 @@ write_claim = record {
   own = refl;
   stands = refl;
   fresh = refl;
-  form = making (changes.Wrote table (pos 50)) refl (no_tombs no_pieces);
-  row = row;
-  spelled = refl;
-  fits = ((link_fits, tt), tt);
-  prunes = tt;
+  how = inl (record { form = making (changes.Wrote table (pos 50)) refl (no_tombs no_pieces); row = row; spelled = refl; fits = ((link_fits, tt), tt); prunes = tt });
 }
 
 second_claim : MayPut written 1 (key kinds.Version 3) (entry_text second_entry)
@@ -189,19 +185,15 @@ delete_claim = record {
   own = refl;
   stands = refl;
   fresh = refl;
-  form = marking (changes.Removed (0 ∷ [])) refl;
-  row = row;
-  spelled = refl;
-  fits = ((tt, record { some = tt; rising = tt; live = (refl, tt) }), tt);
-  prunes = tt;
+  how = inl (record { form = marking (changes.Removed (0 ∷ [])) refl; row = row; spelled = refl; fits = ((tt, record { some = tt; rising = tt; live = (refl, tt) }), tt); prunes = tt });
 }
 
 tile_dead : IsUnneeded deleted (table_key kinds.TableData 0)
-unfolding index_of entry_of segment_text sheet_text cells_text segment_of sheet_spelled sheet_at rows_at count_at stamps_at stamp_at columns_at series_at head_at type_at length_at name_at text_at cells_at is_utf8 chars encode signed_text key_at key_text
+unfolding object_of index_of entry_of segment_text sheet_text cells_text segment_of sheet_spelled sheet_at rows_at count_at stamps_at stamp_at columns_at series_at head_at type_at length_at name_at text_at cells_at is_utf8 chars encode signed_text key_at key_text
 tile_dead = record { once = refl; no_more = refl }
 
 index_dead : IsUnneeded (events.Drop 1 (table_key kinds.TableData 0) ∷ deleted) (table_key kinds.TableIndex 1)
-unfolding index_of entry_of segment_text sheet_text cells_text segment_of sheet_spelled sheet_at rows_at count_at stamps_at stamp_at columns_at series_at head_at type_at length_at name_at text_at cells_at is_utf8 chars encode signed_text key_at key_text
+unfolding object_of index_of entry_of segment_text sheet_text cells_text segment_of sheet_spelled sheet_at rows_at count_at stamps_at stamp_at columns_at series_at head_at type_at length_at name_at text_at cells_at is_utf8 chars encode signed_text key_at key_text
 index_dead = record { once = refl; no_more = refl }
 
 -- the whole history: eight events

@@ -11,6 +11,7 @@ use lib.Utf8.{encode}
 use Rattle.segment_bytes.specs.Segments.{segment_text, segment_of, sheet_spelled}
 use Rattle.index_tree.specs.declared.index.Index.{Index}
 use Rattle.index_tree.specs.IndexText.{index_text, index_of}
+use Rattle.index_tree.specs.PageText.{object_of}
 use Rattle.key_kind.specs.declared.key.Key.{Key}
 use Rattle.key_kind.specs.declared.key.KeyKind.TheVariants as kinds
 use Rattle.key_kind.specs.KeyText.{key_at, key_text}
@@ -66,7 +67,7 @@ abbrev pub cleared : History
 cleared = events.Refer 1 S (Some (w.key kinds.Version 2)) (w.key kinds.Version 4) (changes.Updated nothing range (pos 60) ∷ []) ∷ put_clear ∷ put_empty ∷ w.written
 
 empty_claim : MayPut w.written 1 index_key (index_text empty_index)
-unfolding index_of head_at type_at length_at name_at text_at is_utf8 chars encode key_at key_text signed_text
+unfolding object_of index_of head_at type_at length_at name_at text_at is_utf8 chars encode key_at key_text signed_text
 empty_claim = record {
   key_is = record { name = w.name_S; made = λ e. absurd cc; version = λ e. absurd cc; stamps = λ e. absurd cc };
   fits = record { client = lit< tt; serial = lit< tt; version = lit< tt; first = fits_signed_from_abs w64 (pos 0) (lit< tt); last = fits_signed_from_abs w64 (pos 0) (lit< tt) };
@@ -86,18 +87,17 @@ nothing_tiled : Tiled nothing []
 nothing_tiled = record { inside = tt; parts = tt; cells = λ r c below k. absurd (omega (arith, below)); rows = λ r below. absurd (omega (arith, below)) }
 
 clear_fits : FitsLink (put_clear ∷ put_empty ∷ w.written) 1 S empty_row (record { number = 1; stamp = pos 60; frame = nothing })
-unfolding index_of entry_of segment_text sheet_text cells_text segment_of sheet_spelled sheet_at rows_at count_at stamps_at stamp_at columns_at series_at head_at type_at length_at name_at text_at cells_at is_utf8 chars encode signed_text key_at key_text
+unfolding object_of index_of entry_of segment_text sheet_text cells_text segment_of sheet_spelled sheet_at rows_at count_at stamps_at stamp_at columns_at series_at head_at type_at length_at name_at text_at cells_at is_utf8 chars encode signed_text key_at key_text
 clear_fits = record {
   number = refl;
   stamp = refl;
   rows = refl;
   storable = nothing_storable;
-  index_name = refl;
-  index_kind = refl;
-  index_stands = refl;
-  index_fresh = record { own = refl; unreached = refl };
-  link = record { row = empty_row; index = empty_index; tiles = [] };
+  new_index = record { kind = refl; name = refl; stands = refl; fresh = record { own = refl; unreached = refl } };
+  link = record { row = empty_row; pages = []; index = empty_index; tiles = [] };
   link_is = refl;
+  new_pages = tt;
+  pages_fit = tt;
   schema = refl;
   index_rows = refl;
   keys = tt;
@@ -116,11 +116,7 @@ clear_claim = record {
   own = refl;
   stands = refl;
   fresh = refl;
-  form = making (changes.Updated nothing range (pos 60)) refl (no_tombs no_pieces);
-  row = empty_row;
-  spelled = refl;
-  fits = ((clear_fits, in_order), tt);
-  prunes = tt;
+  how = inl (record { form = making (changes.Updated nothing range (pos 60)) refl (no_tombs no_pieces); row = empty_row; spelled = refl; fits = ((clear_fits, in_order), tt); prunes = tt });
 }
 
 -- seven events
@@ -177,7 +173,7 @@ unfolding segment_text sheet_text cells_text segment_of sheet_spelled sheet_at r
 tile_claim = record { key_is = (w.table_key_rules kinds.TableData 1).0; fits = w.table_fits kinds.TableData 1 (lit< tt); own = refl; next = refl; spelled = refl }
 
 index_claim : MayPut (put_tile ∷ put_piece ∷ []) 1 (w.table_key kinds.TableIndex 2) (index_text final_index)
-unfolding index_of head_at type_at length_at name_at text_at is_utf8 chars encode key_at key_text signed_text
+unfolding object_of index_of head_at type_at length_at name_at text_at is_utf8 chars encode key_at key_text signed_text
 index_claim = record { key_is = (w.table_key_rules kinds.TableIndex 2).1; fits = w.table_fits kinds.TableIndex 2 (lit< tt); own = refl; next = refl; spelled = refl }
 
 final_put_claim : MayPut (put_index ∷ put_tile ∷ put_piece ∷ []) 1 (w.key kinds.Version 3) (entry_text final_entry)
@@ -185,18 +181,17 @@ unfolding entry_of key_at key_text signed_text
 final_put_claim = record { key_is = w.version_key_rules 3; fits = w.version_fits 3 (lit< tt); own = refl; next = refl; spelled = refl }
 
 final_fits : FitsLink prepared 1 S final_row (record { number = 0; stamp = pos 60; frame = w.table })
-unfolding index_of entry_of segment_text sheet_text cells_text segment_of sheet_spelled sheet_at rows_at count_at stamps_at stamp_at columns_at series_at head_at type_at length_at name_at text_at cells_at is_utf8 chars encode signed_text key_at key_text
+unfolding object_of index_of entry_of segment_text sheet_text cells_text segment_of sheet_spelled sheet_at rows_at count_at stamps_at stamp_at columns_at series_at head_at type_at length_at name_at text_at cells_at is_utf8 chars encode signed_text key_at key_text
 final_fits = record {
   number = refl;
   stamp = refl;
   rows = refl;
   storable = w.table_storable;
-  index_name = refl;
-  index_kind = refl;
-  index_stands = refl;
-  index_fresh = record { own = refl; unreached = refl };
-  link = record { row = final_row; index = final_index; tiles = (w.part, w.table) ∷ [] };
+  new_index = record { kind = refl; name = refl; stands = refl; fresh = record { own = refl; unreached = refl } };
+  link = record { row = final_row; pages = []; index = final_index; tiles = (w.part, w.table) ∷ [] };
   link_is = refl;
+  new_pages = tt;
+  pages_fit = tt;
   schema = refl;
   index_rows = refl;
   keys = (record { kind = refl; name = refl; stands = refl; fresh_or_shared = inl (record { own = refl; unreached = refl }) }, tt);
@@ -212,11 +207,7 @@ final_claim = record {
   own = refl;
   stands = refl;
   fresh = refl;
-  form = making (changes.Wrote w.table (pos 60)) refl (no_tombs (some_pieces (piece ∷ [])));
-  row = final_row;
-  spelled = refl;
-  fits = ((final_fits, tt), ((tt, record { some = tt; rising = tt; staged = (refl, tt) }), tt));
-  prunes = tt;
+  how = inl (record { form = making (changes.Wrote w.table (pos 60)) refl (no_tombs (some_pieces (piece ∷ []))); row = final_row; spelled = refl; fits = ((final_fits, tt), ((tt, record { some = tt; rising = tt; staged = (refl, tt) }), tt)); prunes = tt });
 }
 
 -- five events

@@ -8,6 +8,7 @@ use Rattle.std.specs.Str.{is_utf8, chars}
 use lib.Utf8.{encode}
 use Rattle.segment_bytes.specs.Segments.{segment_of, segment_text, sheet_spelled}
 use Rattle.index_tree.specs.IndexText.{index_of}
+use Rattle.index_tree.specs.PageText.{object_of}
 use Rattle.key_kind.specs.declared.key.Holder.{Holder}
 use Rattle.key_kind.specs.declared.key.KeyKind.TheVariants as kinds
 use Rattle.key_kind.specs.KeyText.{key_at, key_text}
@@ -78,15 +79,11 @@ hold_claim = record {
   own = refl;
   stands = refl;
   fresh = refl;
-  form = marking (changes.Held holder 0) refl;
-  row = w.row;
-  spelled = refl;
-  fits = ((tt, record { live = refl; own = refl; begun = lit< tt; unused = refl; unnamed = refl }), tt);
-  prunes = tt;
+  how = inl (record { form = marking (changes.Held holder 0) refl; row = w.row; spelled = refl; fits = ((tt, record { live = refl; own = refl; begun = lit< tt; unused = refl; unnamed = refl }), tt); prunes = tt });
 }
 
 name_claim : MayName held 1 (snap_text snapshot)
-unfolding snap_of index_of entry_of segment_text sheet_text cells_text segment_of sheet_spelled sheet_at rows_at count_at stamps_at stamp_at columns_at series_at head_at type_at length_at name_at text_at cells_at is_utf8 chars encode signed_text key_at key_text
+unfolding snap_of object_of index_of entry_of segment_text sheet_text cells_text segment_of sheet_spelled sheet_at rows_at count_at stamps_at stamp_at columns_at series_at head_at type_at length_at name_at text_at cells_at is_utf8 chars encode signed_text key_at key_text
 name_claim = record { snapshot = snapshot; spelled = refl; own = refl; unnamed = refl; rows = ((refl, refl), tt) }
 
 put_tomb_claim : MayPut kept 1 (w.key kinds.Version 4) (entry_text (entry 3 (marks.Tomb 0)))
@@ -101,11 +98,7 @@ tomb_claim = record {
   own = refl;
   stands = refl;
   fresh = refl;
-  form = marking (changes.Removed (0 ∷ [])) refl;
-  row = w.row;
-  spelled = refl;
-  fits = ((tt, record { some = tt; rising = tt; live = (refl, tt) }), tt);
-  prunes = tt;
+  how = inl (record { form = marking (changes.Removed (0 ∷ [])) refl; row = w.row; spelled = refl; fits = ((tt, record { some = tt; rising = tt; live = (refl, tt) }), tt); prunes = tt });
 }
 
 put_release_claim : MayPut unnamed 1 (w.key kinds.Version 5) (entry_text (entry 4 (marks.Release holder)))
@@ -120,19 +113,15 @@ release_claim = record {
   own = refl;
   stands = refl;
   fresh = refl;
-  form = marking (changes.Released holder) refl;
-  row = w.row;
-  spelled = refl;
-  fits = ((tt, record { held = refl; allowed = inr refl }), tt);
-  prunes = tt;
+  how = inl (record { form = marking (changes.Released holder) refl; row = w.row; spelled = refl; fits = ((tt, record { held = refl; allowed = inr refl }), tt); prunes = tt });
 }
 
 tile_dead : IsUnneeded released (w.table_key kinds.TableData 0)
-unfolding index_of entry_of segment_text sheet_text cells_text segment_of sheet_spelled sheet_at rows_at count_at stamps_at stamp_at columns_at series_at head_at type_at length_at name_at text_at cells_at is_utf8 chars encode signed_text key_at key_text
+unfolding object_of index_of entry_of segment_text sheet_text cells_text segment_of sheet_spelled sheet_at rows_at count_at stamps_at stamp_at columns_at series_at head_at type_at length_at name_at text_at cells_at is_utf8 chars encode signed_text key_at key_text
 tile_dead = record { once = refl; no_more = refl }
 
 index_dead : IsUnneeded (events.Drop 1 (w.table_key kinds.TableData 0) ∷ released) (w.table_key kinds.TableIndex 1)
-unfolding index_of entry_of segment_text sheet_text cells_text segment_of sheet_spelled sheet_at rows_at count_at stamps_at stamp_at columns_at series_at head_at type_at length_at name_at text_at cells_at is_utf8 chars encode signed_text key_at key_text
+unfolding object_of index_of entry_of segment_text sheet_text cells_text segment_of sheet_spelled sheet_at rows_at count_at stamps_at stamp_at columns_at series_at head_at type_at length_at name_at text_at cells_at is_utf8 chars encode signed_text key_at key_text
 index_dead = record { once = refl; no_more = refl }
 
 -- the whole history: fourteen events

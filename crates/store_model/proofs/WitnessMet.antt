@@ -10,6 +10,7 @@ use Rattle.std.specs.Str.{is_utf8, chars}
 use lib.Utf8.{encode}
 use Rattle.segment_bytes.specs.Segments.{segment_text, segment_of, sheet_spelled}
 use Rattle.index_tree.specs.IndexText.{index_text, index_of}
+use Rattle.index_tree.specs.PageText.{object_of}
 use Rattle.key_kind.specs.declared.key.KeyKind.TheVariants as kinds
 use Rattle.key_kind.specs.Keys.{IsKey, FitsFields}
 use Rattle.key_kind.specs.KeyText.{key_at, key_text}
@@ -61,7 +62,7 @@ unfolding segment_text sheet_text cells_text segment_of sheet_spelled sheet_at r
 tile_claim_3 = record { key_is = tile_rules 3 0; fits = tile_fits 3 0 (lit< tt) (lit< tt); own = refl; next = refl; spelled = refl }
 
 index_claim_3 : MayPut (shared.put_tile 3 0 ∷ w.written) 3 (shared.index_key 3 1) (index_text (shared.index 3 0))
-unfolding index_of head_at type_at length_at name_at text_at is_utf8 chars encode key_at key_text signed_text
+unfolding object_of index_of head_at type_at length_at name_at text_at is_utf8 chars encode key_at key_text signed_text
 index_claim_3 = record { key_is = index_rules 3 1; fits = index_fits 3 1 (lit< tt) (lit< tt); own = refl; next = refl; spelled = refl }
 
 element_claim_3 : MayPut (shared.put_index 3 1 0 ∷ shared.put_tile 3 0 ∷ w.written) 3 (shared.element_key 3 2) (entry_text (shared.entry 3 1))
@@ -73,7 +74,7 @@ unfolding segment_text sheet_text cells_text segment_of sheet_spelled sheet_at r
 tile_claim_2 = record { key_is = tile_rules 2 0; fits = tile_fits 2 0 (lit< tt) (lit< tt); own = refl; next = refl; spelled = refl }
 
 index_claim_2 : MayPut (shared.put_tile 2 0 ∷ put_3) 2 (shared.index_key 2 1) (index_text (shared.index 2 0))
-unfolding index_of head_at type_at length_at name_at text_at is_utf8 chars encode key_at key_text signed_text
+unfolding object_of index_of head_at type_at length_at name_at text_at is_utf8 chars encode key_at key_text signed_text
 index_claim_2 = record { key_is = index_rules 2 1; fits = index_fits 2 1 (lit< tt) (lit< tt); own = refl; next = refl; spelled = refl }
 
 element_claim_2 : MayPut (shared.put_index 2 1 0 ∷ shared.put_tile 2 0 ∷ put_3) 2 (shared.element_key 2 2) (entry_text (shared.entry 2 1))
@@ -83,18 +84,17 @@ element_claim_2 = record { key_is = element_rules 2 2; fits = element_fits 2 2 (
 -- ---- the Refer
 
 link_fits : FitsLink put_both 2 S (shared.row 2 1) (record { number = 1; stamp = pos 60; frame = shared.both })
-unfolding index_of entry_of segment_text sheet_text cells_text segment_of sheet_spelled sheet_at rows_at count_at stamps_at stamp_at columns_at series_at head_at type_at length_at name_at text_at cells_at is_utf8 chars encode signed_text key_at key_text
+unfolding object_of index_of entry_of segment_text sheet_text cells_text segment_of sheet_spelled sheet_at rows_at count_at stamps_at stamp_at columns_at series_at head_at type_at length_at name_at text_at cells_at is_utf8 chars encode signed_text key_at key_text
 link_fits = record {
   number = refl;
   stamp = refl;
   rows = refl;
   storable = shared.storable;
-  index_name = refl;
-  index_kind = refl;
-  index_stands = refl;
-  index_fresh = record { own = refl; unreached = refl };
-  link = record { row = shared.row 2 1; index = shared.index 2 0; tiles = shared.tiles };
+  new_index = record { kind = refl; name = refl; stands = refl; fresh = record { own = refl; unreached = refl } };
+  link = record { row = shared.row 2 1; pages = []; index = shared.index 2 0; tiles = shared.tiles };
   link_is = refl;
+  new_pages = tt;
+  pages_fit = tt;
   schema = refl;
   index_rows = refl;
   keys = (
@@ -113,35 +113,31 @@ append_claim = record {
   own = refl;
   stands = refl;
   fresh = refl;
-  form = making (changes.Appended shared.added (pos 60)) refl (no_tombs no_pieces);
-  row = shared.row 2 1;
-  spelled = refl;
-  fits = ((link_fits, tt), tt);
-  prunes = tt;
+  how = inl (record { form = making (changes.Appended shared.added (pos 60)) refl (no_tombs no_pieces); row = shared.row 2 1; spelled = refl; fits = ((link_fits, tt), tt); prunes = tt });
 }
 
 -- ---- the drops of own keys that nothing links
 
 tile_dead : IsOwnUnlinked accepted (shared.tile_key 3 0) 3
-unfolding index_of entry_of segment_text sheet_text cells_text segment_of sheet_spelled sheet_at rows_at count_at stamps_at stamp_at columns_at series_at head_at type_at length_at name_at text_at cells_at is_utf8 chars encode signed_text key_at key_text
+unfolding object_of index_of entry_of segment_text sheet_text cells_text segment_of sheet_spelled sheet_at rows_at count_at stamps_at stamp_at columns_at series_at head_at type_at length_at name_at text_at cells_at is_utf8 chars encode signed_text key_at key_text
 tile_dead = record { own = refl; table = refl; unreached = refl; no_entry = refl }
 
 index_dead : IsOwnUnlinked (events.Drop 3 (shared.tile_key 3 0) ∷ accepted) (shared.index_key 3 1) 3
-unfolding index_of entry_of segment_text sheet_text cells_text segment_of sheet_spelled sheet_at rows_at count_at stamps_at stamp_at columns_at series_at head_at type_at length_at name_at text_at cells_at is_utf8 chars encode signed_text key_at key_text
+unfolding object_of index_of entry_of segment_text sheet_text cells_text segment_of sheet_spelled sheet_at rows_at count_at stamps_at stamp_at columns_at series_at head_at type_at length_at name_at text_at cells_at is_utf8 chars encode signed_text key_at key_text
 index_dead = record { own = refl; table = refl; unreached = refl; no_entry = refl }
 
 element_dead : IsOwnUnlinked (events.Drop 3 (shared.index_key 3 1) ∷ events.Drop 3 (shared.tile_key 3 0) ∷ accepted) (shared.element_key 3 2) 3
-unfolding index_of entry_of segment_text sheet_text cells_text segment_of sheet_spelled sheet_at rows_at count_at stamps_at stamp_at columns_at series_at head_at type_at length_at name_at text_at cells_at is_utf8 chars encode signed_text key_at key_text
+unfolding object_of index_of entry_of segment_text sheet_text cells_text segment_of sheet_spelled sheet_at rows_at count_at stamps_at stamp_at columns_at series_at head_at type_at length_at name_at text_at cells_at is_utf8 chars encode signed_text key_at key_text
 element_dead = record { own = refl; table = refl; unreached = refl; no_entry = refl }
 
 -- fourteen events of three clients
 pub met_lawful : IsLawful met
 met_lawful = (
-  (refl, inr (inr element_dead)),
+  (refl, inr (inr (inl element_dead))),
   (
-    (refl, inr (inr index_dead)),
+    (refl, inr (inr (inl index_dead))),
     (
-      (refl, inr (inr tile_dead)),
+      (refl, inr (inr (inl tile_dead))),
       (
         (refl, append_claim),
         ((tt, element_claim_2), ((tt, index_claim_2), ((tt, tile_claim_2), ((tt, element_claim_3), ((tt, index_claim_3), ((tt, tile_claim_3), w.written_lawful)))))),

@@ -11,6 +11,7 @@ use lib.Utf8.{encode}
 use Rattle.segment_bytes.specs.Segments.{segment_text, segment_of, sheet_spelled}
 use Rattle.index_tree.specs.declared.index.Index.{Index}
 use Rattle.index_tree.specs.IndexText.{index_text, index_of}
+use Rattle.index_tree.specs.PageText.{object_of}
 use Rattle.key_kind.specs.declared.key.Key.{Key}
 use Rattle.key_kind.specs.declared.key.KeyKind.{KeyKind}
 use Rattle.key_kind.specs.declared.key.KeyKind.TheVariants as kinds
@@ -71,7 +72,7 @@ unfolding segment_text sheet_text cells_text segment_of sheet_spelled sheet_at r
 tile_claim = record { key_is = record { name = w.name_S; made = λ e. absurd cc; version = λ e. absurd cc; stamps = λ e. absurd cc }; fits = key_fits kinds.TableData 0 (lit< tt); own = refl; next = refl; spelled = refl }
 
 index_claim : MayPut (put_tile ∷ w.written) 3 (key kinds.TableIndex 1) (index_text index)
-unfolding index_of head_at type_at length_at name_at text_at is_utf8 chars encode key_at key_text signed_text
+unfolding object_of index_of head_at type_at length_at name_at text_at is_utf8 chars encode key_at key_text signed_text
 index_claim = record { key_is = record { name = w.name_S; made = λ e. absurd cc; version = λ e. absurd cc; stamps = λ e. absurd cc }; fits = key_fits kinds.TableIndex 1 (lit< tt); own = refl; next = refl; spelled = refl }
 
 element_claim : MayPut (put_index ∷ put_tile ∷ w.written) 3 element_key (entry_text entry)
@@ -85,18 +86,17 @@ element_claim = record {
 }
 
 link_fits : FitsLink prepared 3 S row (record { number = 1; stamp = pos 60; frame = w.table })
-unfolding index_of entry_of segment_text sheet_text cells_text segment_of sheet_spelled sheet_at rows_at count_at stamps_at stamp_at columns_at series_at head_at type_at length_at name_at text_at cells_at is_utf8 chars encode signed_text key_at key_text
+unfolding object_of index_of entry_of segment_text sheet_text cells_text segment_of sheet_spelled sheet_at rows_at count_at stamps_at stamp_at columns_at series_at head_at type_at length_at name_at text_at cells_at is_utf8 chars encode signed_text key_at key_text
 link_fits = record {
   number = refl;
   stamp = refl;
   rows = refl;
   storable = w.table_storable;
-  index_name = refl;
-  index_kind = refl;
-  index_stands = refl;
-  index_fresh = record { own = refl; unreached = refl };
-  link = record { row = row; index = index; tiles = (w.part, w.table) ∷ [] };
+  new_index = record { kind = refl; name = refl; stands = refl; fresh = record { own = refl; unreached = refl } };
+  link = record { row = row; pages = []; index = index; tiles = (w.part, w.table) ∷ [] };
   link_is = refl;
+  new_pages = tt;
+  pages_fit = tt;
   schema = refl;
   index_rows = refl;
   keys = (record { kind = refl; name = refl; stands = refl; fresh_or_shared = inl (record { own = refl; unreached = refl }) }, tt);
@@ -112,19 +112,15 @@ prune_claim = record {
   own = refl;
   stands = refl;
   fresh = refl;
-  form = making (changes.Wrote w.table (pos 60)) refl (some_tombs (0 ∷ []) no_pieces);
-  row = row;
-  spelled = refl;
-  fits = ((link_fits, tt), ((tt, record { some = tt; rising = tt; live = (refl, tt) }), tt));
-  prunes = refl;
+  how = inl (record { form = making (changes.Wrote w.table (pos 60)) refl (some_tombs (0 ∷ []) no_pieces); row = row; spelled = refl; fits = ((link_fits, tt), ((tt, record { some = tt; rising = tt; live = (refl, tt) }), tt)); prunes = refl });
 }
 
 tile_dead : IsUnneeded pruned (w.table_key kinds.TableData 0)
-unfolding index_of entry_of segment_text sheet_text cells_text segment_of sheet_spelled sheet_at rows_at count_at stamps_at stamp_at columns_at series_at head_at type_at length_at name_at text_at cells_at is_utf8 chars encode signed_text key_at key_text
+unfolding object_of index_of entry_of segment_text sheet_text cells_text segment_of sheet_spelled sheet_at rows_at count_at stamps_at stamp_at columns_at series_at head_at type_at length_at name_at text_at cells_at is_utf8 chars encode signed_text key_at key_text
 tile_dead = record { once = refl; no_more = refl }
 
 index_dead : IsUnneeded (events.Drop 3 (w.table_key kinds.TableData 0) ∷ pruned) (w.table_key kinds.TableIndex 1)
-unfolding index_of entry_of segment_text sheet_text cells_text segment_of sheet_spelled sheet_at rows_at count_at stamps_at stamp_at columns_at series_at head_at type_at length_at name_at text_at cells_at is_utf8 chars encode signed_text key_at key_text
+unfolding object_of index_of entry_of segment_text sheet_text cells_text segment_of sheet_spelled sheet_at rows_at count_at stamps_at stamp_at columns_at series_at head_at type_at length_at name_at text_at cells_at is_utf8 chars encode signed_text key_at key_text
 index_dead = record { once = refl; no_more = refl }
 
 -- ten events of two clients

@@ -15,6 +15,7 @@ use Rattle.frame_core.specs.Limits.{IsStorable}
 use Rattle.segment_bytes.specs.Segments.{segment_text, segment_of, sheet_spelled}
 use Rattle.index_tree.specs.declared.index.Index.{Index}
 use Rattle.index_tree.specs.IndexText.{index_text, index_of}
+use Rattle.index_tree.specs.PageText.{object_of}
 use Rattle.segment_cut.specs.Tiles.{Tile, Tiled, has_cell, has_row}
 use Rattle.key_kind.specs.declared.key.Key.{Key}
 use Rattle.key_kind.specs.declared.key.KeyKind.TheVariants as kinds
@@ -106,7 +107,7 @@ unfolding segment_text sheet_text cells_text segment_of sheet_spelled sheet_at r
 tile_claim = record { key_is = tile_rules; fits = tile_fits; own = refl; next = refl; spelled = refl }
 
 index_claim : MayPut (put_tile 2 0 ∷ w.written) 2 (index_key 2 1) (index_text (index 2 0))
-unfolding index_of head_at type_at length_at name_at text_at is_utf8 chars encode key_at key_text signed_text
+unfolding object_of index_of head_at type_at length_at name_at text_at is_utf8 chars encode key_at key_text signed_text
 index_claim = record { key_is = index_rules; fits = index_fits; own = refl; next = refl; spelled = refl }
 
 element_claim : MayPut (put_index 2 1 0 ∷ put_tile 2 0 ∷ w.written) 2 (element_key 2 2) (entry_text (entry 2 1))
@@ -138,18 +139,17 @@ tiled = record { inside = ((lit≤ tt, lit≤ tt), ((lit≤ tt, lit≤ tt), tt))
     one_row (suc (suc r)) h = absurd (omega (arith, h))
 
 link_fits : FitsLink prepared 2 S (row 2 1) (record { number = 1; stamp = pos 60; frame = both })
-unfolding index_of entry_of segment_text sheet_text cells_text segment_of sheet_spelled sheet_at rows_at count_at stamps_at stamp_at columns_at series_at head_at type_at length_at name_at text_at cells_at is_utf8 chars encode signed_text key_at key_text
+unfolding object_of index_of entry_of segment_text sheet_text cells_text segment_of sheet_spelled sheet_at rows_at count_at stamps_at stamp_at columns_at series_at head_at type_at length_at name_at text_at cells_at is_utf8 chars encode signed_text key_at key_text
 link_fits = record {
   number = refl;
   stamp = refl;
   rows = refl;
   storable = storable;
-  index_name = refl;
-  index_kind = refl;
-  index_stands = refl;
-  index_fresh = record { own = refl; unreached = refl };
-  link = record { row = row 2 1; index = index 2 0; tiles = tiles };
+  new_index = record { kind = refl; name = refl; stands = refl; fresh = record { own = refl; unreached = refl } };
+  link = record { row = row 2 1; pages = []; index = index 2 0; tiles = tiles };
   link_is = refl;
+  new_pages = tt;
+  pages_fit = tt;
   schema = refl;
   index_rows = refl;
   keys = (
@@ -168,11 +168,7 @@ append_claim = record {
   own = refl;
   stands = refl;
   fresh = refl;
-  form = making (changes.Appended added (pos 60)) refl (no_tombs no_pieces);
-  row = row 2 1;
-  spelled = refl;
-  fits = ((link_fits, tt), tt);
-  prunes = tt;
+  how = inl (record { form = making (changes.Appended added (pos 60)) refl (no_tombs no_pieces); row = row 2 1; spelled = refl; fits = ((link_fits, tt), tt); prunes = tt });
 }
 
 -- eight events of two clients
@@ -221,11 +217,7 @@ discard_claim = record {
   own = refl;
   stands = refl;
   fresh = refl;
-  form = marking (changes.Discarded (piece ∷ [])) refl;
-  row = w.row;
-  spelled = refl;
-  fits = ((tt, record { some = tt; rising = tt; staged = (refl, tt) }), tt);
-  prunes = tt;
+  how = inl (record { form = marking (changes.Discarded (piece ∷ [])) refl; row = w.row; spelled = refl; fits = ((tt, record { some = tt; rising = tt; staged = (refl, tt) }), tt); prunes = tt });
 }
 
 consumed : IsConsumedPiece discarded piece_key

@@ -1,5 +1,7 @@
 -- A Refer of a whole new frame may be tried: once its tiles, its index and its element are put, it may follow, or the reference has moved on.
-use Rattle.std.proofs.Common.{◌≡◌, ℕ, true, false, List, [], ◌∷◌, ◌++◌, refl, ap, sym, ◌∙◌, subst, inl, inr, Option, Some}
+use Rattle.std.proofs.Common.{◌≡◌, ℕ, true, false, List, [], ◌∷◌, ◌++◌, refl, ap, sym, ◌∙◌, subst, inl, inr, Option, Some, None, cond}
+use Rattle.std.proofs.lemmas.Bool.{eq-eqb}
+use Rattle.key_kind.specs.declared.key.KeyKind.TheVariants as kinds
 use Rattle.std.specs.Prelude.{ℤ, is_some, map, reverse, length, option_map, option_and_then}
 use Rattle.std.specs.List.{list_any, AllByRecursion}
 use Rattle.byte_fields.specs.Reading.{read_of}
@@ -8,7 +10,11 @@ use Rattle.frame_core.specs.Limits.{IsStorable}
 use Rattle.segment_bytes.specs.Segments.{segment_of}
 use Rattle.segment_cut.specs.Tiles.{Tile, cut}
 use Rattle.index_tree.specs.declared.index.Slot.{Slot}
-use Rattle.index_tree.specs.IndexText.{index_of}
+use Rattle.index_tree.specs.declared.index.Index.{Index}
+use Rattle.index_tree.specs.declared.page.Root.{Root}
+use Rattle.index_tree.specs.declared.page.IndexObject.TheVariants as objects
+use Rattle.index_tree.specs.PageText.{object_of}
+use Rattle.index_tree.specs.PageRules.{Page}
 use Rattle.key_kind.specs.declared.key.Key.{Key}
 use Rattle.key_kind.specs.Names.{Name}
 use Rattle.key_kind.specs.Keys.{same_key}
@@ -20,10 +26,10 @@ use Rattle.bucket_core.specs.Calls.{HasMovedOn, MayTryRefer}
 use Rattle.store_model.specs.declared.chain.LinkRow.{LinkRow}
 use Rattle.store_model.specs.ChainText.{entry_of}
 use Rattle.store_model.specs.Library.{State, Version, Piece, state_of, live_versions, next_number, version_of}
-use Rattle.store_model.specs.Links.{linked, frame_put, index_put, tiles_put, with_tile, entries}
-use Rattle.store_model.specs.Commits.{MayRefer, FitsLink, FitsChange, MayNameKey, HasSlotStamps, making, Buries, no_tombs, some_tombs, no_pieces, BuriesAll, marks_of}
+use Rattle.store_model.specs.Links.{linked, frame_put, paged_index, page_slots_of, object_put, page_in, with_page, pages_put, whole_index, index_put, tiles_put, with_tile, entries}
+use Rattle.store_model.specs.Commits.{MayRefer, FitsLink, FitsChange, IsNewIndex, MayNameKey, HasSlotStamps, making, Buries, no_tombs, some_tombs, no_pieces, BuriesAll, marks_of}
 use Rattle.store_model.specs.Law.{IsClaimed}
-use Rattle.store_model.specs.OwnPuts.{IsPutSlot, IsPutLink, IsPutEntry, BuriesLive, buries_none, buries_live, slots_of}
+use Rattle.store_model.specs.OwnPuts.{IsOwnPut, IsPutSlot, IsPutPage, IsPutLink, IsPutEntry, SpellsIndex, whole, rooted, root_with, pages_of, BuriesLive, buries_none, buries_live, slots_of}
 use Rattle.store_model.proofs.Numbering.{versions_numbered, live_may_be_buried}
 use Rattle.store_model.proofs.Untouched.{as_it_was}
 use Rattle.store_model.proofs.StableRefer.{staging}
@@ -60,13 +66,43 @@ module _ (h : History) (client : ℕ) (symbol : Name) (frame : Frame) where
   slot_stamps [] all = tt
   slot_stamps (w ∷ ws) all = (all.0.stamps, slot_stamps ws all.1)
 
+  pages_are_put : (ws : List (Page × Bytes)) → AllByRecursion (IsPutPage h client symbol) ws → pages_put h (map (λ (p : Page). p.row) (pages_of ws)) ≡ Some (pages_of ws)
+  pages_are_put [] all = refl
+  pages_are_put (w ∷ ws) all =
+      let found : object_put h w.0.row.key ≡ Some (objects.Page w.0.slots) = read_put (λ body. read_of (object_of body)) (body_put h w.0.row.key) w.1 (objects.Page w.0.slots) all.0.own.put (ap read_of all.0.spelled) in
+      let one : option_and_then page_in (object_put h w.0.row.key) ≡ Some w.0.slots = ap (option_and_then page_in) found in
+      let rest : pages_put h (map (λ (p : Page). p.row) (pages_of ws)) ≡ Some (pages_of ws) = pages_are_put ws all.1 in
+      λ i. with_page w.0.row (one i) (rest i)
+
+  -- a root with its pages is its index
+  root_is_whole : (r : Root) (pages : List Page) (slots : List Slot) → r.slots ≡ length slots → page_slots_of pages ≡ slots
+      → paged_index r pages ≡ Some (record { pages = pages; index = record { schema = r.schema; rows = r.rows; slots = slots } })
+  root_is_whole r pages slots count same =
+      ap (λ b. cond b (Some (record { pages = pages; index = record { schema = r.schema; rows = r.rows; slots = page_slots_of pages } })) None) (eq-eqb (length (page_slots_of pages)) r.slots (ap length same ∙ sym count))
+      ∙ ap (λ s. Some (record { pages = pages; index = record { schema = r.schema; rows = r.rows; slots = s } })) same
+
+  whole_is_put : (body : Bytes) (i : Index) (pages : List Page) → SpellsIndex body i pages → pages_put h (map (λ (p : Page). p.row) pages) ≡ Some pages
+      → option_and_then (whole_index h) (read_of (object_of body)) ≡ Some (record { pages = pages; index = i })
+  whole_is_put body i _ (whole is) put = ap (λ r. option_and_then (whole_index h) (read_of r)) is
+  whole_is_put body i _ (rooted {pages = pages} is same) put =
+      ap (λ r. option_and_then (whole_index h) (read_of r)) is ∙ (ap (option_and_then (paged_index (root_with i pages))) put ∙ root_is_whole (root_with i pages) pages i.slots refl same)
+
   -- the link of what was put
-  link_is_put : (row : LinkRow) (p : IsPutLink h client symbol frame row) → linked h row ≡ Some (record { row = row; index = p.index; tiles = parts_of frame (slots_of p.slots) })
+  link_is_put : (row : LinkRow) (p : IsPutLink h client symbol frame row) → linked h row ≡ Some (record { row = row; pages = pages_of p.pages; index = p.index; tiles = parts_of frame (slots_of p.slots) })
   link_is_put row p =
-      let found : index_put h row.index ≡ Some p.index = read_put (λ body. read_of (index_of body)) (body_put h row.index) p.body p.index p.own.put (ap read_of p.spelled) in
+      let found : index_put h row.index ≡ Some (record { pages = pages_of p.pages; index = p.index }) =
+      ap (λ o. option_and_then (whole_index h) (option_and_then (λ body. read_of (object_of body)) o)) p.own.put ∙ whole_is_put p.body p.index (pages_of p.pages) p.spelled (pages_are_put p.pages p.each_page) in
       let tiles : tiles_put h p.index.slots ≡ Some (parts_of frame (slots_of p.slots)) = ap (tiles_put h) p.slots_are ∙ tiles_are_put p.slots p.each in
-      ap (λ o. option_and_then (λ i. option_map (λ t. record { row = row; index = i; tiles = t }) (tiles_put h i.slots)) o) found
-      ∙ ap (option_map (λ t. record { row = row; index = p.index; tiles = t })) tiles
+      ap (λ o. option_and_then (λ i. option_map (λ t. record { row = row; pages = i.pages; index = i.index; tiles = t }) (tiles_put h i.index.slots)) o) found
+      ∙ ap (option_map (λ t. record { row = row; pages = pages_of p.pages; index = p.index; tiles = t })) tiles
+
+  -- own keys of an index and of pages are new ones
+  new_index : (key : Key) (body : Bytes) → key.kind ≡ kinds.TableIndex → key.name ≡ symbol → IsOwnPut h client key body → IsNewIndex h client symbol key
+  new_index key body kind name own = record { kind = kind; name = name; stands = ap is_some own.stands; fresh = record { own = own.unlinked.own; unreached = own.unlinked.unreached } }
+
+  new_pages : (ws : List (Page × Bytes)) → AllByRecursion (IsPutPage h client symbol) ws → AllByRecursion (λ (p : Page). IsNewIndex h client symbol p.row.key) (pages_of ws)
+  new_pages [] all = tt
+  new_pages (w ∷ ws) all = (new_index w.0.row.key w.1 all.0.kind all.0.name all.0.own, new_pages ws all.1)
 
   -- it fits the version
   pub put_link_fits : (row : LinkRow) (v : Version) → v.frame ≡ frame → row.version ≡ v.number → row.stamp ≡ v.stamp → row.rows ≡ length frame.rows → IsStorable frame
@@ -76,12 +112,11 @@ module _ (h : History) (client : ℕ) (symbol : Name) (frame : Frame) where
     stamp = stamp;
     rows = rows;
     storable = storable;
-    index_name = p.name;
-    index_kind = p.kind;
-    index_stands = ap is_some p.own.stands;
-    index_fresh = record { own = p.own.unlinked.own; unreached = p.own.unlinked.unreached };
-    link = record { row = row; index = p.index; tiles = parts_of frame (slots_of p.slots) };
+    new_index = new_index row.index p.body p.kind p.name p.own;
+    link = record { row = row; pages = pages_of p.pages; index = p.index; tiles = parts_of frame (slots_of p.slots) };
     link_is = link_is_put row p;
+    new_pages = new_pages p.pages p.each_page;
+    pages_fit = p.pages_fit;
     schema = p.schema;
     index_rows = p.index_rows;
     keys = subst (AllByRecursion (λ (s : Slot). MayNameKey h client symbol s.key)) (sym p.slots_are) (slot_keys p.slots p.each);
@@ -113,11 +148,13 @@ wrote_may_follow h client symbol frame at was entry rest row storable number sta
   own = e.own.unlinked.own;
   stands = ap is_some e.own.stands;
   fresh = subst (λ s. list_any (λ k. same_key k entry) (entries h s) ≡ false) e.name e.own.unlinked.no_entry;
-  form = making (changes.Wrote frame at) refl (buried_form (state_of h symbol) rest buries);
-  row = row;
-  spelled = read_put (λ body. read_of (entry_of body)) (body_put h entry) e.body _ e.own.put (ap read_of e.spelled);
-  fits = ((put_link_fits h client symbol frame row (version_of (state_of h symbol) at frame) refl number stamp rows storable p, tt), buried_fits h client symbol row rest buries);
-  prunes = buried_all (state_of h symbol) frame at rest buries;
+  how = inl (record {
+    form = making (changes.Wrote frame at) refl (buried_form (state_of h symbol) rest buries);
+    row = row;
+    spelled = read_put (λ body. read_of (entry_of body)) (body_put h entry) e.body _ e.own.put (ap read_of e.spelled);
+    fits = ((put_link_fits h client symbol frame row (version_of (state_of h symbol) at frame) refl number stamp rows storable p, tt), buried_fits h client symbol row rest buries);
+    prunes = buried_all (state_of h symbol) frame at rest buries;
+  });
 }
 
 -- what is buried does not depend on what is staged

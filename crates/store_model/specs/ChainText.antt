@@ -1,8 +1,9 @@
 -- The one spelling of a chain element and of a snapshot, and how bytes are read as one, field by field.
 --     entry_text, snap_text      the spelling of an element and of a snapshot
+--     is_compact          gate B: the tag of a Compact
 --     Form                what may come next in an element
 --     entry_of, snap_of   the element and the snapshot that bytes spell, or the fault
-use Rattle.std.specs.Prelude.{ℕ, suc, zero, Bool, true, ◌||◌, ◌&&◌, List, [], ◌∷◌, ◌++◌, length, drop, flat_map, Result, Ok, Err, Option, Some, None, nat_le, nat_lt, nat_eq, if◌then◌else◌}
+use Rattle.std.specs.Prelude.{ℕ, suc, zero, Bool, true, false, ◌||◌, ◌&&◌, not, List, [], ◌∷◌, ◌++◌, length, drop, flat_map, Result, Ok, Err, Option, Some, None, is_some, nat_le, nat_lt, nat_eq, if◌then◌else◌}
 use Rattle.std.specs.Option.{option_map_or}
 use Rattle.std.specs.Int.{w8, w32, w64, to_be_bytes}
 use Rattle.byte_fields.specs.Reading.{Reading, ◌>>=◌, wanted, whole, number_at, signed_at, magic_at, signed_text}
@@ -12,9 +13,12 @@ use Rattle.key_kind.specs.declared.key.Holder.{Holder}
 use Rattle.key_kind.specs.Names.{Name, name_before}
 use Rattle.key_kind.specs.KeyText.{key_text, key_of_at, name_text, name_at}
 use Rattle.bucket_core.specs.declared.event.PieceName.{PieceName}
+use Rattle.store_model.specs.declared.chain.LinkRow.{LinkRow}
+use Rattle.store_model.specs.declared.chain.ToldLink.{ToldLink}
 use Rattle.store_model.specs.declared.chain.ChainMark.{ChainMark}
 use Rattle.store_model.specs.declared.chain.ChainMark.TheVariants as marks
 use Rattle.store_model.specs.declared.chain.Entry.{Entry}
+use Rattle.store_model.specs.declared.hold.HoldRow.{HoldRow}
 use Rattle.store_model.specs.declared.snapshot.SnapRow.{SnapRow}
 use Rattle.store_model.specs.declared.snapshot.SnapBody.{SnapBody}
 
@@ -28,13 +32,28 @@ holder_text h = to_be_bytes w32 h.client ++ to_be_bytes w64 h.serial
 abbrev pub piece_text : PieceName → List ℕ
 piece_text p = to_be_bytes w32 p.client ++ to_be_bytes w64 p.serial
 
+-- the spelling of a link
+abbrev pub link_text : LinkRow → List ℕ
+link_text l = to_be_bytes w64 l.version ++ signed_text l.stamp ++ to_be_bytes w32 l.rows ++ key_text l.index
+
+-- a link, and a byte 1 where it is live, or 0
+abbrev pub told_text : ToldLink → List ℕ
+told_text l = link_text l.row ++ (if l.live then 1 else 0) ∷ []
+
+-- the spelling of a hold
+abbrev pub hold_text : HoldRow → List ℕ
+hold_text w = holder_text w.holder ++ to_be_bytes w64 w.version
+
 -- the spelling of a mark
 abbrev pub mark_text : ChainMark → List ℕ
-mark_text (marks.Link l) = 1 ∷ (to_be_bytes w64 l.version ++ signed_text l.stamp ++ to_be_bytes w32 l.rows ++ key_text l.index)
+mark_text (marks.Link l) = 1 ∷ link_text l
 mark_text (marks.Tomb version) = 2 ∷ to_be_bytes w64 version
 mark_text (marks.Hold holder version) = 3 ∷ (holder_text holder ++ to_be_bytes w64 version)
 mark_text (marks.Release holder) = 4 ∷ holder_text holder
 mark_text (marks.Discard pieces) = 5 ∷ (to_be_bytes w64 (length pieces) ++ flat_map piece_text pieces)
+mark_text (marks.Compact s) =
+    6 ∷ (to_be_bytes w64 (length s.links) ++ flat_map told_text s.links ++ to_be_bytes w64 (length s.holds) ++ flat_map hold_text s.holds
+    ++ to_be_bytes w64 (length s.pieces) ++ flat_map piece_text s.pieces)
 
 -- a byte 0, or a byte 1 and a key
 abbrev pub optional_key_text : Option Key → List ℕ
@@ -84,26 +103,44 @@ pieces_at before (suc n) bytes = do
       (pieces_at (Some (record { client = client.0; serial = serial.0 })) n serial.1)
   Ok (record { client = client.0; serial = serial.0 } ∷ more.0, more.1)
 
--- what may come next in an element: anything; Tombs or a Discard behind a Link; Tombs alone; nothing
+-- Gate B, closed: no bytes spell a Compact, so none can be put, and an element is read in one of the five forms alone. It opens as
+-- `is_compact tag = nat_eq tag 6`, once version_chain reads and spells a Compact. With it goes: that the readers and writers of version_chain, which
+-- know no Compact, are exact (`IsMark` and `IsForm` of its Entries). Seen to prove with this gate and gate C open: that an element on
+-- another one has no Compact (`no_compact_on_another_element`, with its fault at the tag)
+abbrev pub is_compact : ℕ → Bool
+is_compact tag = false
+
+-- what may come next in an element: anything, and in one that stands on no other also a Compact; Tombs or a Discard behind a Link; Tombs
+-- alone; nothing
 pub data Form : Type 0 where
-  start linked buried ended : Form
+  first start linked buried ended : Form
+
+-- the form behind the first mark of an element on another
+abbrev pub form_started : ℕ → Option Form
+form_started tag = if nat_eq tag 1 then Some linked else if nat_eq tag 2 then Some buried else if nat_le 3 tag && nat_le tag 5 then Some ended else None
 
 -- the form behind a mark of this tag, where it may stand
 abbrev pub form_behind : Form → ℕ → Option Form
-form_behind start tag = if nat_eq tag 1 then Some linked else if nat_eq tag 2 then Some buried else if nat_le 3 tag && nat_le tag 5 then Some ended else None
+form_behind first tag = if is_compact tag then Some ended else form_started tag
+form_behind start tag = form_started tag
 form_behind linked tag = if nat_eq tag 2 then Some linked else if nat_eq tag 5 then Some ended else None
 form_behind buried tag = if nat_eq tag 2 then Some buried else None
 form_behind ended tag = None
+
+-- the form in which an element begins
+abbrev pub form_on : Option Key → Form
+form_on prev = if is_compact 6 && not (is_some prev) then first else start
+
+-- a tag with the form behind it, or a fault at the tag
+abbrev pub form_found : ℕ → List ℕ → Option Form → Reading (ℕ × Form)
+form_found tag rest None = Err (suc (length rest))
+form_found tag rest (Some behind) = Ok ((tag, behind), rest)
 
 -- the next mark's form
 abbrev pub form_at : Form → List ℕ → Reading (ℕ × Form)
 form_at form bytes = do
   tag ← number_at w8 bytes
-  found tag.0 tag.1 (form_behind form tag.0)
-  where
-    found : ℕ → List ℕ → Option Form → Reading (ℕ × Form)
-    found tag rest None = Err (suc (length rest))
-    found tag rest (Some behind) = Ok ((tag, behind), rest)
+  form_found tag.0 tag.1 (form_behind form tag.0)
 
 -- the next Link, behind its tag
 abbrev pub link_at : List ℕ → Reading ChainMark
@@ -140,6 +177,53 @@ discard_at bytes = do
   pieces ← wanted (nat_le 1 n.0) bytes (pieces_at None n.0 n.1)
   Ok (marks.Discard pieces.0, pieces.1)
 
+-- the next link of a Compact, whose version is above the one before it, with a byte 1 where it is live, or 0
+abbrev pub told_link_at : Option ℕ → List ℕ → Reading ToldLink
+told_link_at before bytes = do
+  version ← number_at w64 bytes
+  stamp ← wanted (option_map_or (λ n. nat_lt n version.0) before true) bytes (signed_at version.1)
+  rows ← number_at w32 stamp.1
+  index ← key_of_at kinds.TableIndex rows.1
+  live ← number_at w8 index.1
+  wanted (nat_le live.0 1) index.1
+      (Ok (record { row = record { version = version.0; stamp = stamp.0; rows = rows.0; index = index.0 }; live = nat_eq live.0 1 }, live.1))
+
+-- the next n links of a Compact
+abbrev pub told_at : Option ℕ → ℕ → List ℕ → Reading (List ToldLink)
+told_at before zero bytes = Ok ([], bytes)
+told_at before (suc n) bytes = do
+  link ← told_link_at before bytes
+  more ← told_at (Some link.0.row.version) n link.1
+  Ok (link.0 ∷ more.0, more.1)
+
+-- the holder and version stand before the other, by client, serial and version
+abbrev pub hold_before : HoldRow → HoldRow → Bool
+hold_before a b =
+    nat_lt a.holder.client b.holder.client
+    || (nat_eq a.holder.client b.holder.client && (nat_lt a.holder.serial b.holder.serial || (nat_eq a.holder.serial b.holder.serial && nat_lt a.version b.version)))
+
+-- the next n holds of a Compact, ascending. The fault is at the first of the three numbers that falls, or at a version that does not rise
+abbrev pub told_holds_at : Option HoldRow → ℕ → List ℕ → Reading (List HoldRow)
+told_holds_at before zero bytes = Ok ([], bytes)
+told_holds_at before (suc n) bytes = do
+  client ← number_at w32 bytes
+  serial ← wanted (option_map_or (λ (w : HoldRow). nat_le w.holder.client client.0) before true) bytes (number_at w64 client.1)
+  version ← wanted (option_map_or (λ (w : HoldRow). nat_lt w.holder.client client.0 || nat_le w.holder.serial serial.0) before true) client.1 (number_at w64 serial.1)
+  more ← wanted (option_map_or (λ (w : HoldRow). hold_before w (record { holder = record { client = client.0; serial = serial.0 }; version = version.0 })) before true) serial.1
+      (told_holds_at (Some (record { holder = record { client = client.0; serial = serial.0 }; version = version.0 })) n version.1)
+  Ok (record { holder = record { client = client.0; serial = serial.0 }; version = version.0 } ∷ more.0, more.1)
+
+-- the next Compact, behind its tag
+abbrev pub compact_at : List ℕ → Reading ChainMark
+compact_at bytes = do
+  n ← number_at w64 bytes
+  links ← told_at None n.0 n.1
+  m ← number_at w64 links.1
+  holds ← told_holds_at None m.0 m.1
+  k ← number_at w64 holds.1
+  pieces ← pieces_at None k.0 k.1
+  Ok (marks.Compact (record { links = links.0; holds = holds.0; pieces = pieces.0 }), pieces.1)
+
 -- the mark of a tag
 abbrev pub mark_at : ℕ → Option ℕ → List ℕ → Reading ChainMark
 mark_at tag tomb bytes =
@@ -147,6 +231,7 @@ mark_at tag tomb bytes =
     else if nat_eq tag 2 then tomb_at tomb bytes
     else if nat_eq tag 3 then hold_at bytes
     else if nat_eq tag 4 then release_at bytes
+    else if is_compact tag then compact_at bytes
     else discard_at bytes
 
 -- the version of a Tomb
@@ -180,7 +265,7 @@ entry_at bytes = do
   m ← magic_at entry_magic bytes
   prev ← optional_key_at m.1
   n ← number_at w64 prev.1
-  changes ← wanted (nat_le 1 n.0) prev.1 (marks_at start None n.0 n.1)
+  changes ← wanted (nat_le 1 n.0) prev.1 (marks_at (form_on prev.0) None n.0 n.1)
   Ok (record { prev = prev.0; changes = changes.0 }, changes.1)
 
 -- the element that the bytes spell, or the fault

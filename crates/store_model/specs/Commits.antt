@@ -2,13 +2,16 @@
 --     marks_of            the marks of a list of changes
 --     FitsLink, FitsRemoved, FitsHeld, FitsReleased, FitsDiscarded      when each change fits
 --     IsCommit            the forms of the changes of one commit
+--     MayChange           an element that spells the changes of one commit
+--     MayRestate          an element that tells the whole state anew
 --     MayRefer            all that is claimed of a Refer
-use Rattle.std.specs.Prelude.{◌≡◌, ◌⊎◌, ℕ, ◌+◌, ◌<◌, Bool, true, false, List, [], ◌∷◌, map, flat_map, reverse, length, slice_range, Option, Some, if◌then◌else◌, ⊤, IfSome, is_some}
+use Rattle.std.specs.Prelude.{◌≡◌, ◌⊎◌, ℕ, ◌+◌, ◌<◌, Bool, true, false, List, [], ◌∷◌, map, flat_map, reverse, length, count_by, slice_range, Option, Some, None, if◌then◌else◌, ⊤, IfSome, is_some}
 use Rattle.std.specs.List.{list_any, AllByRecursion}
 use Rattle.frame_core.specs.Ranges.{IsRange}
 use Rattle.frame_core.specs.Frames.{Frame, first_stamp, last_stamp}
 use Rattle.frame_core.specs.Limits.{IsStorable}
 use Rattle.index_tree.specs.declared.index.Slot.{Slot}
+use Rattle.index_tree.specs.PageRules.{Page, FitsPages}
 use Rattle.segment_cut.specs.Tiles.{Tiled}
 use Rattle.key_kind.specs.declared.key.KeyKind.TheVariants as kinds
 use Rattle.key_kind.specs.declared.key.Key.{Key}
@@ -20,10 +23,12 @@ use Rattle.bucket_core.specs.declared.event.Change.{Change}
 use Rattle.bucket_core.specs.declared.event.Change.TheVariants as changes
 use Rattle.bucket_core.specs.History.{History, stored, puts_by}
 use Rattle.store_model.specs.declared.chain.LinkRow.{LinkRow}
+use Rattle.store_model.specs.declared.chain.ToldLink.{ToldLink}
+use Rattle.store_model.specs.declared.chain.WholeState.{WholeState}
 use Rattle.store_model.specs.declared.chain.ChainMark.{ChainMark}
 use Rattle.store_model.specs.declared.chain.ChainMark.TheVariants as marks
 use Rattle.store_model.specs.ChainText.{piece_before}
-use Rattle.store_model.specs.Library.{State, Version, Hold, Piece, state_of, is_live, live_versions, new_version, open_pieces, same_piece}
+use Rattle.store_model.specs.Library.{State, Version, Hold, Piece, hold_of, state_of, is_live, live_versions, new_version, open_pieces, same_piece}
 use Rattle.store_model.specs.Links.{Linked, linked, element, is_entry, is_reached, links, reaches}
 use Rattle.store_model.specs.Holders.{has_hold, has_name, has_unnamed}
 
@@ -36,15 +41,23 @@ change_marks row (changes.Removed versions) = map marks.Tomb versions
 change_marks row (changes.Held holder version) = marks.Hold holder version ∷ []
 change_marks row (changes.Released holder) = marks.Release holder ∷ []
 change_marks row (changes.Discarded pieces) = marks.Discard pieces ∷ []
+change_marks row changes.Restated = []
 
 -- the marks of a list of changes
 abbrev pub marks_of : LinkRow → List Change → List ChainMark
 marks_of row list = flat_map (change_marks row) list
 
--- a stored key that the client put and that no link reached
+-- a key that the client put and that no link reached
 pub record IsFresh (h : History) (client : ℕ) (key : Key) : Type 0 where
   pub own : key.client ≡ client
   pub unreached : is_reached h key ≡ false
+
+-- a new index key or page key of a link: a stored key of the symbol, put by the client and reached by no earlier link
+pub record IsNewIndex (h : History) (client : ℕ) (symbol : Name) (key : Key) : Type 0 where
+  pub kind : key.kind ≡ kinds.TableIndex
+  pub name : key.name ≡ symbol
+  pub stands : is_some (stored h key) ≡ true
+  pub fresh : IsFresh h client key
 
 -- the newest live link reaches the key
 abbrev pub newest_reaches : State → List Linked → Key → Bool
@@ -69,12 +82,11 @@ pub record FitsLink (h : History) (client : ℕ) (symbol : Name) (row : LinkRow)
   pub stamp : row.stamp ≡ v.stamp
   pub rows : row.rows ≡ length v.frame.rows
   pub storable : IsStorable v.frame
-  pub index_name : row.index.name ≡ symbol
-  pub index_kind : row.index.kind ≡ kinds.TableIndex
-  pub index_stands : is_some (stored h row.index) ≡ true
-  pub index_fresh : IsFresh h client row.index
+  pub new_index : IsNewIndex h client symbol row.index
   pub link : Linked
   pub link_is : linked h row ≡ Some link
+  pub new_pages : AllByRecursion (λ (p : Page). IsNewIndex h client symbol p.row.key) link.pages
+  pub pages_fit : FitsPages link.index link.pages
   pub schema : link.index.schema ≡ v.frame.schema
   pub index_rows : link.index.rows ≡ length v.frame.rows
   pub keys : AllByRecursion (λ (s : Slot). MayNameKey h client symbol s.key) link.index.slots
@@ -123,13 +135,14 @@ pub record FitsDiscarded (st : State) (pieces : List PieceName) : Type 0 where
   pub rising : PiecesRise pieces
   pub staged : AllByRecursion (λ name. list_any (λ (p : Piece). same_piece name p.name) (open_pieces st) ≡ true) pieces
 
--- the mark of a change fits; a version's clause is the link's, and the range of an update is in order
+-- the mark of a change fits; a version's clause is the link's, and the range of an update is in order. Restated is no change of a commit
 abbrev pub FitsMark : History → ℕ → Name → Change → Type 0
 FitsMark h client symbol (changes.Removed versions) = FitsRemoved (state_of h symbol) versions
 FitsMark h client symbol (changes.Held holder version) = FitsHeld h client symbol holder version
 FitsMark h client symbol (changes.Released holder) = FitsReleased h client symbol holder
 FitsMark h client symbol (changes.Discarded pieces) = FitsDiscarded (state_of h symbol) pieces
 FitsMark h client symbol (changes.Updated frame range at) = IsRange range
+FitsMark h client symbol changes.Restated = ⊥
 FitsMark h client symbol _ = ⊤
 
 -- each change fits, by itself, the history before the Refer: the version that it makes, or its mark
@@ -163,15 +176,50 @@ pub data IsCommit : List Change → Type 0 where
   making : (c : Change) {rest : List Change} → is_version c ≡ true → Buries rest → IsCommit (c ∷ rest)
   marking : (c : Change) → is_version c ≡ false → IsCommit (c ∷ [])
 
--- the entry is an own stored Version key, new as an entry; its element stands on `was` and spells the changes, each of which fits
+-- the element stands on `was` and spells the changes, each of which fits
+pub record MayChange (h : History) (client : ℕ) (symbol : Name) (was : Option Key) (entry : Key) (list : List Change) : Type 0 where
+  pub form : IsCommit list
+  pub row : LinkRow
+  pub spelled : element h entry ≡ Some (record { prev = was; changes = marks_of row list })
+  pub fits : AllByRecursion (FitsChange h client symbol row) list
+  pub prunes : BuriesAll (state_of h symbol) list
+
+-- ---- a state that is told anew
+
+-- the same elements, each as often, in any order
+abbrev pub AsOften : {X : Type 0} → List X → List X → Type 0
+AsOften {X} xs ys = (test : X → Bool) → count_by test xs ≡ count_by test ys
+
+-- a link as a Compact tells it
+abbrev pub told_link : State → Linked → ToldLink
+told_link st l = record { row = l.row; live = is_live st l.row.version }
+
+-- each link with its own row and whether it is live, in ascending order; the unreleased holds; the consumed pieces
+pub record TellsState (h : History) (symbol : Name) (told : WholeState) : Type 0 where
+  pub links : told.links ≡ reverse (map (told_link (state_of h symbol)) (links h symbol))
+  pub holds : AsOften (map hold_of told.holds) (state_of h symbol).holds
+  pub pieces : AsOften told.pieces (state_of h symbol).consumed
+
+-- the element stands on no other and tells the whole state, and the event restates it and does no more.
+-- Gate C, closed by its field `not_yet`: no Refer tells a state anew. It opens by taking the field away, once walks end at a Compact. With
+-- it go: that no Refer restates (`lawful_is_plain`), that the chain has all entries (`plain_chain`), each of which stands
+-- (`entries_stand`), that a Refer makes the changes of a commit (`is_commit`), and that a walk finds the state in its order (PlainWalks, with
+-- PlainWalking and PlainFollowing). Seen to prove with gates B and C open: a lawful history with a Compact (`compacted_lawful`), and that
+-- a Compact may neither forget a hold (`no_compact_that_forgets_a_hold`) nor tell a live version as buried (`no_compact_that_buries`)
+pub record MayRestate (h : History) (symbol : Name) (entry : Key) (list : List Change) : Type 0 where
+  pub not_yet : ⊥
+  pub alone : list ≡ changes.Restated ∷ []
+  pub told : WholeState
+  pub spelled : element h entry ≡ Some (record { prev = None; changes = marks.Compact told ∷ [] })
+  pub tells : TellsState h symbol told
+
+-- ---- a Refer
+
+-- the entry is an own stored Version key of the symbol, new as an entry; its element spells the changes, or tells the whole state
 pub record MayRefer (h : History) (client : ℕ) (symbol : Name) (was : Option Key) (entry : Key) (list : List Change) : Type 0 where
   pub kind : entry.kind ≡ kinds.Version
   pub name : entry.name ≡ symbol
   pub own : entry.client ≡ client
   pub stands : is_some (stored h entry) ≡ true
   pub fresh : is_entry h symbol entry ≡ false
-  pub form : IsCommit list
-  pub row : LinkRow
-  pub spelled : element h entry ≡ Some (record { prev = was; changes = marks_of row list })
-  pub fits : AllByRecursion (FitsChange h client symbol row) list
-  pub prunes : BuriesAll (state_of h symbol) list
+  pub how : MayChange h client symbol was entry list ⊎ MayRestate h symbol entry list

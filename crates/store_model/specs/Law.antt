@@ -17,7 +17,7 @@ use Rattle.bucket_core.specs.History.{History, Bytes, puts_by}
 use Rattle.bucket_core.specs.Laws as laws
 use Rattle.store_model.specs.declared.snapshot.SnapBody.{SnapBody}
 use Rattle.store_model.specs.ChainText.{entry_of, snap_of}
-use Rattle.store_model.specs.Links.{IsUnneeded, IsConsumedPiece, IsOwnUnlinked}
+use Rattle.store_model.specs.Links.{IsUnneeded, IsConsumedPiece, IsOwnUnlinked, IsRetold}
 use Rattle.store_model.specs.Holders.{has_name, IsHeldRow}
 use Rattle.store_model.specs.Commits.{MayRefer}
 
@@ -28,7 +28,11 @@ abbrev pub HasStamps : Key → Result Frame ℕ → Type 0
 HasStamps key (Ok frame) = (key.first ≡ unwrap_or (first_stamp frame.rows) (pos 0)) × (key.last ≡ unwrap_or (last_stamp frame.rows) (pos 0))
 HasStamps key (Err fault) = ⊥
 
--- the body is in the grammar of its key's kind; no other kinds are put
+-- the body is in the grammar of its key's kind; no other kinds are put.
+-- Gate P, closed by `index_of` in the clause of TableIndex: no page and no root of pages is put. It opens with `object_of` in its place, once the
+-- readers of indexes read roots and pages. With it go: that no link has pages (`plain_links`, `lawful_links`), and that the index of a link is
+-- what was put whole under its key (`linked_flat`, with `flat_put` of PlainLinks). Seen to prove with it open: a lawful history with an index in
+-- two pages (`paged_lawful`), and that nobody drops a page of its live version (`no_drop_of_a_needed_page`)
 abbrev pub SpellsKind : Key → KeyKind → Bytes → Type 0
 SpellsKind key kinds.TableData body = IsOk (segment_of body)
 SpellsKind key kinds.TableIndex body = IsOk (index_of body)
@@ -54,9 +58,9 @@ pub record MayName (h : History) (client : ℕ) (body : Bytes) : Type 0 where
   pub unnamed : has_name h snapshot.holder ≡ false
   pub rows : AllByRecursion (IsHeldRow h snapshot.holder) snapshot.rows
 
--- the key is dead: not needed any more, or a consumed piece, or an own key that nothing links
+-- the key is dead: not needed any more, or a consumed piece, or an own key that nothing links, or an element that was told anew
 abbrev pub IsDead : History → Key → ℕ → Type 0
-IsDead h key client = IsUnneeded h key ⊎ IsConsumedPiece h key ⊎ IsOwnUnlinked h key client
+IsDead h key client = IsUnneeded h key ⊎ IsConsumedPiece h key ⊎ IsOwnUnlinked h key client ⊎ IsRetold h key
 
 -- ---- the law
 

@@ -18,6 +18,7 @@ use Rattle.bucket_core.specs.declared.event.Change.{Change}
 use Rattle.bucket_core.specs.declared.event.Change.TheVariants as changes
 use Rattle.bucket_core.specs.declared.event.Event.TheVariants as events
 use Rattle.bucket_core.specs.History.{History, Bytes}
+use Rattle.store_model.specs.declared.hold.HoldRow.{HoldRow}
 
 -- a version: its number, stamp and whole frame
 pub record Version : Type 0 where
@@ -29,6 +30,10 @@ pub record Version : Type 0 where
 pub record Hold : Type 0 where
   pub holder : Holder
   pub version : ℕ
+
+-- a hold, as the library sees it
+abbrev pub hold_of : HoldRow → Hold
+hold_of row = record { holder = row.holder; version = row.version }
 
 -- a staged piece
 pub record Piece : Type 0 where

@@ -1,7 +1,7 @@
 -- What a client has put and nothing links yet.
 --     IsOwnPut, AreOwnPuts      a key of the client's own that stands with this body, and that no link reached and no Refer named; several
 --     IsTableKind         the kinds of such keys
---     IsPutSlot, IsPutLink, IsPutEntry      a slot's tile, a link with its index and tiles, and an element that a client has put
+--     IsPutSlot, IsPutPage, IsPutLink, IsPutEntry      a slot's tile, a page, a link with its index, pages and tiles, and an element that a client has put
 --     BuriesLive          the changes that bury beside a new version all that was live, or nothing
 use Rattle.std.specs.Prelude.{◌≡◌, ℕ, true, ◌||◌, List, [], ◌∷◌, map, reverse, length, Some, Ok}
 use Rattle.std.specs.List.{AllByRecursion}
@@ -10,7 +10,10 @@ use Rattle.segment_bytes.specs.Segments.{segment_of}
 use Rattle.segment_cut.specs.Tiles.{cut, Tiled}
 use Rattle.index_tree.specs.declared.index.Slot.{Slot}
 use Rattle.index_tree.specs.declared.index.Index.{Index}
-use Rattle.index_tree.specs.IndexText.{index_of}
+use Rattle.index_tree.specs.declared.page.Root.{Root}
+use Rattle.index_tree.specs.declared.page.IndexObject.TheVariants as objects
+use Rattle.index_tree.specs.PageText.{object_of}
+use Rattle.index_tree.specs.PageRules.{Page, FitsPages}
 use Rattle.key_kind.specs.declared.key.KeyKind.{KeyKind}
 use Rattle.key_kind.specs.declared.key.KeyKind.TheVariants as kinds
 use Rattle.key_kind.specs.declared.key.Key.{Key}
@@ -23,7 +26,7 @@ use Rattle.store_model.specs.declared.chain.LinkRow.{LinkRow}
 use Rattle.store_model.specs.declared.chain.Entry.{Entry}
 use Rattle.store_model.specs.ChainText.{entry_of}
 use Rattle.store_model.specs.Library.{State, Version, live_versions}
-use Rattle.store_model.specs.Links.{IsOwnUnlinked}
+use Rattle.store_model.specs.Links.{page_slots_of, IsOwnUnlinked}
 use Rattle.store_model.specs.Commits.{HasSlotStamps, IsFilled}
 
 -- an own key that stands with the body that was put, that no link reached and that is no entry
@@ -54,14 +57,37 @@ pub record IsPutSlot (h : History) (client : ℕ) (symbol : Name) (frame : Frame
 abbrev pub slots_of : List (Slot × Bytes) → List Slot
 slots_of ws = map (λ (w : Slot × Bytes). w.0) ws
 
--- an index of the frame that the client has put under the row's key, with all its tiles
+-- a page that the client has put with this body
+pub record IsPutPage (h : History) (client : ℕ) (symbol : Name) (w : Page × Bytes) : Type 0 where
+  pub kind : w.0.row.key.kind ≡ kinds.TableIndex
+  pub name : w.0.row.key.name ≡ symbol
+  pub own : IsOwnPut h client w.0.row.key w.1
+  pub spelled : object_of w.1 ≡ Ok (objects.Page w.0.slots)
+
+-- the pages of these, without the bodies
+abbrev pub pages_of : List (Page × Bytes) → List Page
+pages_of ws = map (λ (w : Page × Bytes). w.0) ws
+
+-- the root of an index with these pages
+abbrev pub root_with : Index → List Page → Root
+root_with i pages = record { schema = i.schema; rows = i.rows; slots = length i.slots; pages = map (λ (p : Page). p.row) pages }
+
+-- the body spells the index, or its root where it has pages
+pub data SpellsIndex (body : Bytes) (i : Index) : List Page → Type 0 where
+  whole : object_of body ≡ Ok (objects.Flat i) → SpellsIndex body i []
+  rooted : {pages : List Page} → object_of body ≡ Ok (objects.Root (root_with i pages)) → page_slots_of pages ≡ i.slots → SpellsIndex body i pages
+
+-- an index of the frame that the client has put under the row's key, with all its pages and tiles
 pub record IsPutLink (h : History) (client : ℕ) (symbol : Name) (frame : Frame) (row : LinkRow) : Type 0 where
   pub kind : row.index.kind ≡ kinds.TableIndex
   pub name : row.index.name ≡ symbol
   pub body : Bytes
   pub own : IsOwnPut h client row.index body
   pub index : Index
-  pub spelled : index_of body ≡ Ok index
+  pub pages : List (Page × Bytes)
+  pub spelled : SpellsIndex body index (pages_of pages)
+  pub each_page : AllByRecursion (IsPutPage h client symbol) pages
+  pub pages_fit : FitsPages index (pages_of pages)
   pub schema : index.schema ≡ frame.schema
   pub index_rows : index.rows ≡ length frame.rows
   pub slots : List (Slot × Bytes)

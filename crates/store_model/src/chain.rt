@@ -1,3 +1,4 @@
+use crate::hold::HoldRow;
 use base_types::Items;
 use bucket_core::PieceName;
 use key_kind::{Holder, Key};
@@ -10,6 +11,24 @@ pub struct LinkRow {
     pub stamp: i64,
     pub rows: u64,
     pub index: Key,
+}
+
+/// A version of a whole state: its link, and whether it is live.
+#[derive(Drop)]
+pub struct ToldLink {
+    pub row: LinkRow,
+    pub live: bool,
+}
+
+/// The whole state of a symbol, as one element tells it.
+#[derive(Drop)]
+pub struct WholeState {
+    /// Every version ever linked, ascending.
+    pub links: Items<ToldLink>,
+    /// The unreleased holds, by holder and version.
+    pub holds: Items<HoldRow>,
+    /// The consumed pieces, by client and serial.
+    pub pieces: Items<PieceName>,
 }
 
 /// One mark of a chain element.
@@ -25,6 +44,8 @@ pub enum ChainMark {
     Release { holder: Holder },
     /// These staged pieces are consumed.
     Discard { pieces: Items<PieceName> },
+    /// All that the chain told before.
+    Compact(WholeState),
 }
 
 /// An element of a symbol's chain: the key of the element before it, and its marks.

@@ -5,10 +5,14 @@ ghost use Rattle.store_model.specs.Intact.{IsIntact, IsAsPut, IsShown};
 ghost use Rattle.store_model.specs.Once.{PiecesOnce, NamedOnce};
 ghost use Rattle.store_model.specs.Promises.{InEachLawful, EventsKeep, BeginningsAreLawful};
 ghost use Rattle.store_model.specs.Walks.{LawfulWalks};
+ghost use Rattle.store_model.specs.PlainWalks.{PlainWalks};
 ghost use Rattle.store_model.specs.Listings.{AllListsAgree};
+ghost use Rattle.store_model.specs.Collected.{CollectsAll};
+ghost use Rattle.store_model.specs.Settled.{LooksSettle};
 
-/// In every lawful history nothing that is needed was dropped: what live and held versions reach, the elements of chains and the
-/// staged pieces that are not consumed stand as they were put, and the tiles of each version are its whole frame.
+/// In every lawful history nothing that is needed was dropped: what live and held versions reach, the elements of each chain from
+/// its reference back to its last Compact, and the staged pieces that are not consumed stand as they were put. The elements tell
+/// the symbol's state, and the tiles of each version are its whole frame.
 pub fn nothing_needed_is_dropped()
     ensures intact { InEachLawful IsIntact }
     ensures as_put { InEachLawful IsAsPut }
@@ -46,13 +50,27 @@ pub fn references_move_on()
     ensures { MovesOn IsClaimed }
 {}
 
-/// A walk along the elements of a lawful history finds the symbol's state.
+/// A walk along the elements of a lawful history, from the reference back to the last Compact, finds the symbol's state. While gate C
+/// is closed these are the elements of all its Refers, and the state is found in the order in which it was told.
 pub fn walks_give_the_state()
-    ensures { LawfulWalks }
+    ensures state { LawfulWalks }
+    ensures plainly { PlainWalks }
 {}
 
 /// In every history the lists of the library name, in ascending order, exactly the symbols that have a reference and the
 /// snapshots that stand.
 pub fn library_lists_agree()
     ensures { AllListsAgree }
+{}
+
+/// Where each client has taken back what it never linked, and nothing is stored that anybody may drop, the stored keys are exactly
+/// those that somebody needs.
+pub fn nothing_is_left_over()
+    ensures { CollectsAll }
+{}
+
+/// A version that was its symbol's base when it was held, and that a second look finds live with none linked behind it, was the
+/// base at each place between.
+pub fn second_looks_settle()
+    ensures { LooksSettle }
 {}

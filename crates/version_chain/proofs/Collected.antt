@@ -8,7 +8,7 @@ use Rattle.store_model.specs.declared.chain.ChainMark.{ChainMark}
 use Rattle.store_model.specs.declared.chain.ChainMark.TheVariants as marks
 use Rattle.store_model.specs.declared.chain.Entry.{Entry}
 use Rattle.store_model.specs.ChainText.{tomb_of}
-use Rattle.store_model.specs.Walks.{row_of, rows_in, tombs_in}
+use Rattle.store_model.specs.PlainWalks.{row_of, rows_in, tombs_in}
 
 -- one mark has at most one row
 one_row : (m : ChainMark) → reverse (filter_map row_of (m ∷ [])) ≡ filter_map row_of (m ∷ [])
@@ -17,6 +17,7 @@ one_row (marks.Tomb version) = refl
 one_row (marks.Hold holder version) = refl
 one_row (marks.Release holder) = refl
 one_row (marks.Discard pieces) = refl
+one_row (marks.Compact told) = refl
 
 -- the last part of what is left is behind the links so far
 moved : (links links' part left all total : List LinkRow) → links' ≡ links ++ part → all ≡ part ++ left → links ++ all ≡ total → links' ++ left ≡ total

@@ -20,7 +20,9 @@ use Rattle.store_model.specs.Links.{entries}
 use Rattle.store_model.specs.Commits.{Rising, is_version, change_marks, marks_of}
 use Rattle.store_model.specs.Law.{IsLawful}
 use Rattle.store_model.proofs.Lawful.{lawful_is_intact, beginning_lawful}
-use Rattle.store_model.proofs.Following.{entries-first, at_is_among, put_key}
+use Rattle.store_model.proofs.PlainFollowing.{entries-first}
+use Rattle.store_model.proofs.Plainly.{entries_stand}
+use Rattle.store_model.proofs.Following.{at_is_among, put_key}
 use Rattle.version_chain.specs.declared.state.SymbolState.{SymbolState}
 use Rattle.version_chain.specs.Entries.{IsKeyOf, IsMark, IsAbove, AreTombs, IsEntry}
 use Rattle.version_chain.specs.States.{IsStateOf}
@@ -33,7 +35,7 @@ element_key_is : (h : History) (symbol : Name) (key : Key) → IsLawful h → re
 element_key_is h symbol key l is =
     let among = at_is_among (entries h symbol) 0 key (entries-first h symbol ∙ is) in
     let named = (lawful_is_intact h l).element_keys symbol key among in
-    let stands = (lawful_is_intact h l).elements symbol key among in
+    let stands = entries_stand h l symbol key among in
     let rules : IsKey key = (put_key h l key stands.body stands.put).is_key in
     record {
       kind = named.1;
@@ -92,6 +94,7 @@ entry_is symbol was row (changes.Discarded pieces) name prev f = record { prev =
 entry_is symbol was row (changes.Wrote frame at) name prev f = absurd f
 entry_is symbol was row (changes.Appended frame at) name prev f = absurd f
 entry_is symbol was row (changes.Updated frame range at) name prev f = absurd f
+entry_is symbol was row changes.Restated name prev f = absurd f
 
 pub formed_makes_none : (c : Change) → IsFormed c → is_version c ≡ false
 formed_makes_none (changes.Removed versions) f = refl
@@ -101,6 +104,7 @@ formed_makes_none (changes.Discarded pieces) f = refl
 formed_makes_none (changes.Wrote frame at) f = absurd f
 formed_makes_none (changes.Appended frame at) f = absurd f
 formed_makes_none (changes.Updated frame range at) f = absurd f
+formed_makes_none changes.Restated f = absurd f
 
 pub fits_is_formed : (st : State) (seen : History) (client : ℕ) (symbol : Name) (c : Change) → FitsOn st seen client symbol c → IsFormed c
 fits_is_formed st seen client symbol (changes.Removed versions) f = (f.some, f.rising)
@@ -110,6 +114,7 @@ fits_is_formed st seen client symbol (changes.Discarded pieces) f = (f.some, f.r
 fits_is_formed st seen client symbol (changes.Wrote frame at) f = absurd f
 fits_is_formed st seen client symbol (changes.Appended frame at) f = absurd f
 fits_is_formed st seen client symbol (changes.Updated frame range at) f = absurd f
+fits_is_formed st seen client symbol changes.Restated f = absurd f
 
 -- the marks of one change alone
 pub marks_of-one : (row : LinkRow) (c : Change) → marks_of row (c ∷ []) ≡ change_marks row c

@@ -1,12 +1,12 @@
 -- An element that is spelled is read again, and what is read as an element was spelled so.
-use Rattle.std.proofs.Common.{◌≡◌, ℕ, zero, suc, ◌<◌, ◌≤◌, ◌^◌, true, false, cond, List, [], ◌∷◌, ◌++◌, length, refl, sym, ap, subst, ◌∙◌, append_assoc, arith, Ok, Err, Some, None, Option, nat_eq, inl, inr}
+use Rattle.std.proofs.Common.{◌≡◌, ℕ, zero, suc, ◌<◌, ◌≤◌, ◌^◌, Bool, true, false, cond, List, [], ◌∷◌, ◌++◌, length, refl, sym, ap, subst, ◌∙◌, append_assoc, arith, Ok, Err, Some, None, Option, nat_eq, inl, inr}
 use Rattle.std.specs.Prelude.{◌⊎◌, ◌&&◌, ⊤, nat_le, IfSome, flat_map}
 use Rattle.std.specs.Int.{w8, w64, to_be_bytes}
 use Rattle.std.specs.List.{AllByRecursion}
 use Rattle.std.proofs.lemmas.List.{append-nil}
 use Rattle.std.proofs.lemmas.List.Concat.{flat_map-cons}
 use Rattle.std.proofs.lemmas.Bool.Decides.{nat_tests}
-use Rattle.std.proofs.lemmas.Bool.{and_parts, eqb-true, leb-true}
+use Rattle.std.proofs.lemmas.Bool.{true≢false, and_parts, eqb-true, leb-true}
 use Rattle.byte_fields.specs.Reading.{Reading, ◌>>=◌, wanted, number_at, magic_at}
 use Rattle.byte_fields.specs.Readers.{IsBytes}
 use Rattle.byte_fields.proofs.Steps.{ok_is, bind_ok, bind_is, wanted_ok, wanted_is, Takes, Takes-then, Takes-nothing, whole_takes, whole_again}
@@ -20,7 +20,7 @@ use Rattle.store_model.specs.declared.chain.ChainMark.{ChainMark}
 use Rattle.store_model.specs.declared.chain.ChainMark.TheVariants as marks
 use Rattle.store_model.specs.declared.chain.Entry.{Entry}
 use Rattle.store_model.specs.Commits.{IsFilled}
-use Rattle.store_model.specs.ChainText.{mark_text, optional_key_text, entry_magic, entry_text, Form, start, linked, buried, ended, form_behind, form_at, mark_at, tomb_of, marks_at, optional_key_at, entry_at, entry_of}
+use Rattle.store_model.specs.ChainText.{mark_text, optional_key_text, entry_magic, entry_text, Form, first, start, linked, buried, ended, form_started, form_behind, form_at, mark_at, tomb_of, marks_at, optional_key_at, entry_at, entry_of}
 use Rattle.version_chain.specs.Entries.{IsKeyOf, IsMark, AreTombs, AreTombsAndDiscard, IsForm, IsEntry, FitsMark, FitsEntry}
 use Rattle.version_chain.proofs.MarkLaws.{tag_of, body_text, mark_text-is, IsAboveTomb, IsTag, mark_takes, mark_again, filled, one_at_least}
 
@@ -28,6 +28,8 @@ use Rattle.version_chain.proofs.MarkLaws.{tag_of, body_text, mark_text-is, IsAbo
 
 -- what may follow in a form, behind a Tomb or not
 abbrev pub Follows : Form → Option ℕ → List ChainMark → Type 0
+Follows first tomb [] = ⊤
+Follows first tomb (m ∷ ms) = (tomb ≡ None) × IsForm (m ∷ ms)
 Follows start tomb [] = ⊤
 Follows start tomb (m ∷ ms) = (tomb ≡ None) × IsForm (m ∷ ms)
 Follows linked tomb ms = AreTombsAndDiscard tomb ms
@@ -35,6 +37,7 @@ Follows buried tomb ms = AreTombs tomb ms
 Follows ended tomb ms = ms ≡ []
 
 none_left : (f : Form) (tomb : Option ℕ) → Follows f tomb []
+none_left first tomb = tt
 none_left start tomb = tt
 none_left linked tomb = tt
 none_left buried tomb = tt
@@ -48,26 +51,35 @@ to_form a b e = cc
 
 -- the start stands behind no Tomb
 abbrev IsStart : Form → Option ℕ → Type 0
+IsStart first tomb = tomb ≡ None
 IsStart start tomb = tomb ≡ None
 IsStart _ tomb = ⊤
 
--- one mark more stands before what may follow it
+-- one mark more stands before what may follow it; at the beginning of an element
+more_started : (b : Form) (tomb : Option ℕ) (m : ChainMark) (ms : List ChainMark) → tomb ≡ None → form_started (tag_of m) ≡ Some b → Follows b (tomb_of m) ms → (tomb ≡ None) × IsForm (m ∷ ms)
+more_started b tomb (marks.Link l) ms at e more = (at, subst (λ f. Follows f None ms) (sym (to_form linked b e)) more)
+more_started b tomb (marks.Tomb v) ms at e more = (at, subst (λ f. Follows f (Some v) ms) (sym (to_form buried b e)) more)
+more_started b tomb (marks.Hold h v) ms at e more = (at, subst (λ (xs : List ChainMark). IsForm (marks.Hold h v ∷ xs)) (sym (subst (λ f. Follows f None ms) (sym (to_form ended b e)) more)) tt)
+more_started b tomb (marks.Release h) ms at e more = (at, subst (λ (xs : List ChainMark). IsForm (marks.Release h ∷ xs)) (sym (subst (λ f. Follows f None ms) (sym (to_form ended b e)) more)) tt)
+more_started b tomb (marks.Discard ps) ms at e more = (at, subst (λ (xs : List ChainMark). IsForm (marks.Discard ps ∷ xs)) (sym (subst (λ f. Follows f None ms) (sym (to_form ended b e)) more)) tt)
+more_started b tomb (marks.Compact told) ms at e more = absurd (no_form b e)
+
+-- and anywhere
 follows_more : (f b : Form) (tomb : Option ℕ) (m : ChainMark) (ms : List ChainMark) → IsStart f tomb → form_behind f (tag_of m) ≡ Some b → IsAboveTomb tomb m → Follows b (tomb_of m) ms → Follows f tomb (m ∷ ms)
-follows_more start b tomb (marks.Link l) ms at e above more = (at, subst (λ f. Follows f None ms) (sym (to_form linked b e)) more)
-follows_more start b tomb (marks.Tomb v) ms at e above more = (at, subst (λ f. Follows f (Some v) ms) (sym (to_form buried b e)) more)
-follows_more start b tomb (marks.Hold h v) ms at e above more = (at, subst (λ (xs : List ChainMark). IsForm (marks.Hold h v ∷ xs)) (sym (subst (λ f. Follows f None ms) (sym (to_form ended b e)) more)) tt)
-follows_more start b tomb (marks.Release h) ms at e above more = (at, subst (λ (xs : List ChainMark). IsForm (marks.Release h ∷ xs)) (sym (subst (λ f. Follows f None ms) (sym (to_form ended b e)) more)) tt)
-follows_more start b tomb (marks.Discard ps) ms at e above more = (at, subst (λ (xs : List ChainMark). IsForm (marks.Discard ps ∷ xs)) (sym (subst (λ f. Follows f None ms) (sym (to_form ended b e)) more)) tt)
+follows_more first b tomb m ms at e above more = more_started b tomb m ms at e more
+follows_more start b tomb m ms at e above more = more_started b tomb m ms at e more
 follows_more linked b tomb (marks.Link l) ms at e above more = absurd (no_form b e)
 follows_more linked b tomb (marks.Tomb v) ms at e above more = (above, subst (λ f. Follows f (Some v) ms) (sym (to_form linked b e)) more)
 follows_more linked b tomb (marks.Hold h v) ms at e above more = absurd (no_form b e)
 follows_more linked b tomb (marks.Release h) ms at e above more = absurd (no_form b e)
 follows_more linked b tomb (marks.Discard ps) ms at e above more = subst (λ (xs : List ChainMark). AreTombsAndDiscard tomb (marks.Discard ps ∷ xs)) (sym (subst (λ f. Follows f None ms) (sym (to_form ended b e)) more)) tt
+follows_more linked b tomb (marks.Compact told) ms at e above more = absurd (no_form b e)
 follows_more buried b tomb (marks.Link l) ms at e above more = absurd (no_form b e)
 follows_more buried b tomb (marks.Tomb v) ms at e above more = (above, subst (λ f. Follows f (Some v) ms) (sym (to_form buried b e)) more)
 follows_more buried b tomb (marks.Hold h v) ms at e above more = absurd (no_form b e)
 follows_more buried b tomb (marks.Release h) ms at e above more = absurd (no_form b e)
 follows_more buried b tomb (marks.Discard ps) ms at e above more = absurd (no_form b e)
+follows_more buried b tomb (marks.Compact told) ms at e above more = absurd (no_form b e)
 follows_more ended b tomb m ms at e above more = absurd (no_form b e)
 
 -- the first mark, and what may follow it
@@ -78,26 +90,35 @@ record First (f : Form) (tomb : Option ℕ) (m : ChainMark) (ms : List ChainMark
   pub more : Follows behind (tomb_of m) ms
   pub later : IsStart behind (tomb_of m)
 
+-- at the beginning of an element
+first_started : (f : Form) → ((tag : ℕ) → form_behind f tag ≡ form_started tag) → (tomb : Option ℕ) (m : ChainMark) (ms : List ChainMark) → tomb ≡ None → IsForm (m ∷ ms) → First f tomb m ms
+first_started f is tomb (marks.Link l) ms none e = record { behind = linked; form = is 1; above = tt; more = e; later = tt }
+first_started f is tomb (marks.Tomb v) ms none e = record { behind = buried; form = is 2; above = subst (λ o. IsAboveTomb o (marks.Tomb v)) (sym none) tt; more = e; later = tt }
+first_started f is tomb (marks.Hold h v) [] none e = record { behind = ended; form = is 3; above = tt; more = refl; later = tt }
+first_started f is tomb (marks.Hold h v) (m ∷ ms) none e = absurd e
+first_started f is tomb (marks.Release h) [] none e = record { behind = ended; form = is 4; above = tt; more = refl; later = tt }
+first_started f is tomb (marks.Release h) (m ∷ ms) none e = absurd e
+first_started f is tomb (marks.Discard ps) [] none e = record { behind = ended; form = is 5; above = tt; more = refl; later = tt }
+first_started f is tomb (marks.Discard ps) (m ∷ ms) none e = absurd e
+first_started f is tomb (marks.Compact told) ms none e = absurd e
+
+-- and anywhere
 follows_first : (f : Form) (tomb : Option ℕ) (m : ChainMark) (ms : List ChainMark) → Follows f tomb (m ∷ ms) → First f tomb m ms
-follows_first start tomb (marks.Link l) ms e = record { behind = linked; form = refl; above = tt; more = e.1; later = tt }
-follows_first start tomb (marks.Tomb v) ms e = record { behind = buried; form = refl; above = subst (λ o. IsAboveTomb o (marks.Tomb v)) (sym e.0) tt; more = e.1; later = tt }
-follows_first start tomb (marks.Hold h v) [] e = record { behind = ended; form = refl; above = tt; more = refl; later = tt }
-follows_first start tomb (marks.Hold h v) (m ∷ ms) e = absurd e.1
-follows_first start tomb (marks.Release h) [] e = record { behind = ended; form = refl; above = tt; more = refl; later = tt }
-follows_first start tomb (marks.Release h) (m ∷ ms) e = absurd e.1
-follows_first start tomb (marks.Discard ps) [] e = record { behind = ended; form = refl; above = tt; more = refl; later = tt }
-follows_first start tomb (marks.Discard ps) (m ∷ ms) e = absurd e.1
+follows_first first tomb m ms e = first_started first (λ tag. refl) tomb m ms e.0 e.1
+follows_first start tomb m ms e = first_started start (λ tag. refl) tomb m ms e.0 e.1
 follows_first linked tomb (marks.Link l) ms e = absurd e
 follows_first linked tomb (marks.Tomb v) ms e = record { behind = linked; form = refl; above = e.0; more = e.1; later = tt }
 follows_first linked tomb (marks.Hold h v) ms e = absurd e
 follows_first linked tomb (marks.Release h) ms e = absurd e
 follows_first linked tomb (marks.Discard ps) [] e = record { behind = ended; form = refl; above = tt; more = refl; later = tt }
 follows_first linked tomb (marks.Discard ps) (m ∷ ms) e = absurd e
+follows_first linked tomb (marks.Compact told) ms e = absurd e
 follows_first buried tomb (marks.Link l) ms e = absurd e
 follows_first buried tomb (marks.Tomb v) ms e = record { behind = buried; form = refl; above = e.0; more = e.1; later = tt }
 follows_first buried tomb (marks.Hold h v) ms e = absurd e
 follows_first buried tomb (marks.Release h) ms e = absurd e
 follows_first buried tomb (marks.Discard ps) ms e = absurd e
+follows_first buried tomb (marks.Compact told) ms e = absurd e
 follows_first ended tomb m ms e = absurd (filled_no m ms e)
   where
     filled_no : (m : ChainMark) (ms : List ChainMark) → m ∷ ms ≡ [] → ⊥
@@ -131,9 +152,9 @@ form_takes f bytes tag b rest fits e =
         clash : (r : Reading (ℕ × Form)) (k : ℕ) (x : (ℕ × Form) × List ℕ) → r ≡ Err k → r ≡ Ok x → ⊥
         clash r k x p q = cc
 
--- each form's numbers are those of marks
-pub form_tags : (f b : Form) (tag : ℕ) → form_behind f tag ≡ Some b → IsTag tag
-form_tags start b tag e =
+-- the numbers of the first mark of an element are those of marks
+tags_started : (b : Form) (tag : ℕ) → form_started tag ≡ Some b → IsTag tag
+tags_started b tag e =
     elim (nat_eq tag 1) as (λ t. nat_eq tag 1 ≡ t → cond t (Some linked) (cond (nat_eq tag 2) (Some buried) (cond (nat_le 3 tag && nat_le tag 5) (Some ended) None)) ≡ Some b → IsTag tag) [
       | true ↦ λ is g. inl (eqb-true tag 1 is)
       | false ↦ λ not_one g. elim (nat_eq tag 2) as (λ t. nat_eq tag 2 ≡ t → cond t (Some buried) (cond (nat_le 3 tag && nat_le tag 5) (Some ended) None) ≡ Some b → IsTag tag) [
@@ -153,6 +174,11 @@ form_tags start b tag e =
         | false ↦ λ nor. inr (inr (grind (arith, nat_tests, low, high, no, nor)))
       ] refl
     ] refl
+
+-- each form's numbers are those of marks
+pub form_tags : (f b : Form) (tag : ℕ) → form_behind f tag ≡ Some b → IsTag tag
+form_tags first b tag e = tags_started b tag e
+form_tags start b tag e = tags_started b tag e
 form_tags linked b tag e =
     elim (nat_eq tag 2) as (λ t. nat_eq tag 2 ≡ t → cond t (Some linked) (cond (nat_eq tag 5) (Some ended) None) ≡ Some b → IsTag tag) [
       | true ↦ λ is g. inr (inl (eqb-true tag 2 is))
@@ -178,27 +204,40 @@ pub record MarksRead (f : Form) (tomb : Option ℕ) (n : ℕ) (bytes : List ℕ)
   pub fits : AllByRecursion FitsMark ms
   pub follows : Follows f tomb ms
 
+-- an element begins in this form
+abbrev starts : Form → Bool
+starts first = true
+starts start = true
+starts linked = false
+starts buried = false
+starts ended = false
+
+never_started : (b : Form) (tag : ℕ) → form_started tag ≡ Some b → starts b ≡ false
+never_started b tag e = elim (nat_eq tag 1) as (λ t. cond t (Some linked) (cond (nat_eq tag 2) (Some buried) (cond (nat_le 3 tag && nat_le tag 5) (Some ended) None)) ≡ Some b → starts b ≡ false) [
+  | true ↦ λ g. subst (λ f. starts f ≡ false) (to_form linked b g) refl
+  | false ↦ λ g. elim (nat_eq tag 2) as (λ t. cond t (Some buried) (cond (nat_le 3 tag && nat_le tag 5) (Some ended) None) ≡ Some b → starts b ≡ false) [
+    | true ↦ λ k. subst (λ f. starts f ≡ false) (to_form buried b k) refl
+    | false ↦ λ k. elim (nat_le 3 tag && nat_le tag 5) as (λ t. cond t (Some ended) None ≡ Some b → starts b ≡ false) [ true ↦ λ n. subst (λ f. starts f ≡ false) (to_form ended b n) refl | false ↦ λ n. absurd (no_form b n) ] k
+  ] g
+] e
+
+never : (f b : Form) (tag : ℕ) → form_behind f tag ≡ Some b → starts b ≡ false
+never first b tag e = never_started b tag e
+never start b tag e = never_started b tag e
+never linked b tag e = elim (nat_eq tag 2) as (λ t. cond t (Some linked) (cond (nat_eq tag 5) (Some ended) None) ≡ Some b → starts b ≡ false) [
+  | true ↦ λ g. subst (λ f. starts f ≡ false) (to_form linked b g) refl
+  | false ↦ λ g. elim (nat_eq tag 5) as (λ t. cond t (Some ended) None ≡ Some b → starts b ≡ false) [ true ↦ λ k. subst (λ f. starts f ≡ false) (to_form ended b k) refl | false ↦ λ k. absurd (no_form b k) ] g
+] e
+never buried b tag e = elim (nat_eq tag 2) as (λ t. cond t (Some buried) None ≡ Some b → starts b ≡ false) [ true ↦ λ g. subst (λ f. starts f ≡ false) (to_form buried b g) refl | false ↦ λ g. absurd (no_form b g) ] e
+never ended b tag e = absurd (no_form b e)
+
 -- behind a mark nothing starts
 later_start : (f b : Form) (m : ChainMark) → form_behind f (tag_of m) ≡ Some b → IsStart b (tomb_of m)
 later_start f b m e = by f b (tag_of m) e
   where
     by : (f b : Form) (tag : ℕ) → form_behind f tag ≡ Some b → IsStart b (tomb_of m)
-    by f start tag e = absurd (never f tag e)
-      where
-        never : (f : Form) (tag : ℕ) → form_behind f tag ≡ Some start → ⊥
-        never start tag e = elim (nat_eq tag 1) as (λ t. cond t (Some linked) (cond (nat_eq tag 2) (Some buried) (cond (nat_le 3 tag && nat_le tag 5) (Some ended) None)) ≡ Some start → ⊥) [
-          | true ↦ λ g. cc
-          | false ↦ λ g. elim (nat_eq tag 2) as (λ t. cond t (Some buried) (cond (nat_le 3 tag && nat_le tag 5) (Some ended) None) ≡ Some start → ⊥) [
-            | true ↦ λ g. cc
-            | false ↦ λ g. elim (nat_le 3 tag && nat_le tag 5) as (λ t. cond t (Some ended) None ≡ Some start → ⊥) [ true ↦ λ g. cc | false ↦ λ g. cc ] g
-          ] g
-        ] e
-        never linked tag e = elim (nat_eq tag 2) as (λ t. cond t (Some linked) (cond (nat_eq tag 5) (Some ended) None) ≡ Some start → ⊥) [
-          | true ↦ λ g. cc
-          | false ↦ λ g. elim (nat_eq tag 5) as (λ t. cond t (Some ended) None ≡ Some start → ⊥) [ true ↦ λ g. cc | false ↦ λ g. cc ] g
-        ] e
-        never buried tag e = elim (nat_eq tag 2) as (λ t. cond t (Some buried) None ≡ Some start → ⊥) [ true ↦ λ g. cc | false ↦ λ g. cc ] e
-        never ended tag e = absurd (no_form start e)
+    by f first tag e = absurd (true≢false (never f first tag e))
+    by f start tag e = absurd (true≢false (never f start tag e))
     by f linked tag e = tt
     by f buried tag e = tt
     by f ended tag e = tt
@@ -233,15 +272,15 @@ marks_takes f tomb (suc n) bytes ms rest at fits e =
 pub marks_again : (f : Form) (tomb : Option ℕ) (ms : List ChainMark) (rest : List ℕ) → AllByRecursion IsMark ms → AllByRecursion FitsMark ms → Follows f tomb ms → marks_at f tomb (length ms) (flat_map mark_text ms ++ rest) ≡ Ok (ms, rest)
 marks_again f tomb [] rest each fits follows = refl
 marks_again f tomb (m ∷ ms) rest each fits follows =
-    let first = follows_first f tomb m ms follows in
+    let head = follows_first f tomb m ms follows in
     let t2 = flat_map mark_text ms ++ rest in
     let t1 = body_text m ++ t2 in
     let whole : flat_map mark_text (m ∷ ms) ++ rest ≡ tag_of m ∷ t1 =
     ap (λ (t : List ℕ). t ++ rest) (flat_map-cons mark_text m ms) ∙ (append_assoc (mark_text m) (flat_map mark_text ms) rest ∙ ap (λ (t : List ℕ). t ++ t2) (mark_text-is m)) in
     ap (marks_at f tomb (suc (length ms))) whole
-    ∙ (bind_is (form_at f (tag_of m ∷ t1)) ((tag_of m, first.behind), t1) _ (form_again f first.behind (tag_of m) t1 first.form)
-    ∙ (bind_is (mark_at (tag_of m) tomb t1) (m, t2) _ (mark_again m tomb t2 each.0 fits.0 first.above)
-    ∙ bind_is (marks_at first.behind (tomb_of m) (length ms) t2) (ms, rest) _ (marks_again first.behind (tomb_of m) ms rest each.1 fits.1 first.more)))
+    ∙ (bind_is (form_at f (tag_of m ∷ t1)) ((tag_of m, head.behind), t1) _ (form_again f head.behind (tag_of m) t1 head.form)
+    ∙ (bind_is (mark_at (tag_of m) tomb t1) (m, t2) _ (mark_again m tomb t2 each.0 fits.0 head.above)
+    ∙ bind_is (marks_at head.behind (tomb_of m) (length ms) t2) (ms, rest) _ (marks_again head.behind (tomb_of m) ms rest each.1 fits.1 head.more)))
 
 -- ---- the element before
 

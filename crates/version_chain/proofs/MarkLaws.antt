@@ -18,7 +18,7 @@ use Rattle.bucket_core.specs.declared.event.PieceName.{PieceName}
 use Rattle.store_model.specs.declared.chain.ChainMark.{ChainMark}
 use Rattle.store_model.specs.declared.chain.ChainMark.TheVariants as marks
 use Rattle.store_model.specs.Commits.{IsFilled, PiecesRise}
-use Rattle.store_model.specs.ChainText.{holder_text, piece_text, mark_text, holder_at, piece_before, pieces_at, link_at, tomb_at, hold_at, release_at, discard_at, mark_at}
+use Rattle.store_model.specs.ChainText.{holder_text, piece_text, told_text, hold_text, mark_text, holder_at, piece_before, pieces_at, link_at, tomb_at, hold_at, release_at, discard_at, mark_at}
 use Rattle.version_chain.specs.Entries.{IsMark, IsAbove, FitsHolder, FitsPiece, FitsMark}
 
 -- ---- two numbers, of four and of eight bytes
@@ -134,6 +134,7 @@ tag_of (marks.Tomb version) = 2
 tag_of (marks.Hold holder version) = 3
 tag_of (marks.Release holder) = 4
 tag_of (marks.Discard pieces) = 5
+tag_of (marks.Compact told) = 6
 
 -- the bytes behind a mark's number
 abbrev pub body_text : ChainMark → List ℕ
@@ -142,6 +143,8 @@ body_text (marks.Tomb version) = to_be_bytes w64 version
 body_text (marks.Hold holder version) = holder_text holder ++ to_be_bytes w64 version
 body_text (marks.Release holder) = holder_text holder
 body_text (marks.Discard pieces) = to_be_bytes w64 (length pieces) ++ flat_map piece_text pieces
+body_text (marks.Compact told) =
+    to_be_bytes w64 (length told.links) ++ flat_map told_text told.links ++ to_be_bytes w64 (length told.holds) ++ flat_map hold_text told.holds ++ to_be_bytes w64 (length told.pieces) ++ flat_map piece_text told.pieces
 
 pub mark_text-is : (m : ChainMark) → mark_text m ≡ tag_of m ∷ body_text m
 mark_text-is (marks.Link l) = refl
@@ -149,6 +152,7 @@ mark_text-is (marks.Tomb version) = refl
 mark_text-is (marks.Hold holder version) = refl
 mark_text-is (marks.Release holder) = refl
 mark_text-is (marks.Discard pieces) = refl
+mark_text-is (marks.Compact told) = refl
 
 -- a Tomb is above the one before it
 abbrev pub IsAboveTomb : Option ℕ → ChainMark → Type 0
@@ -302,3 +306,4 @@ mark_again (marks.Discard pieces) tomb rest is fits above =
     ∙ (bind_is (number_at w64 (to_be_bytes w64 (length pieces) ++ t)) (length pieces, t) _ (number_again w64 (2 ^ 64) wide64 (length pieces) t fits.0)
     ∙ bind_is (wanted (nat_le 1 (length pieces)) (to_be_bytes w64 (length pieces) ++ t) (pieces_at None (length pieces) t)) (pieces, rest) _
     (wanted_is (nat_le 1 (length pieces)) _ (pieces_at None (length pieces) t) (one_at_least pieces is.0) ∙ pieces_again None pieces rest fits.1 is.1))
+mark_again (marks.Compact told) tomb rest is fits above = absurd is

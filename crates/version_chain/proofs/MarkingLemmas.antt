@@ -104,6 +104,7 @@ module _ (st : State) (seen others : History) (client : ℕ) (symbol : Name) (en
   mark_fits (changes.Wrote frame at) f = absurd f
   mark_fits (changes.Appended frame at) f = absurd f
   mark_fits (changes.Updated frame range at) f = absurd f
+  mark_fits changes.Restated f = absurd f
 
 pub makes_none : (st : State) (seen : History) (client : ℕ) (symbol : Name) (c : Change) → FitsOn st seen client symbol c → is_version c ≡ false
 makes_none st seen client symbol (changes.Removed versions) f = refl
@@ -113,6 +114,7 @@ makes_none st seen client symbol (changes.Discarded pieces) f = refl
 makes_none st seen client symbol (changes.Wrote frame at) f = absurd f
 makes_none st seen client symbol (changes.Appended frame at) f = absurd f
 makes_none st seen client symbol (changes.Updated frame range at) f = absurd f
+makes_none st seen client symbol changes.Restated f = absurd f
 
 -- ---- the Refer
 
@@ -129,11 +131,13 @@ mark_may_follow h client symbol was entry body c none e own fits = record {
   own = own.unlinked.own;
   stands = ap is_some own.stands;
   fresh = subst (λ s. list_any (λ k. same_key k entry) (entries h s) ≡ false) e.name own.unlinked.no_entry;
-  form = marking c none;
-  row = e.row;
-  spelled = read_put (λ b. read_of (entry_of b)) (body_put h entry) body _ own.put (ap read_of e.spelled);
-  fits = ((no_version c none, fits), tt);
-  prunes = tt;
+  how = inl (record {
+    form = marking c none;
+    row = e.row;
+    spelled = read_put (λ b. read_of (entry_of b)) (body_put h entry) body _ own.put (ap read_of e.spelled);
+    fits = ((no_version c none, fits), tt);
+    prunes = tt;
+  });
 }
   where
     no_version : (c : Change) → is_version c ≡ false → IfSome (new_version (state_of h symbol) c) (FitsLink h client symbol e.row)
@@ -144,6 +148,7 @@ mark_may_follow h client symbol was entry body c none e own fits = record {
     no_version (changes.Wrote frame at) n = absurd (true≢false n)
     no_version (changes.Appended frame at) n = absurd (true≢false n)
     no_version (changes.Updated frame range at) n = absurd (true≢false n)
+    no_version changes.Restated n = tt
 
 -- so the Refer may be tried: it may follow, or the reference has moved on
 pub mark_may_be_tried : (before later others : History) (client : ℕ) (symbol : Name) (was : Option Key) (entry : Key) (body : Bytes) (c : Change)

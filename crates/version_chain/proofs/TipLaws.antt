@@ -23,14 +23,15 @@ use Rattle.store_model.specs.ChainText.{tomb_of}
 use Rattle.store_model.specs.Intact.{IsLinkOf}
 use Rattle.store_model.specs.Library.{Version, state_of, number_after, next_number, is_buried, is_live, is_linked, live_versions}
 use Rattle.store_model.specs.Links.{Linked, links, element}
-use Rattle.store_model.specs.Commits.{FitsChange, MayRefer, marks_of}
-use Rattle.store_model.specs.Walks.{row_of, chain, tombs_in, rows_in}
+use Rattle.store_model.specs.Commits.{FitsChange, MayRefer, MayChange, marks_of}
+use Rattle.store_model.specs.PlainWalks.{row_of, chain, tombs_in, rows_in}
 use Rattle.store_model.specs.Law.{IsClaimed, IsLawful}
 use Rattle.store_model.proofs.Lawful.{lawful_is_intact}
 use Rattle.store_model.proofs.Lists.{all_weaker}
 use Rattle.store_model.proofs.Numbering.{AreNumbered, versions_numbered}
 use Rattle.store_model.proofs.Referring.{at_symbol}
-use Rattle.store_model.proofs.Walking.{walk_is_state}
+use Rattle.store_model.proofs.Plainly.{is_commit}
+use Rattle.store_model.proofs.PlainWalking.{walk_is_state}
 use Rattle.version_chain.specs.declared.tip.ChainTip.{ChainTip}
 use Rattle.version_chain.specs.States.{is_tomb}
 use Rattle.version_chain.specs.Tips.{newest_live, IsTipOf, IsTipAt, is_unburied, has_live, IsNewestPart, number_behind, live_among, IsTipIn}
@@ -102,6 +103,7 @@ commit_tombs h client symbol row (changes.Removed versions ∷ list) fits =
 commit_tombs h client symbol row (changes.Held holder version ∷ list) fits = commit_tombs h client symbol row list fits.1
 commit_tombs h client symbol row (changes.Released holder ∷ list) fits = commit_tombs h client symbol row list fits.1
 commit_tombs h client symbol row (changes.Discarded pieces ∷ list) fits = commit_tombs h client symbol row list fits.1
+commit_tombs h client symbol row (changes.Restated ∷ list) fits = commit_tombs h client symbol row list fits.1
 
 next_zip : (ls : List Linked) (vs : List Version) → AllZip IsLinkOf ls vs → number_behind (map (λ (l : Linked). l.row) ls) ≡ number_after vs
 next_zip [] [] z = refl
@@ -113,7 +115,7 @@ next_zip (l ∷ ls) (v ∷ vs) z = ap suc z.0.number
 behind_is_next : (h : History) (symbol : Name) → IsLawful h → number_behind (rows_in (chain h symbol)) ≡ next_number (state_of h symbol)
 behind_is_next h symbol l = ap number_behind (walk_is_state h l symbol).rows ∙ next_zip (links h symbol) (state_of h symbol).versions ((lawful_is_intact h l).versions symbol)
 
-commit_follows : (h : History) (client : ℕ) (symbol : Name) (was : Option Key) (entry : Key) (list : List Change) → IsLawful h → MayRefer h client symbol was entry list → TombsFollow (chain h symbol)
+commit_follows : (h : History) (client : ℕ) (symbol : Name) (was : Option Key) (entry : Key) (list : List Change) → IsLawful h → MayChange h client symbol was entry list → TombsFollow (chain h symbol)
     → TombsFollow (cons_option (element h entry) (chain h symbol))
 commit_follows h client symbol was entry list l may old =
     subst (λ o. TombsFollow (cons_option o (chain h symbol))) (sym may.spelled) (
@@ -130,7 +132,7 @@ tombs_follow [] l symbol = tt
 tombs_follow (events.Put c key body ∷ h) l symbol = tombs_follow h l.1 symbol
 tombs_follow (events.Refer c s was entry list ∷ h) l symbol =
     at_symbol s symbol (λ b. TombsFollow (cond b (cons_option (element h entry) (chain h symbol)) (chain h symbol)))
-    (λ e. commit_follows h c symbol was entry list l.1 (subst (λ n. MayRefer h c n was entry list) e l.0.1) (tombs_follow h l.1 symbol))
+    (λ e. commit_follows h c symbol was entry list l.1 (is_commit h c symbol was entry list (subst (λ n. MayRefer h c n was entry list) e l.0.1)) (tombs_follow h l.1 symbol))
     (tombs_follow h l.1 symbol)
 tombs_follow (events.Name c snap body ∷ h) l symbol = tombs_follow h l.1 symbol
 tombs_follow (events.Unname c snap ∷ h) l symbol = tombs_follow h l.1 symbol

@@ -9,7 +9,7 @@ use Rattle.store_model.specs.declared.chain.ChainMark.{ChainMark}
 use Rattle.store_model.specs.declared.chain.ChainMark.TheVariants as marks
 use Rattle.store_model.specs.declared.chain.Entry.{Entry}
 use Rattle.store_model.specs.ChainText.{tomb_of}
-use Rattle.store_model.specs.Walks.{row_of, tombs_in, rows_in}
+use Rattle.store_model.specs.PlainWalks.{row_of, tombs_in, rows_in}
 use Rattle.version_chain.specs.Tips.{links_live, is_unburied, has_live, IsNewestPart}
 use Rattle.version_chain.proofs.Collected.{rows_in-push, tombs_in-push}
 
@@ -25,6 +25,7 @@ marks_live tombs (marks.Tomb version ∷ ms) = marks_live tombs ms
 marks_live tombs (marks.Hold holder version ∷ ms) = marks_live tombs ms
 marks_live tombs (marks.Release holder ∷ ms) = marks_live tombs ms
 marks_live tombs (marks.Discard pieces ∷ ms) = marks_live tombs ms
+marks_live tombs (marks.Compact told ∷ ms) = marks_live tombs ms
 
 -- the last element links a live version
 pub live_last : (tombs : List ℕ) (es es' : List Entry) (e : Entry) → tombs ≡ tombs_in es' → es' ≡ es ++ e ∷ [] → list_any (links_live tombs) e.changes ≡ true → has_live es' ≡ true

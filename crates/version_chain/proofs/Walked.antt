@@ -40,14 +40,16 @@ use Rattle.store_model.specs.Commits.{Rising}
 use Rattle.store_model.specs.Intact.{IsLinkOf}
 use Rattle.store_model.specs.Library.{State, Version, state_of, number_after, next_number, new_version, after_change, after_changes}
 use Rattle.store_model.specs.Links.{Linked, links, entries, is_entry, element}
-use Rattle.store_model.specs.Walks.{chain, rows_in, tombs_in, holds_in, pieces_in}
+use Rattle.store_model.specs.PlainWalks.{chain, rows_in, tombs_in, holds_in, pieces_in}
 use Rattle.store_model.specs.Law.{IsClaimed, IsLawful}
 use Rattle.store_model.proofs.AsPut.{element_stays, elements_as_put}
 use Rattle.store_model.proofs.Histories.{stands_was_put}
 use Rattle.store_model.proofs.Lawful.{lawful_is_intact}
 use Rattle.store_model.proofs.Standing.{lawful_is_shown}
-use Rattle.store_model.proofs.Walking.{has_elements, walk_is_state}
-use Rattle.store_model.proofs.Following.{entries-first, chain-prev, chain-at, puts_stay, entry_stays, entry_is_among, among_is_entry, at_is_among, put_key}
+use Rattle.store_model.proofs.PlainWalking.{has_elements, walk_is_state}
+use Rattle.store_model.proofs.Plainly.{entries_stand}
+use Rattle.store_model.proofs.PlainFollowing.{entries-first, chain-prev, chain-at}
+use Rattle.store_model.proofs.Following.{puts_stay, entry_stays, entry_is_among, among_is_entry, at_is_among, put_key}
 
 some_is : {A : Type 0} (a b : A) → Some a ≡ Some b → a ≡ b
 some_is a b e = cc
@@ -107,7 +109,7 @@ module _ (h : History) (lawful : IsLawful h) (symbol : Name) (key : Key) (is : i
   among = entry_is_among h symbol key is
 
   pub entry_stands : StandsAsPut h key
-  entry_stands = (lawful_is_intact h lawful).elements symbol key among
+  entry_stands = entries_stand h lawful symbol key among
 
   pub entry_is_put : is_put key.kind ≡ true
   entry_is_put = ap is_put ((lawful_is_intact h lawful).element_keys symbol key among).1
@@ -322,6 +324,7 @@ new_is_next st (changes.Removed versions) = tt
 new_is_next st (changes.Held holder version) = tt
 new_is_next st (changes.Released holder) = tt
 new_is_next st (changes.Discarded pieces) = tt
+new_is_next st changes.Restated = tt
 
 falls_after : (st : State) (list : List Change) → Falls (map (λ (v : Version). v.number) st.versions) → Falls (map (λ (v : Version). v.number) (fold after_change st list).versions)
 falls_after st [] falls = falls

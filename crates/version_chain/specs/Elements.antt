@@ -4,7 +4,7 @@
 use Rattle.std.specs.Prelude.{◌≡◌, ℕ, ◌-◌, List, length, map, reverse, Option, Some, None, slice_get}
 use Rattle.key_kind.specs.declared.key.Key.{Key}
 use Rattle.store_model.specs.declared.chain.Entry.{Entry}
-use Rattle.store_model.specs.Walks.{tombs_in, rows_in, pieces_in, holds_in}
+use Rattle.store_model.specs.PlainWalks.{tombs_in, rows_in, pieces_in, holds_in}
 use Rattle.version_chain.specs.declared.state.SymbolState.{SymbolState}
 use Rattle.version_chain.specs.States.{hold_of}
 

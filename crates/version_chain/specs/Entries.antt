@@ -30,10 +30,11 @@ pub record IsLink (row : LinkRow) : Type 0 where
   pub rows : row.rows < 2 ^ 32
   pub index : IsKeyOf kinds.TableIndex row.index
 
--- a Link keeps these rules; a Discard has pieces, ascending
+-- a Link keeps these rules; a Discard has pieces, ascending; a Compact is no mark while gate B of ChainText is closed
 abbrev pub IsMark : ChainMark → Type 0
 IsMark (marks.Link row) = IsLink row
 IsMark (marks.Discard pieces) = IsFilled pieces × PiecesRise pieces
+IsMark (marks.Compact told) = ⊥
 IsMark _ = ⊤
 
 -- the number is above the one before it, if there is one
@@ -93,6 +94,7 @@ FitsMark (marks.Tomb version) = version < 2 ^ 64
 FitsMark (marks.Hold holder version) = FitsHolder holder × (version < 2 ^ 64)
 FitsMark (marks.Release holder) = FitsHolder holder
 FitsMark (marks.Discard pieces) = (length pieces < 2 ^ 64) × AllByRecursion FitsPiece pieces
+FitsMark (marks.Compact told) = ⊥
 
 -- an element's numbers, and how many marks it has
 pub record FitsEntry (e : Entry) : Type 0 where

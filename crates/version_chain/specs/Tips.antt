@@ -13,7 +13,7 @@ use Rattle.store_model.specs.declared.chain.ChainMark.TheVariants as marks
 use Rattle.store_model.specs.declared.chain.Entry.{Entry}
 use Rattle.store_model.specs.Library.{Version, state_of, is_buried, live_versions, next_number}
 use Rattle.store_model.specs.Links.{Linked, links}
-use Rattle.store_model.specs.Walks.{tombs_in, rows_in}
+use Rattle.store_model.specs.PlainWalks.{tombs_in, rows_in}
 use Rattle.version_chain.specs.declared.tip.ChainTip.{ChainTip}
 use Rattle.version_chain.specs.States.{is_tomb}
 

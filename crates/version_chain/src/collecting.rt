@@ -1,7 +1,7 @@
 ghost use Rattle.std.specs.Prelude.{◌≡◌, ◌++◌, [], ◌∷◌, not, map, filter, filter_map, flat_map, fold, reverse, IfOk, OnOk};
 ghost use Rattle.key_kind.specs.Keys.{same_holder};
 ghost use Rattle.store_model.specs.ChainText.{tomb_of};
-ghost use Rattle.store_model.specs.Walks.{row_of, pieces_of, holds_after_mark, tombs_in, rows_in, pieces_in, holds_in};
+ghost use Rattle.store_model.specs.PlainWalks.{row_of, pieces_of, holds_after_mark, tombs_in, rows_in, pieces_in, holds_in};
 ghost use Rattle.version_chain.specs.States.{hold_of};
 ghost use Rattle.version_chain.specs.Elements.{IsCollected};
 

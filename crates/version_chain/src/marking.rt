@@ -193,6 +193,7 @@ fn marks_of(alloc: Global, change: &Change) -> Result<Items<ChainMark>, NoMemory
                 pieces: Items::from_slice(alloc, pieces.items())?,
             },
         ),
+        Change::Restated => Ok(Items::new(alloc)),
         _ => unreachable!(),
     }
 }
@@ -234,6 +235,7 @@ fn changes_of(alloc: Global, change: &Change) -> Result<Arc<Changes>, NoMemory>
         Change::Discarded { pieces } => Change::Discarded {
             pieces: Items::from_slice(alloc, pieces.items())?,
         },
+        Change::Restated => Change::Restated,
         _ => unreachable!(),
     };
     let mut changes = Items::new(alloc);

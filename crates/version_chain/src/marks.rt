@@ -219,5 +219,7 @@ pub(crate) fn put_mark(out: &mut Vec<u8>, mark: &ChainMark) -> Result<(), NoMemo
             put_u64(out, pieces.len() as u64)?;
             put_pieces(out, pieces.items())
         }
+        // No rule of marks is kept by a Compact yet.
+        ChainMark::Compact(_) => unreachable!(),
     }
 }

@@ -5,7 +5,7 @@ ghost use Rattle.bucket_core.specs.Laws.{Looks};
 ghost use Rattle.bucket_core.specs.Calls.{IsSteady};
 ghost use Rattle.store_model.specs.ChainText.{tomb_of};
 ghost use Rattle.store_model.specs.Law.{IsClaimed};
-ghost use Rattle.store_model.specs.Walks.{chain};
+ghost use Rattle.store_model.specs.PlainWalks.{chain};
 ghost use Rattle.version_chain.specs.States.{IsWithin, RefusesWalk, is_tomb};
 ghost use Rattle.version_chain.specs.Tips.{links_live, is_unburied, number_behind, live_among, IsTipAt, IsTipIn, IsNewestPart};
 

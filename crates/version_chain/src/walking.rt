@@ -4,7 +4,7 @@ ghost use Rattle.bucket_core.specs.Laws.{Looks};
 ghost use Rattle.bucket_core.specs.Calls.{IsSteady};
 ghost use Rattle.store_model.specs.Law.{IsClaimed};
 ghost use Rattle.store_model.specs.Commits.{Rising};
-ghost use Rattle.store_model.specs.Walks.{chain};
+ghost use Rattle.store_model.specs.PlainWalks.{chain};
 ghost use Rattle.version_chain.specs.States.{IsStateAt, IsWithin, RefusesWalk};
 ghost use Rattle.version_chain.specs.Elements.{next_of, IsCollected};
 

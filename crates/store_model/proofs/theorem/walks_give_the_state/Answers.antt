@@ -1,5 +1,9 @@
 use Rattle.store_model.proofs.Walking.{lawful_walks}
+use Rattle.store_model.proofs.PlainWalking.{plain_walks}
 use Rattle.store_model.proofs.theorem.walks_give_the_state.Goals as goal
 
-pub returns : goal.returns
-returns c = lawful_walks
+pub returns-clause-state : goal.returns-clause-state
+returns-clause-state c = lawful_walks
+
+pub returns-clause-plainly : goal.returns-clause-plainly
+returns-clause-plainly c = plain_walks

@@ -1,6 +1,6 @@
 use Rattle.std.proofs.Common.{◌≡◌, ◌++◌, length, reverse}
 use Rattle.std.specs.Prelude.{filter_map}
-use Rattle.store_model.specs.Walks.{row_of}
+use Rattle.store_model.specs.PlainWalks.{row_of}
 use Rattle.version_chain.proofs.collecting.add_links.Given as goal
 
 -- with those of the marks that are left they are all

@@ -1,6 +1,6 @@
 use Rattle.std.proofs.Common.{◌≡◌, ◌++◌, take}
 use Rattle.std.specs.Prelude.{flat_map}
-use Rattle.store_model.specs.Walks.{pieces_of}
+use Rattle.store_model.specs.PlainWalks.{pieces_of}
 use Rattle.version_chain.proofs.collecting.add_pieces.Given as goal
 
 -- the pieces so far were added

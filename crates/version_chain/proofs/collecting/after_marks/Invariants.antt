@@ -1,6 +1,6 @@
 use Rattle.std.proofs.Common.{◌≡◌, drop, map}
 use Rattle.std.specs.Prelude.{fold}
-use Rattle.store_model.specs.Walks.{holds_after_mark}
+use Rattle.store_model.specs.PlainWalks.{holds_after_mark}
 use Rattle.version_chain.specs.States.{hold_of}
 use Rattle.version_chain.proofs.collecting.after_marks.Given as goal
 

@@ -1,5 +1,5 @@
 use Rattle.std.proofs.Common.{◌≡◌, drop, map}
-use Rattle.store_model.specs.Walks.{holds_in}
+use Rattle.store_model.specs.PlainWalks.{holds_in}
 use Rattle.version_chain.specs.States.{hold_of}
 use Rattle.version_chain.proofs.collecting.find_holds.Given as goal
 

@@ -1,5 +1,5 @@
 use Rattle.std.proofs.Common.{◌≡◌, ◌++◌, drop}
-use Rattle.store_model.specs.Walks.{pieces_in}
+use Rattle.store_model.specs.PlainWalks.{pieces_in}
 use Rattle.version_chain.proofs.collecting.find_pieces.Given as goal
 
 -- with those of the elements that are left they are all

@@ -1,5 +1,5 @@
 use Rattle.std.proofs.Common.{◌≡◌, ◌++◌, drop}
-use Rattle.store_model.specs.Walks.{tombs_in}
+use Rattle.store_model.specs.PlainWalks.{tombs_in}
 use Rattle.version_chain.proofs.collecting.find_tombs.Given as goal
 
 -- with those of the elements that are left they are all

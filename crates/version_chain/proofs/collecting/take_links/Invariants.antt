@@ -1,5 +1,5 @@
 use Rattle.std.proofs.Common.{◌≡◌, ◌++◌, length, reverse}
-use Rattle.store_model.specs.Walks.{rows_in}
+use Rattle.store_model.specs.PlainWalks.{rows_in}
 use Rattle.version_chain.proofs.collecting.take_links.Given as goal
 
 -- with those of the elements that are left they are all

@@ -3,7 +3,7 @@ use Rattle.bucket_core.specs.Laws.{Looks}
 use Rattle.bucket_core.specs.Calls.{IsSteady}
 use Rattle.store_model.specs.Law.{IsClaimed}
 use Rattle.store_model.specs.Links.{entries}
-use Rattle.store_model.specs.Walks.{tombs_in}
+use Rattle.store_model.specs.PlainWalks.{tombs_in}
 use Rattle.version_chain.proofs.Walked.{ReadSoFar}
 use Rattle.version_chain.proofs.tip.read_to_live.Given as goal
 

@@ -1,7 +1,7 @@
 use Rattle.std.proofs.Common.{◌≡◌, ◌∙◌, sym, subst, Some, None}
 use Rattle.std.proofs.lemmas.Result.{IfOk-weaker}
 use Rattle.bucket_core.specs.History.{reference}
-use Rattle.store_model.specs.Walks.{chain}
+use Rattle.store_model.specs.PlainWalks.{chain}
 use Rattle.version_chain.specs.Tips.{IsNewestPart}
 use Rattle.version_chain.proofs.TipLaws.{tip_at}
 use Rattle.version_chain.proofs.TipReads.{whole_read}

@@ -1,7 +1,7 @@
 use Rattle.std.proofs.Common.{◌≡◌, ◌∙◌, sym, ap, subst, Some, None}
 use Rattle.std.proofs.lemmas.Result.{IfOk-weaker}
 use Rattle.bucket_core.specs.History.{reference}
-use Rattle.store_model.specs.Walks.{chain}
+use Rattle.store_model.specs.PlainWalks.{chain}
 use Rattle.version_chain.proofs.Walked.{looks_then, looks_none, reference_name_told, no_elements_told, collected_told, rising_told, state_at}
 use Rattle.version_chain.proofs.walking.walk.Goals as goal
 
