@@ -1,6 +1,6 @@
 -- The objects that a link reaches, and what it means that one is gone.
 use Rattle.std.proofs.Common.{◌≡◌, ℕ, ◌+◌, true, false, not, ◌&&◌, List, [], ◌∷◌, ◌++◌, map, length, refl, sym, ap, ◌∙◌, subst, cond, inl, inr, arith, Option, Some, None, Result, Ok, Err, nat_eq}
-use Rattle.std.specs.Prelude.{Contains, option_map, option_and_then}
+use Rattle.std.specs.Prelude.{Contains, option_and_then}
 use Rattle.std.specs.List.{AllZip, list_any}
 use Rattle.std.proofs.lemmas.List.{length-append}
 use Rattle.std.proofs.lemmas.Bool.{true≢false, and_parts, or_parts, or_left, or_right, eq-eqb, eqb-true}
@@ -10,22 +10,22 @@ use denote.Struct.Props.{props}
 use Rattle.byte_fields.specs.Reading.{read_of}
 use Rattle.index_tree.specs.declared.index.Index.{Index}
 use Rattle.index_tree.specs.IndexText.{index_of}
-use Rattle.segment_cut.specs.Tiles.{Tile}
 use Rattle.key_kind.specs.declared.key.Key.{Key}
 use Rattle.key_kind.specs.Names.{Name, same_name}
 use Rattle.key_kind.specs.Keys.{is_put, same_key}
 use Rattle.key_kind.proofs.KeyTests.{same_key_is}
 use Rattle.bucket_core.specs.declared.event.Event.TheVariants as events
 use Rattle.bucket_core.specs.History.{History, Bytes, stored, body_put, history_at}
-use Rattle.store_model.specs.declared.chain.LinkRow.{LinkRow}
 use Rattle.store_model.specs.Library.{Version, State, state_of, is_live, is_linked, is_held, is_kept, is_buried}
-use Rattle.store_model.specs.Links.{Linked, linked, links, links_at, reached, index_put, tiles_put}
+use Rattle.store_model.specs.Links.{Linked, linked, links, links_at, reached}
 use Rattle.store_model.specs.Holders.{has_index}
 use Rattle.store_model.specs.Law.{IsLawful}
 use Rattle.store_model.specs.Intact.{IsTableKey}
-use Rattle.store_model.proofs.Lawful.{lawful_is_intact, lawful_as_put}
-use Rattle.store_model.proofs.Lists.{contains_first, contains_cases, contains_none, contains_right, one_passes}
+use Rattle.store_model.proofs.Lawful.{lawful_is_intact}
+use Rattle.store_model.proofs.Lists.{contains_cases, contains_none, contains_right, one_passes}
 use Rattle.store_model.proofs.Histories.{stands_was_put}
+use Rattle.store_model.specs.PlainLinks.{flat_put}
+use Rattle.store_model.proofs.PlainLinks.{index_in_reach, linked_flat}
 use Rattle.version_chain.specs.States.{IsWithin}
 use Rattle.reply_model.proofs.Places.{history_at_end}
 use Rattle.frame_read.specs.declared.target.Target.{Target}
@@ -121,25 +121,11 @@ target_reaches h target there =
       link = found.0;
       link_is = found.1;
       number = sym (eqb-true target.version found.0.row.version parts.0);
-      reached_by = subst (λ key. Contains (reached found.0) key) (sym (same_key_is target.index found.0.row.index parts.1)) (contains_first found.0.row.index (map (λ s. s.key) found.0.index.slots));
+      reached_by = subst (λ key. Contains (reached found.0) key) (sym (same_key_is target.index found.0.row.index parts.1)) (index_in_reach found.0);
     }
 
 index_prop : (a b : Index) → IsProp (a ≡ b)
 index_prop a b = hlevel props
-
-linked_index : (h : History) (row : LinkRow) (l : Linked) → linked h row ≡ Some l → index_put h row.index ≡ Some l.index
-linked_index h row l e = by (index_put h row.index) e
-  where
-    of : (i : Index) (tiles : Option (List Tile)) → option_map (λ t. record { row = row; index = i; tiles = t }) tiles ≡ Some l → Some i ≡ Some l.index
-    of i None e = absurd cc
-    of i (Some tiles) e = ap (λ (o : Linked). Some o.index) (some_same e)
-      where
-        some_same : {x y : Linked} → Some x ≡ Some y → x ≡ y
-        some_same e = cc
-
-    by : (i : Option Index) → option_and_then (λ i. option_map (λ t. record { row = row; index = i; tiles = t }) (tiles_put h i.slots)) i ≡ Some l → i ≡ Some l.index
-    by None e = absurd cc
-    by (Some i) e = of i (tiles_put h i.slots) e
 
 -- what the bytes under the target's key spell is the index of its link
 pub target_index : (old more new : History) (target : Target) (body : Bytes) (index : Index) → ∥ IsLawful new ∥₁ → new ≡ more ++ old → has_index (links old target.symbol) target.version target.index ≡ true
@@ -155,8 +141,8 @@ target_index old more new target body index lawful is there put spelled =
       number = sym (eqb-true target.version found.0.row.version parts.0);
       key = key;
       is = ∥∥₁_elim lawful (index_prop found.0.index index) (λ l.
-          some_same (sym (linked_index new found.0.row found.0 ((lawful_as_put new l).links target.symbol found.0 link_is))
-          ∙ (ap (index_put new) key ∙ (ap (λ o. option_and_then (λ body. read_of (index_of body)) o) put ∙ ap read_of spelled))));
+          some_same (sym (linked_flat new l target.symbol found.0 link_is)
+          ∙ (ap (flat_put new) key ∙ (ap (λ o. option_and_then (λ body. read_of (index_of body)) o) put ∙ ap read_of spelled))));
     }
   where
     some_same : {x y : Index} → Some x ≡ Some y → x ≡ y
@@ -172,8 +158,8 @@ target_spelled old more new target body lawful is there put =
     let link_is : Contains (links new target.symbol) found.0 = subst (λ g. Contains (links g target.symbol) found.0) (sym is) (links_later more old target.symbol found.0 found.1) in (
       found.0.index,
       ∥∥₁_elim lawful (reading_prop (index_of body) (Ok found.0.index)) (λ l.
-          read_back (index_of body) found.0.index (sym (ap (index_put new) key ∙ ap (λ o. option_and_then (λ body. read_of (index_of body)) o) put)
-          ∙ linked_index new found.0.row found.0 ((lawful_as_put new l).links target.symbol found.0 link_is))),
+          read_back (index_of body) found.0.index (sym (ap (flat_put new) key ∙ ap (λ o. option_and_then (λ body. read_of (index_of body)) o) put)
+          ∙ linked_flat new l target.symbol found.0 link_is)),
     )
   where
     reading_prop : (a b : Result Index ℕ) → IsProp (a ≡ b)

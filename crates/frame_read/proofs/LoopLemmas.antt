@@ -23,6 +23,7 @@ use Rattle.store_model.specs.Law.{IsLawful}
 use Rattle.store_model.proofs.Lawful.{lawful_is_intact}
 use Rattle.store_model.proofs.Histories.{put_stays}
 use Rattle.store_model.proofs.Lists.{contains_first, contains_later, contains_cases, contains_none}
+use Rattle.store_model.proofs.PlainLinks.{slot_in_reach}
 use Rattle.frame_read.specs.declared.target.Target.{Target}
 use Rattle.frame_read.specs.declared.tiles.FetchedTile.{FetchedTile}
 use Rattle.frame_read.specs.Fetches.{Reaches, IsTargetIndex, IsGetRefusal, RefusesGet}
@@ -115,7 +116,7 @@ slot_reached h target index slot i there = record {
   link = i.link;
   link_is = i.link_is;
   number = i.number;
-  reached_by = contains_later slot.key i.link.row.index (map (λ (s : Slot). s.key) i.link.index.slots)
+  reached_by = slot_in_reach i.link slot.key
       (subst (λ (x : Index). Contains (map (λ (s : Slot). s.key) x.slots) slot.key) (sym i.is) (key_in index.slots slot there));
 }
 

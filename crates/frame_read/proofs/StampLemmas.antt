@@ -10,17 +10,18 @@ use Rattle.bucket_core.specs.declared.event.Event.TheVariants as events
 use Rattle.bucket_core.specs.History.{History}
 use Rattle.store_model.specs.Library.{Version, state_of, after_change, after_changes}
 use Rattle.store_model.specs.Links.{Linked, links, links_at, links_of}
-use Rattle.store_model.specs.Commits.{MayRefer, HasSlotStamps}
+use Rattle.store_model.specs.Commits.{MayRefer, HasSlotStamps, MayChange}
 use Rattle.store_model.specs.Law.{IsLawful}
 use Rattle.store_model.proofs.Linking.{refer_makes}
 use Rattle.store_model.proofs.Referring.{at_symbol}
+use Rattle.store_model.proofs.Plainly.{is_commit}
 
 -- the version's frame may be stored, and each slot of the link has the first and last stamp of its rows
 pub record IsStamped (l : Linked) (v : Version) : Type 0 where
   pub storable : IsStorable v.frame
   pub stamps : AllByRecursion (HasSlotStamps v.frame) l.index.slots
 
-stamped_here : (h : History) (client : ℕ) (symbol : Name) (was : Option Key) (entry : Key) (list : List Change) → MayRefer h client symbol was entry list
+stamped_here : (h : History) (client : ℕ) (symbol : Name) (was : Option Key) (entry : Key) (list : List Change) → MayChange h client symbol was entry list
     → AllZip IsStamped (links h symbol) (state_of h symbol).versions → AllZip IsStamped (links_at h entry ++ links h symbol) (fold after_change (state_of h symbol) list).versions
 stamped_here h client symbol was entry list may before = elim (refer_makes h client symbol may.row list may.form may.fits) [
   | inl none ↦
@@ -38,7 +39,7 @@ lawful_is_stamped [] lawful symbol = tt
 lawful_is_stamped (events.Put c key body ∷ h) lawful symbol = lawful_is_stamped h lawful.1 symbol
 lawful_is_stamped (events.Refer c s was entry list ∷ h) lawful symbol =
     at_symbol s symbol (λ t. AllZip IsStamped (cond t (links_at h entry ++ links h symbol) (links h symbol)) (cond t (after_changes (state_of h symbol) list) (state_of h symbol)).versions)
-    (λ e. stamped_here h c symbol was entry list (subst (λ n. MayRefer h c n was entry list) e lawful.0.1) (lawful_is_stamped h lawful.1 symbol))
+    (λ e. stamped_here h c symbol was entry list (is_commit h c symbol was entry list (subst (λ n. MayRefer h c n was entry list) e lawful.0.1)) (lawful_is_stamped h lawful.1 symbol))
     (lawful_is_stamped h lawful.1 symbol)
 lawful_is_stamped (events.Name c snap body ∷ h) lawful symbol = lawful_is_stamped h lawful.1 symbol
 lawful_is_stamped (events.Unname c snap ∷ h) lawful symbol = lawful_is_stamped h lawful.1 symbol

@@ -20,11 +20,12 @@ use Rattle.segment_cut.specs.Tiles.{Tile, Tiled, LiesIn, cut, has_row, has_cell}
 use Rattle.bucket_core.specs.History.{History}
 use Rattle.store_model.specs.declared.chain.LinkRow.{LinkRow}
 use Rattle.store_model.specs.Library.{Version, state_of}
-use Rattle.store_model.specs.Links.{Linked, linked, links, index_put, frame_put, tiles_put, with_tile}
+use Rattle.store_model.specs.Links.{Linked, linked, links, frame_put, tiles_put, with_tile}
 use Rattle.store_model.specs.Commits.{HasSlotStamps}
 use Rattle.store_model.specs.Intact.{IsLinkOf}
 use Rattle.store_model.proofs.Lawful.{lawful_is_intact, lawful_as_put}
 use Rattle.store_model.proofs.Lists.{contains_first, contains_later, contains_cases, contains_none, filter_in, in_filter, passes}
+use Rattle.store_model.proofs.PlainLinks.{linked_parts}
 use Rattle.frame_read.specs.declared.tiles.FetchedTile.{FetchedTile}
 use Rattle.frame_read.specs.TileSets.{is_asked, places_asked, IsAskedSchema, IsGot}
 use Rattle.frame_read.specs.Wholes.{HoldsPart, FetchedIsFrame}
@@ -87,19 +88,9 @@ tile_slot h (m ∷ slots) tiles e t there =
       | inr later ↦ let rest = tile_slot h slots r.1 r.3 t later in (rest.0, contains_later rest.0 m slots rest.1, rest.2)
     ]
 
+-- the tiles of a link are what was put under the keys of its slots
 pub linked_tiles : (h : History) (row : LinkRow) (l : Linked) → linked h row ≡ Some l → tiles_put h l.index.slots ≡ Some l.tiles
-linked_tiles h row l e = by (index_put h row.index) e
-  where
-    of : (i : Index) (tiles : Option (List Tile)) → tiles_put h i.slots ≡ tiles → option_map (λ t. record { row = row; index = i; tiles = t }) tiles ≡ Some l → tiles_put h l.index.slots ≡ Some l.tiles
-    of i None is e = absurd cc
-    of i (Some tiles) is e = subst (λ (x : Linked). tiles_put h x.index.slots ≡ Some x.tiles) (some_same e) is
-      where
-        some_same : {x y : Linked} → Some x ≡ Some y → x ≡ y
-        some_same e = cc
-
-    by : (i : Option Index) → option_and_then (λ i. option_map (λ t. record { row = row; index = i; tiles = t }) (tiles_put h i.slots)) i ≡ Some l → tiles_put h l.index.slots ≡ Some l.tiles
-    by None e = absurd cc
-    by (Some i) e = of i (tiles_put h i.slots) refl e
+linked_tiles h row l e = (linked_parts h row l e).tiles
 
 -- ---- fetched tiles
 
