@@ -1,13 +1,13 @@
 // The refer of a pass: one turn.
-ghost use Rattle.std.specs.Prelude.{◌≡◌, ◌≤◌, ◌^◌, length, option_copied};
+ghost use Rattle.std.specs.Prelude.{◌≡◌, ◌⊎◌, ◌<◌, ◌≤◌, ◌^◌, length, option_copied, IfErr, OnOk, OnErr};
 ghost use Rattle.std.specs.Arc.{arc_value};
 ghost use Rattle.bucket_shared.specs.Ready.{IsReady};
 ghost use Rattle.turn_cell.specs.Seats.{view, seen, Rests};
-ghost use Rattle.bucket_core.specs.History.{puts_by};
+ghost use Rattle.bucket_core.specs.History.{puts_by, reference};
 ghost use Rattle.bucket_core.specs.Heads.{HasMoved};
 ghost use Rattle.bucket_core.specs.Laws.{IsLawful};
 ghost use Rattle.bucket_core.specs.Calls.{DidChange, RefusesRefer, MayTryRefer, refer_event};
-ghost use Rattle.bucket_core.specs.Showing.{Shows};
+ghost use Rattle.bucket_core.specs.Showing.{Shows, ShowsSame, SetsReference, events_of};
 ghost use Rattle.store_model.specs.Law.{IsClaimed};
 ghost use Rattle.bucket_shared.specs.Authors.{AreEnded, AreHad};
 ghost use Rattle.bucket_shared.specs.Notes.{KeepsNotes};
@@ -18,6 +18,7 @@ use crate::event_name::EventName;
 use crate::ready::Reference;
 use crate::store::Store;
 use crate::turn::{add, take};
+use base_types::NoMemory;
 use bucket_core::{Changes, Contents, StoreErr};
 use key_kind::{Key, Symbol};
 use std::alloc::Global;
@@ -30,6 +31,45 @@ fn moved(contents: &Contents, seat: &Seat<Store>, symbol: &Symbol, was: Option<&
     ensures { HasMoved (history seat.now) symbol.now (option_copied was.entry) result }
 {
     contents.moved_at(symbol, was)
+}
+
+/// Lets the changes of an event go, which its name has.
+fn let_go(changes: Arc<Changes>) {
+    let _changes = changes;
+}
+
+/// Adds the event that sets a symbol's reference to what was made ready to contents that show what the seat has seen.
+///
+/// It is refused where the reference is another than `was`, and then where there are `limit` events. A refusal leaves what the
+/// contents show.
+fn set(
+    contents: &mut Contents,
+    alloc: Global,
+    seat: &Seat<Store>,
+    limit: u64,
+    symbol: &Symbol,
+    was: Option<&Key>,
+    made: Reference,
+) -> Result<(), StoreErr>
+    requires shows { Shows contents.old (history seat.now) }
+    requires limit { limit ≤ 2 ^ 62 }
+    ensures set { OnOk result (SetsReference contents.old contents.new made.name made.key made.entry (arc_value made.mark)) }
+    ensures tested { OnOk result (reference (history seat.now) symbol.now ≡ option_copied was.entry) }
+    ensures room { OnOk result (events_of contents.old < limit) }
+    ensures same { OnErr result (ShowsSame contents.old contents.new) }
+    ensures refused { IfErr result (λ why. (why ≡ StoreErr.NoMemory) ⊎ RefusesRefer limit symbol.now (option_copied was.entry) (history seat.now) why) }
+{
+    if let Some(now) = moved(contents, seat, symbol, was) {
+        return Err(StoreErr::Moved { now });
+    }
+    let count = contents.len();
+    if limit <= count {
+        return Err(StoreErr::Spent { count });
+    }
+    match contents.refer(alloc, made.name, made.key, made.entry, made.mark) {
+        Ok(()) => Ok(()),
+        Err(NoMemory) => Err(StoreErr::NoMemory),
+    }
 }
 
 /// Sets a symbol's reference, which is the event that `K` names. It tells how many events there are.
@@ -63,29 +103,19 @@ pub(crate) fn refer<K: EventName, R: Wait>(
     ensures serial { puts_by (view seat.old).badge.number (history seat.new) ≡ puts_by (view seat.old).badge.number (history seat.old) }
     ensures noted { KeepsNotes (view seat.old).notes (view seat.new) }
 {
-    let _changes = changes;
+    let_go(changes);
+    let row = made.row;
     let mut store = take(rt, cell, seat);
     let count = store.contents.len();
-    if let Some(now) = moved(&store.contents, seat, symbol, was) {
-        cell.give(seat, store);
-        return (Err(StoreErr::Moved { now }), count);
+    match set(&mut store.contents, alloc, seat, limit, symbol, was, made) {
+        Ok(()) => {
+            cell.begin(seat, row);
+            add::<K>(cell, seat, store);
+            (Ok(count + 1), count + 1)
+        }
+        Err(why) => {
+            cell.give(seat, store);
+            (Err(why), count)
+        }
     }
-    if limit <= count {
-        cell.give(seat, store);
-        return (Err(StoreErr::Spent { count }), count);
-    }
-    let Reference {
-        row,
-        name,
-        key,
-        entry,
-        mark,
-    } = made;
-    if store.contents.refer(alloc, name, key, entry, mark).is_err() {
-        cell.give(seat, store);
-        return (Err(StoreErr::NoMemory), count);
-    }
-    cell.begin(seat, row);
-    add::<K>(cell, seat, store);
-    (Ok(count + 1), count + 1)
 }
