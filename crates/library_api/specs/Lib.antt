@@ -1,3 +1,4 @@
 pub mod Libraries
 pub mod Steps
 pub mod Frames
+pub mod Finds

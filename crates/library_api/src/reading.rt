@@ -1,9 +1,13 @@
 //! A read: the version that is asked, and what is asked of its frame.
 
-ghost use Rattle.std.specs.Prelude.{option_copied, IfOk, IfErr};
+ghost use Rattle.std.specs.Prelude.{ℕ, Bool, option_copied, IfOk, IfErr};
+ghost use Rattle.key_kind.specs.Names.{Name};
+ghost use Rattle.bucket_core.specs.History.{History};
 ghost use Rattle.bucket_core.specs.Laws.{Looks};
 ghost use Rattle.bucket_core.specs.Calls.{IsSteady};
 ghost use Rattle.store_model.specs.Law.{IsClaimed};
+ghost use Rattle.expr_clause.specs.declared.command.AsOf.{AsOf as Asks};
+ghost use Rattle.library_api.specs.Finds.{HasFound};
 ghost use Rattle.library_api.specs.Steps.{plain_reply, refusal_reply, IsLegalForAll};
 
 use crate::reply::{plain, refusal};
@@ -11,7 +15,7 @@ use base_types::NoMemory;
 use bucket_core::Bucket;
 use expr_clause::{AsOf, Command};
 use frame_core::{ColName, Frame, Range, Refusal, Refused};
-use frame_read::{fetch, fetched_tiles_have_what_is_asked, resolve};
+use frame_read::{Target, fetch, fetched_tiles_have_what_is_asked, resolve};
 use key_kind::Symbol;
 use reply_model::{Outcome, Reply};
 use std::alloc::Global;
@@ -42,14 +46,35 @@ fn read_frame<R: Wait, B: Bucket<StoreLaw>>(
     ensures refused { IfErr result (λ refused. IsLegalForAll (B.number bucket.old) (B.faults bucket.old) (B.faults bucket.new) (B.seen bucket.old) (B.seen bucket.new) (Command.Read symbol.now as_of.now range (option_copied columns.entry)) (refusal_reply refused)) }
 {
     let target = resolve(rt, alloc, bucket, symbol, as_of)?;
-    let tiles = fetch(rt, alloc, bucket, &target, range, columns)?;
-    fetched_tiles_have_what_is_asked();
-    match tiles.to_frame(alloc) {
+    match frame_of(rt, alloc, bucket, &target, range, columns) {
         Ok(frame) => Ok(VersionRead {
             version: target.version,
             frame,
             place: target.place,
         }),
+        Err(refused) => Err(refused),
+    }
+}
+
+/// The rows in the range and the asked columns of the frame of a version that was found.
+fn frame_of<R: Wait, B: Bucket<StoreLaw>>(
+    rt: &R,
+    alloc: Global,
+    bucket: &mut B,
+    target: &Target,
+    range: Range,
+    columns: Option<&[ColName]>,
+) -> Result<Frame, Refused>
+    requires found { (client : ℕ) × (sole : Bool) × (before : ℕ) × (old : History) × (symbol : Name) × (as_of : Asks) × HasFound client sole before old (B.number bucket.old) (B.sole bucket.old) (B.faults bucket.old) (B.seen bucket.old) symbol as_of target.now }
+    ensures looks { Looks IsClaimed (B.number bucket.old) (B.sole bucket.old) (B.seen bucket.old) (B.seen bucket.new) }
+    ensures steady { IsSteady B.number B.limit B.faults B.sole bucket.old bucket.new }
+    ensures whole { (client : ℕ) (sole : Bool) (before : ℕ) (old : History) (symbol : Name) (as_of : Asks) → HasFound client sole before old (B.number bucket.old) (B.sole bucket.old) (B.faults bucket.old) (B.seen bucket.old) symbol as_of target.now → IfOk result (λ frame. IsLegalForAll client before (B.faults bucket.new) old (B.seen bucket.new) (Command.Read symbol as_of range (option_copied columns.entry)) (plain_reply target.now.place (Outcome.Whole target.now.version frame))) }
+    ensures refused { (client : ℕ) (sole : Bool) (before : ℕ) (old : History) (symbol : Name) (as_of : Asks) → HasFound client sole before old (B.number bucket.old) (B.sole bucket.old) (B.faults bucket.old) (B.seen bucket.old) symbol as_of target.now → IfErr result (λ refused. IsLegalForAll client before (B.faults bucket.new) old (B.seen bucket.new) (Command.Read symbol as_of range (option_copied columns.entry)) (refusal_reply refused)) }
+{
+    let tiles = fetch(rt, alloc, bucket, target, range, columns)?;
+    fetched_tiles_have_what_is_asked();
+    match tiles.to_frame(alloc) {
+        Ok(frame) => Ok(frame),
         Err(NoMemory) => Err(Refused {
             place: bucket.place(),
             why: Refusal::NoMemory,
