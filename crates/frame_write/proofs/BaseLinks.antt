@@ -11,12 +11,13 @@ use Rattle.bucket_core.specs.declared.event.Event.TheVariants as events
 use Rattle.bucket_core.specs.History.{History}
 use Rattle.store_model.specs.Library.{State, Version, state_of, after_changes, after_change, number_after, is_buried, is_live, first_of}
 use Rattle.store_model.specs.Links.{Linked, links, links_at, links_of, reaches}
-use Rattle.store_model.specs.Commits.{MayRefer, HasSlotStamps, newest_reaches}
+use Rattle.store_model.specs.Commits.{MayRefer, HasSlotStamps, newest_reaches, MayChange}
 use Rattle.store_model.specs.Law.{IsLawful}
 use Rattle.store_model.proofs.Lists.{contains_first, contains_later, contains_cases, contains_none, filter_in, passes}
 use Rattle.store_model.proofs.Linking.{refer_makes}
 use Rattle.store_model.proofs.Referring.{at_symbol}
 use Rattle.store_model.proofs.Numbering.{AreNumbered}
+use Rattle.store_model.proofs.Plainly.{is_commit}
 
 -- ---- stamps
 
@@ -24,7 +25,7 @@ use Rattle.store_model.proofs.Numbering.{AreNumbered}
 abbrev pub IsStamped : Linked → Version → Type 0
 IsStamped l v = AllByRecursion (HasSlotStamps v.frame) l.index.slots × IsStorable v.frame
 
-refer_stamps : (h : History) (client : ℕ) (symbol : Name) (was : Option Key) (entry : Key) (list : List Change) → MayRefer h client symbol was entry list → AllZip IsStamped (links h symbol) (state_of h symbol).versions
+refer_stamps : (h : History) (client : ℕ) (symbol : Name) (was : Option Key) (entry : Key) (list : List Change) → MayChange h client symbol was entry list → AllZip IsStamped (links h symbol) (state_of h symbol).versions
     → AllZip IsStamped (links_at h entry ++ links h symbol) (fold after_change (state_of h symbol) list).versions
 refer_stamps h client symbol was entry list may z =
     let here = ap (links_of h) may.spelled in
@@ -43,7 +44,7 @@ pub links_stamped : (h : History) (symbol : Name) → IsLawful h → AllZip IsSt
 links_stamped [] symbol l = tt
 links_stamped (events.Refer c s was entry list ∷ h) symbol l =
     at_symbol s symbol (λ t. AllZip IsStamped (cond t (links_at h entry ++ links h symbol) (links h symbol)) (cond t (after_changes (state_of h symbol) list) (state_of h symbol)).versions)
-    (λ e. refer_stamps h c symbol was entry list (subst (λ n. MayRefer h c n was entry list) e l.0.1) (links_stamped h symbol l.1)) (links_stamped h symbol l.1)
+    (λ e. refer_stamps h c symbol was entry list (is_commit h c symbol was entry list (subst (λ n. MayRefer h c n was entry list) e l.0.1)) (links_stamped h symbol l.1)) (links_stamped h symbol l.1)
 links_stamped (events.Put c key body ∷ h) symbol l = links_stamped h symbol l.1
 links_stamped (events.Name c snap body ∷ h) symbol l = links_stamped h symbol l.1
 links_stamped (events.Unname c snap ∷ h) symbol l = links_stamped h symbol l.1

@@ -9,7 +9,6 @@ use mathlib.Core.List.{reverse_aux}
 use denote.Struct.Props.{props}
 use Rattle.byte_fields.specs.Reading.{read_of}
 use Rattle.index_tree.specs.declared.index.Index.{Index}
-use Rattle.index_tree.specs.IndexText.{index_of}
 use Rattle.key_kind.specs.declared.key.Key.{Key}
 use Rattle.key_kind.specs.Names.{Name}
 use Rattle.key_kind.proofs.KeyTests.{same_key_self}
@@ -27,6 +26,8 @@ use Rattle.store_model.specs.Commits.{is_version, marks_of}
 use Rattle.store_model.proofs.Lawful.{lawful_is_intact}
 use Rattle.store_model.proofs.Lists.{all_weaker}
 use Rattle.store_model.proofs.Histories.{put_stays, once_before}
+use Rattle.store_model.proofs.PlainLinks.{flat, flat_is_put}
+use Rattle.store_model.proofs.Plainly.{is_commit}
 use Rattle.reply_model.specs.Tries.{put_of, index_linked, Before, of_mark, of_version, IsTry}
 use Rattle.reply_model.proofs.LaidWrites.{newest_link}
 use Rattle.version_chain.specs.Traces.{Went}
@@ -125,6 +126,7 @@ marks_link row (changes.Removed versions) rest version = absurd (true≢false (s
 marks_link row (changes.Held holder number) rest version = absurd (true≢false (sym version))
 marks_link row (changes.Released holder) rest version = absurd (true≢false (sym version))
 marks_link row (changes.Discarded pieces) rest version = absurd (true≢false (sym version))
+marks_link row changes.Restated rest version = absurd (true≢false (sym version))
 
 same_entry : (a b : Entry) → Some a ≡ Some b → a ≡ b
 same_entry a b e = cc
@@ -132,7 +134,7 @@ same_entry a b e = cc
 -- the index of the puts was put under the key of the link
 index_of_try : (h : History) (symbol : Name) (was : Option Key) (entry : Key) (row : LinkRow) (first : Change) (rest : List Change) (puts : List (Key × Bytes)) (index : Index) → is_version first ≡ true
     → element h entry ≡ Some (record { prev = was; changes = marks_of row (first ∷ rest) }) → IsTry symbol true puts entry → PutsIndex puts index
-    → AllByRecursion (λ (p : Key × Bytes). body_put h p.0 ≡ Some p.1) puts → index_put h row.index ≡ Some index
+    → AllByRecursion (λ (p : Key × Bytes). body_put h p.0 ≡ Some p.1) puts → index_put h row.index ≡ Some (flat index)
 index_of_try h symbol was entry row first rest puts index version spelled t i bodies =
     let here = all_behind (λ (p : Key × Bytes). body_put h p.0 ≡ Some p.1) t.first ((entry, t.body) ∷ []) (subst (AllByRecursion (λ (p : Key × Bytes). body_put h p.0 ≡ Some p.1)) t.is bodies) in
     let read : element h entry ≡ Some t.element = ap (option_and_then (λ body. read_of (entry_of body))) here.0 ∙ ap read_of t.spelled in
@@ -140,7 +142,7 @@ index_of_try h symbol was entry row first rest puts index version spelled t i bo
     let ends = ends_with symbol (index_linked t.element.changes) t.first row.index t.before (ap index_linked marks ∙ marks_link row first rest version) in
     let two : (row.index, ends.1) ≡ (i.key, i.body) = last_but_one ends.0 i.tiles (row.index, ends.1) (entry, t.body) (i.key, i.body) i.element (ap (λ ps. ps ++ (entry, t.body) ∷ []) (sym ends.2) ∙ (sym t.is ∙ i.is)) in
     let put = all_behind (λ (p : Key × Bytes). body_put h p.0 ≡ Some p.1) i.tiles ((i.key, i.body) ∷ i.element ∷ []) (subst (AllByRecursion (λ (p : Key × Bytes). body_put h p.0 ≡ Some p.1)) i.is bodies) in
-    subst (λ k. index_put h k ≡ Some index) (sym (ap (λ (p : Key × Bytes). p.0) two)) (ap (option_and_then (λ body. read_of (index_of body))) put.0 ∙ ap read_of i.spelled)
+    subst (λ k. index_put h k ≡ Some (flat index)) (sym (ap (λ (p : Key × Bytes). p.0) two)) (flat_is_put h i.key i.body index put.0 i.spelled)
 
 -- ---- the newest link
 
@@ -154,7 +156,7 @@ commit_newest client sole symbol Asked old new done d first rest list_is version
     linked : IsLawful new → newest_index new symbol ≡ Some d.made.index
     linked l =
         let lawful_there = subst (λ h. IsLawful h) last l in
-        let may = lawful_there.0.1 in
+        let may = is_commit d.made.before client symbol d.was d.entry (first ∷ rest) lawful_there.0.1 in
         let put = index_of_try d.made.before symbol d.was d.entry may.row first rest d.made.puts d.made.index version may.spelled d.is_try d.index
         (puts_have_bodies client sole old d.made.before d.made.puts d.went lawful_there.1) in
         let newest = newest_link client symbol d.was d.entry first rest d.made.before lawful_there version d.made.index put in

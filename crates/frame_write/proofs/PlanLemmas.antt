@@ -43,7 +43,8 @@ use Rattle.store_model.proofs.Writing.{wrote_may_follow}
 use Rattle.store_model.proofs.Untouched.{as_it_was}
 use Rattle.store_model.proofs.StableRefer.{staging}
 use Rattle.std.proofs.lemmas.List.{length-map}
-use Rattle.store_model.specs.OwnPuts.{IsOwnPut, AreOwnPuts, BuriesLive, buries_none, buries_live, IsPutSlot, IsPutLink, IsPutEntry, slots_of}
+use Rattle.store_model.specs.OwnPuts.{IsOwnPut, AreOwnPuts, BuriesLive, buries_none, buries_live, IsPutSlot, IsPutLink, IsPutEntry, slots_of, whole as put_whole}
+use Rattle.store_model.proofs.Flat.{flat_object}
 use Rattle.store_model.proofs.Lists.{all_weaker}
 use Rattle.reply_model.specs.Answering.{removed, pruned, live_numbers}
 use Rattle.reply_model.specs.Tries.{IsTry, Before, of_version, IsKeyOf, keys_of_puts}
@@ -231,7 +232,10 @@ module _ (client serial : ℕ) (symbol : Name) (version : ℕ) (frame : Frame) (
           body = index_body;
           own = subst (λ k. IsOwnPut h client k index_body) (sym is) put.1.0;
           index = record { schema = frame.schema; rows = length frame.rows; slots = slots_of all };
-          spelled = index_spelled;
+          pages = [];
+          spelled = put_whole (flat_object index_body (record { schema = frame.schema; rows = length frame.rows; slots = slots_of all }) index_spelled);
+          each_page = tt;
+          pages_fit = tt;
           schema = refl;
           index_rows = refl;
           slots = all;

@@ -1,6 +1,6 @@
 -- A slot of the newest live version: its tile stands, and a new link may name its key.
 use Rattle.std.proofs.Common.{◌≡◌, ℕ, true, not, List, [], ◌∷◌, map, refl, ap, sym, ◌∙◌, subst, inl, inr, Option, Some, None, nat_eq}
-use Rattle.std.specs.Prelude.{Contains, is_some, option_and_then, option_map}
+use Rattle.std.specs.Prelude.{Contains, is_some}
 use Rattle.std.specs.List.{AllZip, AllByRecursion}
 use Rattle.std.proofs.lemmas.Bool.{and_from, or_left, eq-eqb}
 use Rattle.frame_core.specs.Frames.{Row, Frame}
@@ -9,16 +9,14 @@ use Rattle.frame_core.specs.Limits.{IsStorable}
 use Rattle.frame_core.specs.declared.part.Part.{Part}
 use Rattle.segment_cut.specs.Tiles.{Tile, LiesIn, cut}
 use Rattle.index_tree.specs.declared.index.Slot.{Slot}
-use Rattle.index_tree.specs.declared.index.Index.{Index}
 use Rattle.index_tree.specs.IndexRules.{IsSlot}
 use Rattle.key_kind.specs.declared.key.Key.{Key}
 use Rattle.key_kind.specs.Names.{Name}
 use Rattle.key_kind.specs.Keys.{same_key}
 use Rattle.key_kind.proofs.KeyTests.{same_key_self}
 use Rattle.bucket_core.specs.History.{History}
-use Rattle.store_model.specs.declared.chain.LinkRow.{LinkRow}
 use Rattle.store_model.specs.Library.{Version, state_of, is_buried, is_live}
-use Rattle.store_model.specs.Links.{Linked, linked, links, frame_put, index_put, tiles_put, with_tile, reaches, reached}
+use Rattle.store_model.specs.Links.{Linked, links, frame_put, tiles_put, with_tile, reaches, reached}
 use Rattle.store_model.specs.Commits.{MayNameKey, HasSlotStamps, newest_reaches}
 use Rattle.store_model.specs.Intact.{IsLinkOf}
 use Rattle.store_model.specs.Law.{IsLawful}
@@ -26,6 +24,7 @@ use Rattle.store_model.proofs.Lists.{contains_first, contains_later, contains_ca
 use Rattle.store_model.proofs.AsPut.{links_as_put}
 use Rattle.store_model.proofs.Lawful.{lawful_is_intact}
 use Rattle.store_model.proofs.Numbering.{versions_numbered}
+use Rattle.store_model.proofs.PlainLinks.{slot_in_reach, linked_parts}
 use Rattle.frame_write.specs.Pieces.{HasBase}
 use Rattle.frame_write.proofs.BaseLinks.{IsStamped, links_stamped, base_link, first_in}
 
@@ -47,17 +46,6 @@ with_parts : (part : Part) (o : Option Frame) (p : Option (List Tile)) (tiles : 
 with_parts part None p tiles e = absurd cc
 with_parts part (Some f) None tiles e = absurd cc
 with_parts part (Some f) (Some rest) tiles e = (f, rest, refl, refl, cc)
-
-linked_parts : (h : History) (row : LinkRow) (l : Linked) → linked h row ≡ Some l → tiles_put h l.index.slots ≡ Some l.tiles
-linked_parts h row l e = by (index_put h row.index) e
-  where
-    of : (i : Index) (t : Option (List Tile)) → tiles_put h i.slots ≡ t → option_map (λ tiles. record { row = row; index = i; tiles = tiles }) t ≡ Some l → tiles_put h l.index.slots ≡ Some l.tiles
-    of i None is e = absurd cc
-    of i (Some tiles) is e = let same : record { row = row; index = i; tiles = tiles } ≡ l = cc in subst (λ (x : Linked). tiles_put h x.index.slots ≡ Some x.tiles) same is
-
-    by : (o : Option Index) → option_and_then (λ i. option_map (λ tiles. record { row = row; index = i; tiles = tiles }) (tiles_put h i.slots)) o ≡ Some l → tiles_put h l.index.slots ≡ Some l.tiles
-    by None e = absurd cc
-    by (Some i) e = of i (tiles_put h i.slots) refl e
 
 slot_frame : (h : History) (frame : Frame) (s : Slot) (slots : List Slot) (tiles : List Tile) → tiles_put h slots ≡ Some tiles → AllByRecursion (λ (t : Tile). t.1 ≡ cut frame t.0) tiles → Contains slots s → frame_put h s.key ≡ Some (cut frame s.part)
 slot_frame h frame s [] tiles e all c = absurd (contains_none s c)
@@ -111,16 +99,16 @@ module _ (h : History) (lawful : IsLawful h) (symbol : Name) (schema : Schema) (
     in_link = subst (λ xs. Contains xs s) (sym b.slots_are) there
 
     in_reached : Contains (reached b.link) s.key
-    in_reached = contains_later s.key b.link.row.index (map (λ (x : Slot). x.key) b.link.index.slots) (key_in s b.link.index.slots in_link)
+    in_reached = slot_in_reach b.link s.key (key_in s b.link.index.slots in_link)
 
     pub shared_stamps : HasSlotStamps b.version.frame s
     shared_stamps = stamps_in b.version.frame s b.link.index.slots facts.0.1.0 in_link
 
     pub shared_put : frame_put h s.key ≡ Some (cut b.version.frame s.part)
-    shared_put = slot_frame h b.version.frame s b.link.index.slots b.link.tiles (linked_parts h b.link.row b.link (links_as_put h (lawful_is_intact h lawful).once symbol b.link b.link_is)) facts.0.0.assembled.parts in_link
+    shared_put = slot_frame h b.version.frame s b.link.index.slots b.link.tiles (linked_parts h b.link.row b.link (links_as_put h (lawful_is_intact h lawful).once symbol b.link b.link_is)).tiles facts.0.0.assembled.parts in_link
 
     pub shared_lies : LiesIn b.version.frame s.part
-    shared_lies = slot_lies h b.version.frame s b.link.index.slots b.link.tiles (linked_parts h b.link.row b.link (links_as_put h (lawful_is_intact h lawful).once symbol b.link b.link_is)) facts.0.0.assembled.inside in_link
+    shared_lies = slot_lies h b.version.frame s b.link.index.slots b.link.tiles (linked_parts h b.link.row b.link (links_as_put h (lawful_is_intact h lawful).once symbol b.link b.link_is)).tiles facts.0.0.assembled.inside in_link
 
     pub shared_reaches : newest_reaches (state_of h symbol) (links h symbol) s.key ≡ true
     shared_reaches = facts.1 s.key ∙ passes (λ k. same_key k s.key) (reached b.link) s.key in_reached (same_key_self s.key)

@@ -75,6 +75,7 @@ version_number st (changes.Removed versions) v e = absurd cc
 version_number st (changes.Held holder version) v e = absurd cc
 version_number st (changes.Released holder) v e = absurd cc
 version_number st (changes.Discarded pieces) v e = absurd cc
+version_number st changes.Restated v e = absurd cc
 
 marks_made : (st : State) (c : Change) (v : Version) (row : LinkRow) (numbers : List ℕ) → new_version st c ≡ Some v → marks.Link row ∷ map marks.Tomb numbers ≡ marks_of row (c ∷ removed numbers)
 marks_made st (changes.Wrote frame at) v row numbers e = marks_are row frame at numbers
@@ -84,6 +85,7 @@ marks_made st (changes.Removed versions) v row numbers e = absurd cc
 marks_made st (changes.Held holder version) v row numbers e = absurd cc
 marks_made st (changes.Released holder) v row numbers e = absurd cc
 marks_made st (changes.Discarded pieces) v row numbers e = absurd cc
+marks_made st changes.Restated v row numbers e = absurd cc
 
 -- ---- the index's key
 

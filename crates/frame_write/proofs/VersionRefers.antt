@@ -1,6 +1,6 @@
 -- A Refer of any change that makes a version: once the link and the element are there, it may follow.
-use Rattle.std.proofs.Common.{◌≡◌, ℕ, true, false, List, [], ◌∷◌, refl, ap, sym, ◌∙◌, subst, Option, Some}
-use Rattle.std.specs.Prelude.{is_some, map, reverse, length, option_map, option_and_then, IfSome}
+use Rattle.std.proofs.Common.{◌≡◌, ℕ, true, false, List, [], ◌∷◌, refl, ap, sym, ◌∙◌, subst, Option, Some, inl}
+use Rattle.std.specs.Prelude.{is_some, map, reverse, length, option_and_then, IfSome}
 use Rattle.std.specs.List.{list_any, AllByRecursion}
 use Rattle.std.specs.Prelude.{Ok}
 use Rattle.byte_fields.specs.Reading.{read_of}
@@ -20,11 +20,12 @@ use Rattle.bucket_core.specs.History.{History, Bytes, body_put}
 use Rattle.store_model.specs.declared.chain.LinkRow.{LinkRow}
 use Rattle.store_model.specs.ChainText.{entry_of}
 use Rattle.store_model.specs.Library.{State, Version, Piece, state_of, live_versions, new_version}
-use Rattle.store_model.specs.Links.{linked, frame_put, index_put, tiles_put, with_tile, entries}
+use Rattle.store_model.specs.Links.{frame_put, tiles_put, with_tile, entries}
 use Rattle.store_model.specs.Commits.{MayRefer, FitsLink, FitsMark, FitsChange, MayNameKey, HasSlotStamps, making, Buries, no_tombs, some_tombs, no_pieces, BuriesAll, is_version, marks_of}
 use Rattle.store_model.specs.OwnPuts.{IsOwnPut, IsPutEntry, BuriesLive, buries_none, buries_live}
 use Rattle.store_model.proofs.Numbering.{versions_numbered, live_may_be_buried}
 use Rattle.store_model.proofs.StableRefer.{staging}
+use Rattle.store_model.proofs.PlainLinks.{flat_is_put, flat_linked}
 use Rattle.frame_write.specs.Links.{IsInOrder}
 
 -- what is read of a body that was put
@@ -66,24 +67,17 @@ link_fits h client symbol row v number stamp rows storable p = record {
   stamp = stamp;
   rows = rows;
   storable = storable;
-  index_name = p.name;
-  index_kind = p.kind;
-  index_stands = ap is_some p.own.stands;
-  index_fresh = record { own = p.own.unlinked.own; unreached = p.own.unlinked.unreached };
-  link = record { row = row; index = p.index; tiles = tiles_at v.frame p.index.slots };
-  link_is = found;
+  new_index = record { kind = p.kind; name = p.name; stands = ap is_some p.own.stands; fresh = record { own = p.own.unlinked.own; unreached = p.own.unlinked.unreached } };
+  link = record { row = row; pages = []; index = p.index; tiles = tiles_at v.frame p.index.slots };
+  link_is = flat_linked h row p.index (tiles_at v.frame p.index.slots) (flat_is_put h row.index p.body p.index p.own.put p.spelled) (frames_put h v.frame p.index.slots p.puts);
+  new_pages = tt;
+  pages_fit = tt;
   schema = p.schema;
   index_rows = p.index_rows;
   keys = p.keys;
   tiled = p.tiled;
   stamps = p.stamps;
 }
-  where
-    found : linked h row ≡ Some (record { row = row; index = p.index; tiles = tiles_at v.frame p.index.slots })
-    found =
-        let read : index_put h row.index ≡ Some p.index = read_put (λ body. read_of (index_of body)) (body_put h row.index) p.body p.index p.own.put (ap read_of p.spelled) in
-        ap (λ o. option_and_then (λ (i : Index). option_map (λ t. record { row = row; index = i; tiles = t }) (tiles_put h i.slots)) o) read
-        ∙ ap (option_map (λ t. record { row = row; index = p.index; tiles = t })) (frames_put h v.frame p.index.slots p.puts)
 
 -- ---- the change
 
@@ -96,6 +90,7 @@ makes_version st (changes.Removed versions) v e = absurd cc
 makes_version st (changes.Held holder version) v e = absurd cc
 makes_version st (changes.Released holder) v e = absurd cc
 makes_version st (changes.Discarded pieces) v e = absurd cc
+makes_version st changes.Restated v e = absurd cc
 
 fits_mark : (h : History) (client : ℕ) (symbol : Name) (c : Change) (v : Version) → new_version (state_of h symbol) c ≡ Some v → IsInOrder c → FitsMark h client symbol c
 fits_mark h client symbol (changes.Wrote frame at) v e o = tt
@@ -105,6 +100,7 @@ fits_mark h client symbol (changes.Removed versions) v e o = absurd cc
 fits_mark h client symbol (changes.Held holder version) v e o = absurd cc
 fits_mark h client symbol (changes.Released holder) v e o = absurd cc
 fits_mark h client symbol (changes.Discarded pieces) v e o = absurd cc
+fits_mark h client symbol changes.Restated v e o = absurd cc
 
 -- the version does not depend on what is staged
 pub staged_version : (st : State) (more : List Piece) (c : Change) → new_version (staging more st) c ≡ new_version st c
@@ -115,6 +111,7 @@ staged_version st more (changes.Removed versions) = refl
 staged_version st more (changes.Held holder version) = refl
 staged_version st more (changes.Released holder) = refl
 staged_version st more (changes.Discarded pieces) = refl
+staged_version st more changes.Restated = refl
 
 -- ---- what is buried beside it
 
@@ -143,9 +140,11 @@ version_may_follow h client symbol c v was entry rest row makes in_order fits bu
   own = e.own.unlinked.own;
   stands = ap is_some e.own.stands;
   fresh = subst (λ s. list_any (λ k. same_key k entry) (entries h s) ≡ false) e.name e.own.unlinked.no_entry;
-  form = making c (makes_version (state_of h symbol) c v makes) (buried_form (state_of h symbol) rest buries);
-  row = row;
-  spelled = read_put (λ body. read_of (entry_of body)) (body_put h entry) e.body _ e.own.put (ap read_of e.spelled);
-  fits = ((subst (λ o. IfSome o (FitsLink h client symbol row)) (sym makes) fits, fits_mark h client symbol c v makes in_order), buried_fits h client symbol row rest buries);
-  prunes = buried_all (state_of h symbol) c rest buries;
+  how = inl (record {
+    form = making c (makes_version (state_of h symbol) c v makes) (buried_form (state_of h symbol) rest buries);
+    row = row;
+    spelled = read_put (λ body. read_of (entry_of body)) (body_put h entry) e.body _ e.own.put (ap read_of e.spelled);
+    fits = ((subst (λ o. IfSome o (FitsLink h client symbol row)) (sym makes) fits, fits_mark h client symbol c v makes in_order), buried_fits h client symbol row rest buries);
+    prunes = buried_all (state_of h symbol) c rest buries;
+  });
 }
