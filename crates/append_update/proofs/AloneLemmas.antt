@@ -85,6 +85,7 @@ slices_staged c st more (changes.Removed versions) = refl
 slices_staged c st more (changes.Held holder version) = refl
 slices_staged c st more (changes.Released holder) = refl
 slices_staged c st more (changes.Discarded pieces) = refl
+slices_staged c st more changes.Restated = refl
 
 -- ---- the answer
 

@@ -1,6 +1,6 @@
 -- What a look at a base finds.
-use Rattle.std.proofs.Common.{◌≡◌, ℕ, zero, suc, ◌+◌, ◌-◌, ◌≤◌, Bool, true, false, ◌&&◌, List, [], ◌∷◌, ◌++◌, length, take, drop, refl, sym, ap, ◌∙◌, subst, arith, Option, Some, None, nat_eq, length-append}
-use Rattle.std.specs.Prelude.{Contains, option_map, option_and_then}
+use Rattle.std.proofs.Common.{◌≡◌, ℕ, zero, suc, ◌+◌, ◌-◌, ◌≤◌, Bool, true, false, ◌&&◌, List, [], ◌∷◌, ◌++◌, length, take, drop, refl, sym, ap, ◌∙◌, subst, arith, Some, None, nat_eq, length-append}
+use Rattle.std.specs.Prelude.{Contains}
 use Rattle.std.specs.List.{list_any}
 use Rattle.std.proofs.lemmas.Bool.{and_from, eq-eqb, or_right}
 use Rattle.std.proofs.lemmas.List.{take-append-drop, append_assoc}
@@ -9,7 +9,6 @@ use denote.Struct.Props.{props}
 use Rattle.frame_core.specs.declared.refusal.Refusal.TheVariants as refusals
 use Rattle.frame_core.specs.declared.refusal.Refusal.{Refusal}
 use Rattle.frame_core.specs.declared.refusal.Refused.{Refused}
-use Rattle.segment_cut.specs.Tiles.{Tile}
 use Rattle.index_tree.specs.declared.index.Index.{Index}
 use Rattle.index_tree.specs.IndexRules.{IsIndex}
 use Rattle.key_kind.specs.Names.{Name}
@@ -19,11 +18,12 @@ use Rattle.bucket_core.specs.History.{History, AllByOthers, history_at, since, r
 use Rattle.bucket_core.specs.Laws.{refers}
 use Rattle.store_model.specs.declared.chain.LinkRow.{LinkRow}
 use Rattle.store_model.specs.Library.{Version, state_of, base_of, is_buried}
-use Rattle.store_model.specs.Links.{Linked, links, linked, index_put, tiles_put}
+use Rattle.store_model.specs.Links.{Linked, links}
 use Rattle.store_model.specs.Holders.{has_index}
 use Rattle.store_model.specs.Law.{IsLawful}
-use Rattle.store_model.proofs.Lawful.{lawful_as_put}
 use Rattle.store_model.proofs.Lists.{passes}
+use Rattle.store_model.specs.PlainLinks.{flat_put}
+use Rattle.store_model.proofs.PlainLinks.{linked_flat}
 use Rattle.version_chain.specs.declared.tip.ChainTip.{ChainTip}
 use Rattle.version_chain.specs.States.{IsLookRefusal, RefusesWalk}
 use Rattle.version_chain.specs.Tips.{IsTipOf, IsTipAt}
@@ -48,24 +48,10 @@ index_told a b = told_prop (hlevel props)
 
 -- ---- the index of a link is what was put under its key
 
-linked_index : (h : History) (row : LinkRow) (l : Linked) → linked h row ≡ Some l → index_put h row.index ≡ Some l.index
-linked_index h row l e = by (index_put h row.index) e
-  where
-    of : (i : Index) (tiles : Option (List Tile)) → option_map (λ t. record { row = row; index = i; tiles = t }) tiles ≡ Some l → Some i ≡ Some l.index
-    of i None e = absurd cc
-    of i (Some tiles) e = ap (λ (o : Linked). Some o.index) (some_same e)
-      where
-        some_same : {x y : Linked} → Some x ≡ Some y → x ≡ y
-        some_same e = cc
-
-    by : (i : Option Index) → option_and_then (λ i. option_map (λ t. record { row = row; index = i; tiles = t }) (tiles_put h i.slots)) i ≡ Some l → i ≡ Some l.index
-    by None e = absurd cc
-    by (Some i) e = of i (tiles_put h i.slots) e
-
 -- links with one index key have one index
 same_index : (h : History) (symbol : Name) (a b : Linked) → ∥ IsLawful h ∥₁ → Contains (links h symbol) a → Contains (links h symbol) b → a.row.index ≡ b.row.index → a.index ≡ b.index
 same_index h symbol a b lawful in_a in_b key = index_told a.index b.index (∥∥₁_map lawful (λ l.
-    some_same (sym (linked_index h a.row a ((lawful_as_put h l).links symbol a in_a)) ∙ (ap (index_put h) key ∙ linked_index h b.row b ((lawful_as_put h l).links symbol b in_b)))))
+    some_same (sym (linked_flat h l symbol a in_a) ∙ (ap (flat_put h) key ∙ linked_flat h l symbol b in_b))))
   where
     some_same : {x y : Index} → Some x ≡ Some y → x ≡ y
     some_same e = cc

@@ -21,6 +21,7 @@ makes_version st (changes.Removed versions) v e = absurd cc
 makes_version st (changes.Held holder version) v e = absurd cc
 makes_version st (changes.Released holder) v e = absurd cc
 makes_version st (changes.Discarded pieces) v e = absurd cc
+makes_version st changes.Restated v e = absurd cc
 
 -- what follows from what was asked, of a commit over this history
 module _ (client : ℕ) (sole : Bool) (symbol : Name) (Asked Other : Made → Type 0) (old : History) (follows : (m : Made) → Went client sole old m.before (map (put_of client) m.puts) → Asked m → Other m) where

@@ -18,13 +18,14 @@ use Rattle.bucket_core.specs.History.{History}
 use Rattle.store_model.specs.declared.chain.LinkRow.{LinkRow}
 use Rattle.store_model.specs.Library.{Version, state_of, base_of, first_of, is_buried, after_change, after_changes}
 use Rattle.store_model.specs.Links.{Linked, links, links_at, links_of}
-use Rattle.store_model.specs.Commits.{MayRefer, HasSlotStamps}
+use Rattle.store_model.specs.Commits.{MayRefer, HasSlotStamps, MayChange}
 use Rattle.store_model.specs.Intact.{IsLinkOf}
 use Rattle.store_model.specs.Law.{IsLawful}
 use Rattle.store_model.proofs.Lawful.{lawful_is_intact}
 use Rattle.store_model.proofs.Linking.{refer_makes}
 use Rattle.store_model.proofs.Referring.{at_symbol}
 use Rattle.store_model.proofs.Lists.{contains_first, contains_later}
+use Rattle.store_model.proofs.Plainly.{is_commit}
 use Rattle.version_chain.specs.declared.tip.ChainTip.{ChainTip}
 use Rattle.version_chain.specs.States.{is_tomb}
 use Rattle.version_chain.specs.Tips.{IsTipOf}
@@ -41,7 +42,7 @@ use Rattle.append_update.proofs.ToldLemmas.{Told, told_prop, told_all, storable_
 pub record IsCounted (l : Linked) (v : Version) : Type 0 where
   pub rows : l.index.rows ≡ length v.frame.rows
 
-counted_here : (h : History) (client : ℕ) (symbol : Name) (was : Option Key) (entry : Key) (list : List Change) → MayRefer h client symbol was entry list
+counted_here : (h : History) (client : ℕ) (symbol : Name) (was : Option Key) (entry : Key) (list : List Change) → MayChange h client symbol was entry list
     → AllZip IsCounted (links h symbol) (state_of h symbol).versions → AllZip IsCounted (links_at h entry ++ links h symbol) (fold after_change (state_of h symbol) list).versions
 counted_here h client symbol was entry list may before = elim (refer_makes h client symbol may.row list may.form may.fits) [
   | inl none ↦
@@ -58,7 +59,7 @@ lawful_is_counted [] lawful symbol = tt
 lawful_is_counted (events.Put c key body ∷ h) lawful symbol = lawful_is_counted h lawful.1 symbol
 lawful_is_counted (events.Refer c s was entry list ∷ h) lawful symbol =
     at_symbol s symbol (λ t. AllZip IsCounted (cond t (links_at h entry ++ links h symbol) (links h symbol)) (cond t (after_changes (state_of h symbol) list) (state_of h symbol)).versions)
-    (λ e. counted_here h c symbol was entry list (subst (λ n. MayRefer h c n was entry list) e lawful.0.1) (lawful_is_counted h lawful.1 symbol))
+    (λ e. counted_here h c symbol was entry list (is_commit h c symbol was entry list (subst (λ n. MayRefer h c n was entry list) e lawful.0.1)) (lawful_is_counted h lawful.1 symbol))
     (lawful_is_counted h lawful.1 symbol)
 lawful_is_counted (events.Name c snap body ∷ h) lawful symbol = lawful_is_counted h lawful.1 symbol
 lawful_is_counted (events.Unname c snap ∷ h) lawful symbol = lawful_is_counted h lawful.1 symbol

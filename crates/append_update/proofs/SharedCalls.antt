@@ -81,6 +81,7 @@ module _ (later walked : History) (symbol : Name) (lawful : ∥ IsLawful (later 
     makes_later (changes.Held holder version) is = absurd is
     makes_later (changes.Released holder) is = absurd is
     makes_later (changes.Discarded pieces) is = absurd is
+    makes_later changes.Restated is = absurd is
 
 -- ---- a commit
 

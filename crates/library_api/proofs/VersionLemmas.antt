@@ -31,6 +31,7 @@ change_keeps st (changes.Removed versions) v there = there
 change_keeps st (changes.Held holder version) v there = there
 change_keeps st (changes.Released holder) v there = there
 change_keeps st (changes.Discarded pieces) v there = there
+change_keeps st changes.Restated v there = there
 
 changes_keep : (st : State) (list : List Change) (v : Version) → Contains st.versions v → Contains (fold after_change st list).versions v
 changes_keep st [] v there = there

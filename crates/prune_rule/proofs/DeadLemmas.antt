@@ -1,12 +1,11 @@
 -- Links and the keys that they reach: kinds, one link for an index, and that dead keys stay dead.
 use Rattle.std.proofs.Common.{◌≡◌, ℕ, suc, true, false, ◌||◌, [], ◌∷◌, ◌++◌, map, refl, ap, sym, ◌∙◌, subst, inl, inr, arith, cond, Option, Some, None}
-use Rattle.std.specs.Prelude.{◌⊎◌, Contains, is_some, option_map, option_and_then}
+use Rattle.std.specs.Prelude.{◌⊎◌, Contains, is_some}
 use Rattle.std.specs.List.{list_any, AllByRecursion}
 use Rattle.std.proofs.lemmas.Bool.{true≢false}
 use denote.Struct.Props.{props}
 use mathlib.Core.Logic.{∥∥₁_elim}
 use Rattle.index_tree.specs.declared.index.Slot.{Slot}
-use Rattle.index_tree.specs.declared.index.Index.{Index}
 use Rattle.key_kind.specs.declared.key.KeyKind.TheVariants as kinds
 use Rattle.key_kind.specs.declared.key.Key.{Key}
 use Rattle.key_kind.specs.Names.{Name, same_name}
@@ -16,17 +15,21 @@ use Rattle.bucket_core.specs.declared.event.Event.{Event}
 use Rattle.bucket_core.specs.declared.event.Event.TheVariants as events
 use Rattle.bucket_core.specs.History.{History, author, stored, body_put}
 use Rattle.store_model.specs.declared.chain.LinkRow.{LinkRow}
-use Rattle.store_model.specs.Links.{Linked, links, links_at, reached, reaches, is_reached, index_put, tiles_put, IsUnneeded, IsConsumedPiece}
-use Rattle.store_model.specs.Commits.{MayRefer, MayNameKey}
+use Rattle.store_model.specs.Links.{Linked, links, links_at, reached, reaches, is_reached, IsUnneeded, IsConsumedPiece, links_of, links_in}
+use Rattle.store_model.specs.Commits.{MayRefer, MayNameKey, marks_of}
 use Rattle.store_model.specs.Law.{IsLawful}
 use Rattle.store_model.specs.Intact.{IsTableKey}
 use Rattle.store_model.proofs.Lists.{contains_first, contains_cases, contains_none, contains_append, one_passes, none_passes, passes, mapped_of, all_weaker}
-use Rattle.store_model.proofs.Lawful.{lawful_is_intact, lawful_as_put}
+use Rattle.store_model.proofs.Lawful.{lawful_is_intact}
 use Rattle.store_model.proofs.Dropping.{reaches_it, it_is_reached, reached_is_table, table_is_not_staged}
 use Rattle.store_model.proofs.Histories.{stands_from}
 use Rattle.store_model.proofs.Stability.{dead_stays}
 use Rattle.store_model.proofs.OwnPuts.{unput_is_unreached}
 use Rattle.store_model.proofs.Referring.{linked_row, new_link}
+use Rattle.store_model.proofs.Plainly.{is_commit, none_retold}
+use Rattle.store_model.specs.PlainLinks.{flat_put}
+use Rattle.store_model.proofs.PlainLinks.{plain_reach, linked_flat}
+use Rattle.store_model.proofs.Linking.{refer_makes}
 use Rattle.frame_read.proofs.FetchLemmas.{links_later}
 use Rattle.prune_rule.specs.DropCalls.{IsDroppable}
 use Rattle.prune_rule.proofs.GoneLemmas.{still_put}
@@ -42,9 +45,9 @@ pub record HasKinds (l : Linked) : Type 0 where
 new_kinds : (h : History) (client : ℕ) (symbol : Name) (was : Option Key) (entry : Key) (list : _) (may : MayRefer h client symbol was entry list) → IsLawful h → (l : Linked) → Contains (links_at h entry) l → HasKinds l
 new_kinds h client symbol was entry list may lawful l new =
     let m = new_link h client symbol was entry list may (lawful_is_intact h lawful) l new in
-    subst HasKinds m.1 (record {
-      index = ap (λ (r : LinkRow). r.index.kind) (linked_row h may.row m.0.fits.link m.0.fits.link_is) ∙ m.0.fits.index_kind;
-      tiles = all_weaker (λ (s : Slot). MayNameKey h client symbol s.key) (λ (s : Slot). s.key.kind ≡ kinds.TableData) (λ s k. k.kind) m.0.fits.link.index.slots m.0.fits.keys;
+    subst HasKinds m.is (record {
+      index = ap (λ (r : LinkRow). r.index.kind) (linked_row h m.row m.one.fits.link m.one.fits.link_is) ∙ m.one.fits.new_index.kind;
+      tiles = all_weaker (λ (s : Slot). MayNameKey h client symbol s.key) (λ (s : Slot). s.key.kind ≡ kinds.TableData) (λ s k. k.kind) m.one.fits.link.index.slots m.one.fits.keys;
     })
 
 -- each link has the key of an index and keys of tiles
@@ -63,9 +66,9 @@ link_kinds (events.Name client snap body ∷ h) lawful symbol l c = link_kinds h
 link_kinds (events.Unname client snap ∷ h) lawful symbol l c = link_kinds h lawful.1 symbol l c
 link_kinds (events.Drop client key ∷ h) lawful symbol l c = link_kinds h lawful.1 symbol l c
 
--- a key of an index that a link reaches is its own
-pub own_index : (l : Linked) (key : Key) → HasKinds l → Contains (reached l) key → key.kind ≡ kinds.TableIndex → l.row.index ≡ key
-own_index l key k reach kind = elim (contains_cases key l.row.index (map (λ (s : Slot). s.key) l.index.slots) reach) [
+-- a key of an index that a link without pages reaches is its own
+pub own_index : (l : Linked) (key : Key) → HasKinds l → l.pages ≡ [] → Contains (reached l) key → key.kind ≡ kinds.TableIndex → l.row.index ≡ key
+own_index l key k none reach kind = elim (contains_cases key l.row.index (map (λ (s : Slot). s.key) l.index.slots) (subst (λ ks. Contains ks key) (plain_reach l none) reach)) [
   | inl is ↦ is
   | inr tile ↦
       let r = mapped_of (λ (s : Slot). s.key.kind ≡ kinds.TableData) (λ (s : Slot). s.key) l.index.slots key k.tiles tile in
@@ -82,16 +85,25 @@ module _ (h : History) (client : ℕ) (symbol : Name) (was : Option Key) (entry 
   new_alone : (l m : Linked) → Contains (links_at h entry) l → Contains (links h symbol) m → Contains (reached m) l.row.index → ⊥
   new_alone l m new old reach =
       let n = new_link h client symbol was entry list may (lawful_is_intact h lawful) l new in
-      let row : l.row ≡ may.row = ap (λ (k : Linked). k.row) (sym n.1) ∙ linked_row h may.row n.0.fits.link n.0.fits.link_is in
-      let name : may.row.index.name ≡ symbol = n.0.fits.index_name in
-      let none : list_any (λ (k : Linked). reaches k may.row.index) (links h symbol) ≡ false = subst (λ s. list_any (λ (k : Linked). reaches k may.row.index) (links h s) ≡ false) name n.0.fits.index_fresh.unreached in
-      true≢false (sym (reaches_it m may.row.index (subst (λ (r : LinkRow). Contains (reached m) r.index) row reach)) ∙ none_passes (λ (k : Linked). reaches k may.row.index) (links h symbol) m none old)
+      let row : l.row ≡ n.row = ap (λ (k : Linked). k.row) (sym n.is) ∙ linked_row h n.row n.one.fits.link n.one.fits.link_is in
+      let name : n.row.index.name ≡ symbol = n.one.fits.new_index.name in
+      let none : list_any (λ (k : Linked). reaches k n.row.index) (links h symbol) ≡ false = subst (λ s. list_any (λ (k : Linked). reaches k n.row.index) (links h s) ≡ false) name n.one.fits.new_index.fresh.unreached in
+      true≢false (sym (reaches_it m n.row.index (subst (λ (r : LinkRow). Contains (reached m) r.index) row reach)) ∙ none_passes (λ (k : Linked). reaches k n.row.index) (links h symbol) m none old)
 
+  -- a Refer makes one link at most
   new_same : (l m : Linked) → Contains (links_at h entry) l → Contains (links_at h entry) m → l.row ≡ m.row
   new_same l m a b =
-      let n = new_link h client symbol was entry list may (lawful_is_intact h lawful) l a in
-      let o = new_link h client symbol was entry list may (lawful_is_intact h lawful) m b in
-      ap (λ (k : Linked). k.row) (sym n.1) ∙ (linked_row h may.row n.0.fits.link n.0.fits.link_is ∙ (sym (linked_row h may.row o.0.fits.link o.0.fits.link_is) ∙ ap (λ (k : Linked). k.row) o.1))
+      let change = is_commit h client symbol was entry list may in
+      let spelled : links_at h entry ≡ links_in h (marks_of change.row list) = ap (links_of h) change.spelled in
+      elim (refer_makes h client symbol change.row list change.form change.fits) [
+        | inl none ↦ absurd (contains_none l (subst (λ ls. Contains ls l) (spelled ∙ none.links) a))
+        | inr one ↦
+            let here : links_at h entry ≡ one.fits.link ∷ [] = spelled ∙ one.links in
+            ap (λ (k : Linked). k.row) (sym (only one.fits.link l (subst (λ ls. Contains ls l) here a)) ∙ only one.fits.link m (subst (λ ls. Contains ls m) here b))
+      ]
+    where
+      only : (one k : Linked) → Contains (one ∷ []) k → one ≡ k
+      only one k c = elim (contains_cases k one [] c) [ inl is ↦ is | inr none ↦ absurd (contains_none k none) ]
 
 -- links that have one index have one row
 pub index_once : (h : History) → IsLawful h → (symbol : Name) (l m : Linked) → Contains (links h symbol) l → Contains (links h symbol) m → l.row.index ≡ m.row.index → l.row ≡ m.row
@@ -141,19 +153,8 @@ pub stored_was_put : (h : History) (key : Key) → is_put key.kind ≡ true → 
 stored_was_put h key kind stands = ap is_some (stands_from h key kind stands).put
 
 -- the index that was put under a link's key is its own
-pub index_is : (h : History) → IsLawful h → (symbol : Name) (l : Linked) → Contains (links h symbol) l → index_put h l.row.index ≡ Some l.index
-index_is h lawful symbol l there = by (index_put h l.row.index) ((lawful_as_put h lawful).links symbol l there)
-  where
-    of : (i : Index) (tiles : Option (_)) → option_map (λ t. record { row = l.row; index = i; tiles = t }) tiles ≡ Some l → Some i ≡ Some l.index
-    of i None e = absurd cc
-    of i (Some tiles) e = ap (λ (o : Linked). Some o.index) (some_same e)
-      where
-        some_same : {x y : Linked} → Some x ≡ Some y → x ≡ y
-        some_same e = cc
-
-    by : (i : Option Index) → option_and_then (λ i. option_map (λ t. record { row = l.row; index = i; tiles = t }) (tiles_put h i.slots)) i ≡ Some l → i ≡ Some l.index
-    by None e = absurd cc
-    by (Some i) e = of i (tiles_put h i.slots) e
+pub index_is : (h : History) → IsLawful h → (symbol : Name) (l : Linked) → Contains (links h symbol) l → flat_put h l.row.index ≡ Some l.index
+index_is = linked_flat
 
 -- ---- dead keys stay dead, whoever adds events
 
@@ -173,7 +174,8 @@ unneeded_once x h key lawful u = elim (dead_stays h x key (suc (author x)) lawfu
   | inl v ↦ v
   | inr rest ↦ elim rest [
     | inl p ↦ absurd (table_is_not_staged key.name key (reached_is_table h key (lawful_is_intact h lawful.1) u.once) p.staged)
-    | inr o ↦ absurd (true≢false (sym (reached_stays x h key u.once) ∙ o.unreached))
+    | inr (inl o) ↦ absurd (true≢false (sym (reached_stays x h key u.once) ∙ o.unreached))
+    | inr (inr r) ↦ absurd (none_retold (x ∷ h) key r)
   ]
 ]
 
@@ -182,7 +184,8 @@ consumed_once x h key lawful p = elim (dead_stays h x key (suc (author x)) lawfu
   | inl u ↦ absurd (table_is_not_staged key.name key (reached_is_table (x ∷ h) key (lawful_is_intact (x ∷ h) lawful) u.once) p.staged)
   | inr rest ↦ elim rest [
     | inl q ↦ q
-    | inr o ↦ absurd (true≢false (sym o.table ∙ ap (λ k. same_kind k kinds.TableData || same_kind k kinds.TableIndex || same_kind k kinds.Version) p.staged))
+    | inr (inl o) ↦ absurd (true≢false (sym o.table ∙ ap (λ k. same_kind k kinds.TableData || same_kind k kinds.TableIndex || same_kind k kinds.Version) p.staged))
+    | inr (inr r) ↦ absurd (none_retold (x ∷ h) key r)
   ]
 ]
 

@@ -22,8 +22,10 @@ use Rattle.store_model.specs.declared.chain.LinkRow.{LinkRow}
 use Rattle.store_model.specs.declared.hold.HoldRow.{HoldRow}
 use Rattle.store_model.specs.Law.{IsLawful}
 use Rattle.store_model.specs.Library.{Hold, state_of, is_live, is_held, is_kept, is_consumed, same_piece}
-use Rattle.store_model.specs.Links.{Linked, links, reached, reaches, is_needed, is_reached_by_needed, index_put, IsUnneeded, IsConsumedPiece}
-use Rattle.store_model.proofs.AsPut.{index_stays}
+use Rattle.store_model.specs.Links.{Linked, links, reached, reaches, is_needed, is_reached_by_needed, IsUnneeded, IsConsumedPiece}
+use Rattle.store_model.specs.PlainLinks.{flat_put}
+use Rattle.store_model.proofs.Plainly.{lawful_links}
+use Rattle.store_model.proofs.PlainLinks.{flat_stays, plain_reach}
 use Rattle.store_model.proofs.Dropping.{reaches_it, it_is_reached}
 use Rattle.store_model.proofs.Following.{puts_stay}
 use Rattle.store_model.proofs.Lawful.{lawful_is_intact, beginning_lawful}
@@ -146,10 +148,13 @@ index_put_later more h new row is lawful p = record { kind = p.kind; put = still
 index_prop : (a b : Index) → IsProp (a ≡ b)
 index_prop a b = hlevel props
 
+keys_prop : (a b : List Key) → IsProp (a ≡ b)
+keys_prop a b = hlevel props
+
 -- the index that is found under a link's key later is its own
-same_index : (more h new : History) (symbol : Name) (l : Linked) (index : Index) → new ≡ more ++ h → ∥ IsLawful new ∥₁ → Contains (links h symbol) l → index_put new l.row.index ≡ Some index → l.index ≡ index
+same_index : (more h new : History) (symbol : Name) (l : Linked) (index : Index) → new ≡ more ++ h → ∥ IsLawful new ∥₁ → Contains (links h symbol) l → flat_put new l.row.index ≡ Some index → l.index ≡ index
 same_index more h new symbol l index is lawful c put = ∥∥₁_elim (subst (λ g. ∥ IsLawful g ∥₁) is lawful) (index_prop l.index index) (λ w.
-    some_same (sym (index_stays h (more ++ h) (puts_stay more h w) l.row.index l.index (index_is h (beginning_lawful more h w) symbol l c)) ∙ (ap (λ g. index_put g l.row.index) (sym is) ∙ put)))
+    some_same (sym (flat_stays h (more ++ h) (puts_stay more h w) l.row.index l.index (index_is h (beginning_lawful more h w) symbol l c)) ∙ (ap (λ g. flat_put g l.row.index) (sym is) ∙ put)))
   where
     some_same : {x y : Index} → Some x ≡ Some y → x ≡ y
     some_same e = cc
@@ -185,7 +190,7 @@ module _ (h : History) (symbol : Name) (lawful : ∥ IsLawful h ∥₁) where
   -- the index of a link that is not needed
   index_unneeded : (l : Linked) → Contains (links h symbol) l → is_needed (state_of h symbol) l ≡ false → IsUnneeded h l.row.index
   index_unneeded l c dead = unneeded_of l l.row.index c (contains_first l.row.index _) (λ m d need reach. ∥∥₁_elim lawful ⊥_prop (λ w.
-      let same : m.row.index ≡ l.row.index = own_index m l.row.index (link_kinds h w symbol m d) reach (link_kinds h w symbol l c).index in
+      let same : m.row.index ≡ l.row.index = own_index m l.row.index (link_kinds h w symbol m d) (lawful_links h w symbol m d) reach (link_kinds h w symbol l c).index in
       true≢false (sym need ∙ (ap (λ (r : LinkRow). is_kept (state_of h symbol) r.version) (index_once h w symbol m l d c same) ∙ dead))))
 
   -- a dead index is that of a link which is not needed
@@ -193,7 +198,7 @@ module _ (h : History) (symbol : Name) (lawful : ∥ IsLawful h ∥₁) where
   dead_index_link key d =
       let r = one_passes (λ k. reaches k key) (links h symbol) (subst (λ s. list_any (λ k. reaches k key) (links h s) ≡ true) d.0.1 d.1.once) in
       let reach = it_is_reached r.0 key r.2 in
-      (r.0, r.1, ∥∥₁_elim lawful (key_prop r.0.row.index key) (λ w. own_index r.0 key (link_kinds h w symbol r.0 r.1) reach d.0.0), unneeded_link r.0 key r.1 reach d.1)
+      (r.0, r.1, ∥∥₁_elim lawful (key_prop r.0.row.index key) (λ w. own_index r.0 key (link_kinds h w symbol r.0 r.1) (lawful_links h w symbol r.0 r.1) reach d.0.0), unneeded_link r.0 key r.1 reach d.1)
 
   -- a key that a link which is not needed reaches, and no needed one, is dead where the index is there
   dead_of : (l : Linked) (key : Key) → Contains (links h symbol) l → is_needed (state_of h symbol) l ≡ false → Contains (reached l) key → IsUnneeded h key → is_some (stored h l.row.index) ≡ true → IsDeadKey h symbol key
@@ -206,7 +211,7 @@ module _ (h : History) (symbol : Name) (lawful : ∥ IsLawful h ∥₁) where
         )
         | false ↦ λ e.
             let kind = index_kind e in
-            inr (inl ((kind, name_of l key c reach), u, subst (λ x. is_some (stored h x) ≡ true) (∥∥₁_elim lawful (key_prop l.row.index key) (λ w. own_index l key (link_kinds h w symbol l c) reach kind)) stands))
+            inr (inl ((kind, name_of l key c reach), u, subst (λ x. is_some (stored h x) ≡ true) (∥∥₁_elim lawful (key_prop l.row.index key) (λ w. own_index l key (link_kinds h w symbol l c) (lawful_links h w symbol l c) reach kind)) stands))
       ] refl
     where
       index_kind : same_kind key.kind kinds.TableData ≡ false → key.kind ≡ kinds.TableIndex
@@ -253,8 +258,12 @@ module _ (h0 h1 h2 h3 h4 : History) (symbol : Name) (state : SymbolState) (o2 o3
   told : IsStateOf before symbol state
   told = at.is
 
+  -- a link reaches its index key and the keys of its slots
+  reached_is : (l : Linked) → Contains (links before symbol) l → reached l ≡ reached_keys l.row.index l.index
+  reached_is l c = ∥∥₁_elim lawful (keys_prop (reached l) (reached_keys l.row.index l.index)) (λ w. plain_reach l (lawful_links before w symbol l c))
+
   -- what is found under a link's index later is its own
-  own : (more new : History) → new ≡ more ++ before → ∥ IsLawful new ∥₁ → (l : Linked) (index : Index) → Contains (links before symbol) l → index_put new l.row.index ≡ Some index → l.index ≡ index
+  own : (more new : History) → new ≡ more ++ before → ∥ IsLawful new ∥₁ → (l : Linked) (index : Index) → Contains (links before symbol) l → flat_put new l.row.index ≡ Some index → l.index ≡ index
   own more new is law l index c put = same_index more before new symbol l index is law c put
 
   -- the set of what is kept has each key that a needed link reaches
@@ -262,7 +271,7 @@ module _ (h0 h1 h2 h3 h4 : History) (symbol : Name) (state : SymbolState) (o2 o3
     kept_has : kept.gone ≡ false → (l : Linked) (key : Key) → Contains (links before symbol) l → is_needed (state_of before symbol) l ≡ true → Contains (reached l) key → has_key kept.keys key ≡ true
     kept_has there l key c need reach = elim (reached2.each l.row (kept_row before symbol state lawful told rows parted l c need)) [
       | inl missing ↦ absurd (true≢false (sym missing.1 ∙ there))
-      | inr found ↦ found.2 key (subst (λ i. Contains (reached_keys l.row.index i) key) (own (o2 ++ at.later) h2 since2 law2 l found.0 c found.1) reach) (empty key)
+      | inr found ↦ found.2 key (subst (λ i. Contains (reached_keys l.row.index i) key) (own (o2 ++ at.later) h2 since2 law2 l found.0 c found.1) (subst (λ ks. Contains ks key) (reached_is l c) reach)) (empty key)
     ]
 
     -- and no other
@@ -271,12 +280,12 @@ module _ (h0 h1 h2 h3 h4 : History) (symbol : Name) (state : SymbolState) (o2 o3
         let r = reached2.only key has in
         let l = row_kept before symbol state lawful told rows parted r.1.0 r.1.1 in
         let by = r.1.2 in
-        let put : index_put h2 l.0.row.index ≡ Some by.index = ap (λ (x : LinkRow). index_put h2 x.index) l.2 ∙ by.put in (
+        let put : flat_put h2 l.0.row.index ≡ Some by.index = ap (λ (x : LinkRow). flat_put h2 x.index) l.2 ∙ by.put in (
           l.0,
           l.1,
           l.3,
-          subst (λ i. Contains (reached_keys l.0.row.index i) key) (sym (own (o2 ++ at.later) h2 since2 law2 l.0 by.index l.1 put))
-              (subst (λ (x : LinkRow). Contains (reached_keys x.index by.index) key) (sym l.2) by.reaches),
+          subst (λ ks. Contains ks key) (sym (reached_is l.0 l.1)) (subst (λ i. Contains (reached_keys l.0.row.index i) key) (sym (own (o2 ++ at.later) h2 since2 law2 l.0 by.index l.1 put))
+              (subst (λ (x : LinkRow). Contains (reached_keys x.index by.index) key) (sym l.2) by.reaches)),
         )
 
     -- an unneeded key is not kept
@@ -311,9 +320,9 @@ module _ (h0 h1 h2 h3 h4 : History) (symbol : Name) (state : SymbolState) (o2 o3
           let r = reached3.only key has in
           let l = row_dead before symbol state lawful told rows parted r.1.0 r.1.1 in
           let by = r.1.2 in
-          let put : index_put h3 l.0.row.index ≡ Some by.index = ap (λ (x : LinkRow). index_put h3 x.index) l.2 ∙ by.put in
-          let reach : Contains (reached l.0) key = subst (λ i. Contains (reached_keys l.0.row.index i) key) (sym (own (o3 ++ (o2 ++ at.later)) h3 since3 law3 l.0 by.index l.1 put))
-          (subst (λ (x : LinkRow). Contains (reached_keys x.index by.index) key) (sym l.2) by.reaches) in
+          let put : flat_put h3 l.0.row.index ≡ Some by.index = ap (λ (x : LinkRow). flat_put h3 x.index) l.2 ∙ by.put in
+          let reach : Contains (reached l.0) key = subst (λ ks. Contains ks key) (sym (reached_is l.0 l.1)) (subst (λ i. Contains (reached_keys l.0.row.index i) key) (sym (own (o3 ++ (o2 ++ at.later)) h3 since3 law3 l.0 by.index l.1 put))
+          (subst (λ (x : LinkRow). Contains (reached_keys x.index by.index) key) (sym l.2) by.reaches)) in
           let was = index_put_of before symbol l.0 lawful l.1 in
           let stood : is_some (stored before l.0.row.index) ≡ true =
           stood_before (o2 ++ at.later) before h2 l.0.row.index since2 (ap is_put was.kind) law2 was.put (ap (λ (x : LinkRow). is_some (stored h2 x.index)) l.2 ∙ by.stood) in
@@ -342,7 +351,7 @@ module _ (h0 h1 h2 h3 h4 : History) (symbol : Name) (state : SymbolState) (o2 o3
             let was = index_put_of before symbol l lawful c in
             let put : is_some (body_put h3 l.row.index) ≡ true = still_put (o3 ++ (o2 ++ at.later)) before h3 l.row.index since3 law3 was.put in
             inr (stays_gone o4 h3 h4 l.row.index is4 (ap is_put was.kind) law4 put missing.0)
-        | inr found ↦ inl (has_more key (found.2 key (subst (λ i. Contains (reached_keys l.row.index i) key) (own (o3 ++ (o2 ++ at.later)) h3 since3 law3 l found.0 c found.1) reach) (unneeded_not_kept key u)))
+        | inr found ↦ inl (has_more key (found.2 key (subst (λ i. Contains (reached_keys l.row.index i) key) (own (o3 ++ (o2 ++ at.later)) h3 since3 law3 l found.0 c found.1) (subst (λ ks. Contains ks key) (reached_is l c) reach)) (unneeded_not_kept key u)))
       ]
 
       found_index : (key : Key) → IsDeadIndex before symbol key → (has_key keys key ≡ true) ⊎ (stored h4 key ≡ None)

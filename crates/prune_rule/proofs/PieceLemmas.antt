@@ -53,6 +53,7 @@ changes_consume first (changes.Updated frame range at ∷ list) st name all e = 
 changes_consume first (changes.Removed versions ∷ list) st name all e = changes_consume first list (after_change st (changes.Removed versions)) name all.1 e
 changes_consume first (changes.Held holder version ∷ list) st name all e = changes_consume first list (after_change st (changes.Held holder version)) name all.1 e
 changes_consume first (changes.Released holder ∷ list) st name all e = changes_consume first list (after_change st (changes.Released holder)) name all.1 e
+changes_consume first (changes.Restated ∷ list) st name all e = changes_consume first list (after_change st changes.Restated) name all.1 e
 
 staged_same : (st : State) (list : List Change) → (fold after_change st list).staged ≡ st.staged
 staged_same st [] = refl

@@ -15,8 +15,8 @@ use Rattle.bucket_core.specs.History.{History, stored}
 use Rattle.bucket_core.specs.Laws.{Looks}
 use Rattle.store_model.specs.declared.chain.LinkRow.{LinkRow}
 use Rattle.store_model.specs.Law.{IsClaimed, IsLawful}
-use Rattle.store_model.specs.Links.{index_put}
-use Rattle.store_model.proofs.AsPut.{index_stays}
+use Rattle.store_model.specs.PlainLinks.{flat_put}
+use Rattle.store_model.proofs.PlainLinks.{flat_stays}
 use Rattle.store_model.proofs.Following.{puts_stay}
 use Rattle.store_model.proofs.Lists.{contains_first, contains_later, contains_cases, contains_none, contains_right, one_passes, passes}
 use Rattle.version_chain.specs.Marking.{IsMet}
@@ -31,9 +31,9 @@ use Rattle.prune_rule.proofs.GoneLemmas.{stays_gone, stood_before, still_put}
 use Rattle.prune_rule.proofs.DropLemmas.{all_in}
 
 -- an index that was put stays put
-pub index_later : (more h new : History) (key : Key) (index : Index) → new ≡ more ++ h → ∥ IsLawful new ∥₁ → index_put h key ≡ Some index → index_put new key ≡ Some index
+pub index_later : (more h new : History) (key : Key) (index : Index) → new ≡ more ++ h → ∥ IsLawful new ∥₁ → flat_put h key ≡ Some index → flat_put new key ≡ Some index
 index_later more h new key index is lawful put =
-    subst (λ g. index_put g key ≡ Some index) (sym is) (∥∥₁_elim (subst (λ g. ∥ IsLawful g ∥₁) is lawful) (hlevel props) (λ l. index_stays h (more ++ h) (puts_stay more h l) key index put))
+    subst (λ g. flat_put g key ≡ Some index) (sym is) (∥∥₁_elim (subst (λ g. ∥ IsLawful g ∥₁) is lawful) (hlevel props) (λ l. flat_stays h (more ++ h) (puts_stay more h l) key index put))
 
 -- the last of these rows were read, and the first are left
 pub record ReachesSoFar (old cur : History) (rows rest : List LinkRow) (kept : BTreeSet Key) (reached : Reached) : Type 0 where
@@ -92,7 +92,7 @@ module _ (old cur new first more : History) (rows rest left : List LinkRow) (row
 
   passed_each : DidReach new row kept before after → (r : LinkRow) → Contains so_far.passed r
       → ((stored new r.index ≡ None) × (after.gone ≡ true))
-      ⊎ ((index : Index) × (index_put new r.index ≡ Some index) × ((key : Key) → Contains (reached_keys r.index index) key → has_key kept key ≡ false → has_key after.keys key ≡ true))
+      ⊎ ((index : Index) × (flat_put new r.index ≡ Some index) × ((key : Key) → Contains (reached_keys r.index index) key → has_key kept key ≡ false → has_key after.keys key ≡ true))
   passed_each did r c = elim (so_far.reaches.each r c) [
     | inl none ↦ inl (still_none r c none.0, still_gone did none.1)
     | inr found ↦ inr (found.0, index_later more cur new r.index found.0 is lawful found.1, λ key reach lacks. more_keys did key (found.2 key reach lacks))
@@ -100,7 +100,7 @@ module _ (old cur new first more : History) (rows rest left : List LinkRow) (row
 
   row_each : DidReach new row kept before after
       → ((stored new row.index ≡ None) × (after.gone ≡ true))
-      ⊎ ((index : Index) × (index_put new row.index ≡ Some index) × ((key : Key) → Contains (reached_keys row.index index) key → has_key kept key ≡ false → has_key after.keys key ≡ true))
+      ⊎ ((index : Index) × (flat_put new row.index ≡ Some index) × ((key : Key) → Contains (reached_keys row.index index) key → has_key kept key ≡ false → has_key after.keys key ≡ true))
   row_each did = elim did [
     | inl miss ↦ inl (miss.none, miss.gone)
     | inr hit ↦ inr (
@@ -150,7 +150,7 @@ module _ (old cur new first more : History) (rows rest left : List LinkRow) (row
     reaches = record {
       each = λ r c. elim (contains_cases r row so_far.passed c) [
         | inl same ↦ subst (λ (x : LinkRow). ((stored new x.index ≡ None) × (after.gone ≡ true))
-            ⊎ ((index : Index) × (index_put new x.index ≡ Some index) × ((key : Key) → Contains (reached_keys x.index index) key → has_key kept key ≡ false → has_key after.keys key ≡ true))) same (row_each did)
+            ⊎ ((index : Index) × (flat_put new x.index ≡ Some index) × ((key : Key) → Contains (reached_keys x.index index) key → has_key kept key ≡ false → has_key after.keys key ≡ true))) same (row_each did)
         | inr earlier ↦ passed_each did r earlier
       ];
       only = each_only did;

@@ -17,6 +17,7 @@ use Rattle.store_model.proofs.Dropping.{reached_is_table}
 use Rattle.store_model.proofs.Putting.{spelled_is_put}
 use Rattle.store_model.proofs.Lawful.{lawful_is_intact}
 use Rattle.store_model.proofs.Stability.{is_false}
+use Rattle.store_model.proofs.Plainly.{none_retold}
 use Rattle.prune_rule.proofs.DeadLemmas.{table_is_put}
 
 no_reference : (key : Key) (symbol : Name) → is_put key.kind ≡ true → same_key key (reference_key symbol) ≡ false
@@ -33,7 +34,9 @@ own_is_put kinds.Staged e = refl
 dead_is_put : (h : History) (key : Key) (client : ℕ) → IsIntact h → IsDead h key client → is_put key.kind ≡ true
 dead_is_put h key client i dead = elim dead [
   | inl u ↦ table_is_put key.name key (reached_is_table h key i u.once)
-  | inr rest ↦ elim rest [ inl p ↦ ap is_put p.staged | inr o ↦ own_is_put key.kind o.table ]
+  | inr (inl p) ↦ ap is_put p.staged
+  | inr (inr (inl o)) ↦ own_is_put key.kind o.table
+  | inr (inr (inr r)) ↦ absurd (none_retold h key r)
 ]
 
 same_reference : (t s : Name) → same_key (reference_key t) (reference_key s) ≡ same_name t s

@@ -29,7 +29,7 @@ use Rattle.bucket_core.specs.Laws.{Looks}
 use Rattle.store_model.specs.declared.chain.LinkRow.{LinkRow}
 use Rattle.store_model.specs.Law.{IsClaimed}
 use Rattle.store_model.specs.Library.{same_piece}
-use Rattle.store_model.specs.Links.{index_put}
+use Rattle.store_model.specs.PlainLinks.{flat_put}
 use Rattle.store_model.proofs.Histories.{stands_was_put}
 use Rattle.version_chain.specs.States.{RefusesWalk}
 use Rattle.version_chain.specs.Stops.{refused_by}
@@ -179,7 +179,7 @@ want_refused client sole before now old new place refused at is g =
     subst (RefusesWalk before now old new) (sym is) (record { why = tt; place = record { from = omega (arith, at, long); to = omega (arith, at) } })
 
 -- what stands under the key of an index was put there
-pub index_found : (h : History) (key : Key) (body : Bytes) (index : Index) → key.kind ≡ kinds.TableIndex → stored h key ≡ Some body → index_of body ≡ Ok index → (is_some (stored h key) ≡ true) × (index_put h key ≡ Some index)
+pub index_found : (h : History) (key : Key) (body : Bytes) (index : Index) → key.kind ≡ kinds.TableIndex → stored h key ≡ Some body → index_of body ≡ Ok index → (is_some (stored h key) ≡ true) × (flat_put h key ≡ Some index)
 index_found h key body index kind stands spelled = (
   ap is_some stands,
   ap (option_and_then (λ b. read_of (index_of b))) (stands_was_put h key body (ap is_put kind) stands) ∙ ap read_of spelled,

@@ -24,7 +24,8 @@ use Rattle.bucket_core.specs.History.{History, stored, body_put}
 use Rattle.store_model.specs.declared.chain.LinkRow.{LinkRow}
 use Rattle.store_model.specs.declared.hold.HoldRow.{HoldRow}
 use Rattle.store_model.specs.Library.{state_of, same_piece}
-use Rattle.store_model.specs.Links.{Linked, links, reached, index_put, IsUnneeded}
+use Rattle.store_model.specs.Links.{Linked, links, reached, IsUnneeded}
+use Rattle.store_model.specs.PlainLinks.{flat_put}
 use Rattle.version_chain.specs.States.{is_tomb}
 use Rattle.reply_model.specs.Tries.{IsKeyOf}
 use Rattle.reply_model.specs.Drops.{IsDeadIndex, IsDeadTile, IsDeadPiece}
@@ -48,7 +49,7 @@ reached_keys key index = key ∷ map (λ (s : Slot). s.key) index.slots
 
 -- the index that stands under a key as it was put, or nothing
 abbrev pub IsFoundIndex : History → Key → Option Index → Type 0
-IsFoundIndex h key (Some index) = (is_some (stored h key) ≡ true) × (index_put h key ≡ Some index)
+IsFoundIndex h key (Some index) = (is_some (stored h key) ≡ true) × (flat_put h key ≡ Some index)
 IsFoundIndex h key None = stored h key ≡ None
 
 -- the index of the row was put
@@ -60,14 +61,14 @@ pub record IsIndexPut (h : History) (row : LinkRow) : Type 0 where
 pub record IsReachedBy (old new : History) (row : LinkRow) (key : Key) : Type 0 where
   pub stood : is_some (stored old row.index) ≡ true
   pub index : Index
-  pub put : index_put new row.index ≡ Some index
+  pub put : flat_put new row.index ≡ Some index
   pub reaches : Contains (reached_keys row.index index) key
 
 -- the index of the row stands, and all that its link reaches is added to the set, but for what is kept
 pub record ReachesRow (h : History) (row : LinkRow) (kept : BTreeSet Key) (old new : Reached) : Type 0 where
   pub stands : is_some (stored h row.index) ≡ true
   pub index : Index
-  pub put : index_put h row.index ≡ Some index
+  pub put : flat_put h row.index ≡ Some index
   pub gone : new.gone ≡ old.gone
   pub keys : (key : Key) → has_key new.keys key ≡ (has_key old.keys key || (list_any (λ k. same_key k key) (reached_keys row.index index) && not (has_key kept key)))
 
@@ -85,7 +86,7 @@ DidReach h row kept old new = MissesRow h row old new ⊎ ReachesRow h row kept 
 pub record Reaches (old new : History) (rows : List LinkRow) (kept : BTreeSet Key) (reached : Reached) : Type 0 where
   pub each : (row : LinkRow) → Contains rows row
       → ((stored new row.index ≡ None) × (reached.gone ≡ true))
-      ⊎ ((index : Index) × (index_put new row.index ≡ Some index) × ((key : Key) → Contains (reached_keys row.index index) key → has_key kept key ≡ false → has_key reached.keys key ≡ true))
+      ⊎ ((index : Index) × (flat_put new row.index ≡ Some index) × ((key : Key) → Contains (reached_keys row.index index) key → has_key kept key ≡ false → has_key reached.keys key ≡ true))
   pub only : (key : Key) → has_key reached.keys key ≡ true → (has_key kept key ≡ false) × ((row : LinkRow) × Contains rows row × IsReachedBy old new row key)
   pub gone : reached.gone ≡ true → (row : LinkRow) × Contains rows row × (stored new row.index ≡ None)
 
