@@ -13,3 +13,5 @@ mod meeting;
 mod numbers;
 #[cfg(test)]
 mod reading_beside;
+#[cfg(test)]
+mod turns;

@@ -5,8 +5,6 @@ mod adding;
 mod mark;
 mod seats;
 mod tally;
-#[cfg(test)]
-mod tests;
 mod threads;
 
 pub use adding::{add, add_list, total};

@@ -1,7 +1,7 @@
-use crate::{add, add_each, open, total, two};
 use base_types::{Items, NoMemory};
 use std::alloc::Global;
 use std::test::Fail;
+use turn_tally::{add, add_each, open, total, two};
 
 // For each amount a job that adds it twice.
 fn twice_each(alloc: Global, amounts: &[u64]) -> Result<Items<Items<u64>>, NoMemory> {
