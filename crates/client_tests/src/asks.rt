@@ -15,16 +15,24 @@ use std::alloc::Global;
 use std::sync::Wait;
 use version_chain::StoreLaw;
 
-/// The stamps of five rows.
-pub(crate) const FIVE: &[i64] = &[1, 2, 2, 4, 9];
+/// Rows of one column, told by their stamps.
+#[derive(Clone, Copy)]
+pub(crate) enum Rows {
+    /// 1, 2, 2, 4 and 9.
+    Five,
+    /// 7 and 8.
+    Two,
+    /// 9.
+    One,
+}
 
-/// A command of S; rows are told by their stamps.
+/// A command of S.
 #[derive(Clone, Copy)]
 pub(crate) enum Ask {
-    Write(&'static [i64]),
+    Write(Rows),
     /// The same, which buries what was live before.
-    Replace(&'static [i64]),
-    Append(&'static [i64]),
+    Replace(Rows),
+    Append(Rows),
     Read,
     Keys,
     Reclaim,
@@ -76,6 +84,14 @@ pub(crate) fn library<B>(bucket: B, rows: u32, twice: bool) -> Library<B> {
     )
 }
 
+fn stamps_of(rows: Rows) -> &'static [i64] {
+    match rows {
+        Rows::Five => &[1, 2, 2, 4, 9],
+        Rows::Two => &[7, 8],
+        Rows::One => &[9],
+    }
+}
+
 // Rows of one column, with these stamps.
 fn raw_rows(alloc: Global, stamps: &[i64]) -> Result<RawFrame, NoMemory> {
     let mut raw = RawFrame {
@@ -97,7 +113,7 @@ fn frames_of(alloc: Global, ask: Ask) -> Result<Items<RawFrame>, NoMemory>
     ensures { IfOk result (λ frames. 0 < length frames) }
 {
     let stamps = match ask {
-        Ask::Write(stamps) | Ask::Replace(stamps) | Ask::Append(stamps) => stamps,
+        Ask::Write(rows) | Ask::Replace(rows) | Ask::Append(rows) => stamps_of(rows),
         Ask::Read | Ask::Keys | Ask::Reclaim => &[],
     };
     let mut frames = Items::new(alloc);

@@ -1,6 +1,6 @@
 //! Another client writes, buries and reclaims in each gap of a call: before its first step, between any two, and behind its last.
 
-use crate::asks::{Answer, Ask, FIVE, Told};
+use crate::asks::{Answer, Ask, Rows, Told};
 use crate::meanwhile::{Case, Met, meet};
 use frame_core::Refusal;
 use std::alloc::Global;
@@ -8,12 +8,12 @@ use std::sync::Wait;
 use std::test::Fail;
 
 // Client 1 writes two rows, buries what was live before, and reclaims it.
-const REPLACES: &[Ask] = &[Ask::Replace(&[7, 8]), Ask::Reclaim];
+const REPLACES: &[Ask] = &[Ask::Replace(Rows::Two), Ask::Reclaim];
 
 // Client 1 has written five rows in two tiles (five events), and replaces them (seven events).
 const READ: Case = Case {
     rows: 3,
-    before: &[Ask::Write(FIVE)],
+    before: &[Ask::Write(Rows::Five)],
     meanwhile: REPLACES,
     twice: false,
     ask: Ask::Read,
@@ -63,10 +63,10 @@ fn a_read_has_a_whole_version_or_is_told_that_it_is_gone(rt: HostRuntime) -> Res
 
 const APPEND: Case = Case {
     rows: 3,
-    before: &[Ask::Write(FIVE)],
+    before: &[Ask::Write(Rows::Five)],
     meanwhile: REPLACES,
     twice: true,
-    ask: Ask::Append(&[9]),
+    ask: Ask::Append(Rows::One),
     after: Ask::Read,
 };
 
@@ -94,7 +94,7 @@ fn an_append_is_made_on_what_is_there_at_its_commit(rt: HostRuntime) -> Result<(
 // Client 1 has written five rows in two tiles twice and buried the first (ten events).
 const RECLAIM: Case = Case {
     rows: 3,
-    before: &[Ask::Write(FIVE), Ask::Replace(FIVE)],
+    before: &[Ask::Write(Rows::Five), Ask::Replace(Rows::Five)],
     meanwhile: REPLACES,
     twice: true,
     ask: Ask::Reclaim,

@@ -1,4 +1,4 @@
-use crate::asks::{Answer, Ask, FIVE, Told};
+use crate::asks::{Answer, Ask, Rows, Told};
 use crate::meanwhile::{Case, meet};
 use bucket_core::{GatePoint, Step};
 use frame_core::Refusal;
@@ -14,10 +14,10 @@ const MEETINGS: &[(bool, Answer, u64)] = &[
 fn meeting(twice: bool) -> Case {
     Case {
         rows: 5,
-        before: &[Ask::Write(FIVE)],
-        meanwhile: &[Ask::Write(FIVE)],
+        before: &[Ask::Write(Rows::Five)],
+        meanwhile: &[Ask::Write(Rows::Five)],
         twice,
-        ask: Ask::Write(FIVE),
+        ask: Ask::Write(Rows::Five),
         after: Ask::Keys,
     }
 }

@@ -1,4 +1,4 @@
-use crate::asks::{Ask, FIVE, asked, library, symbol};
+use crate::asks::{Ask, Rows, asked, library, symbol};
 use bucket_core::Bucket;
 use bucket_shared::Shared;
 use std::alloc::Global;
@@ -40,7 +40,7 @@ fn told_of_a_refer<R: Wait>(rt: &R, alloc: Global) -> Result<(bool, bool, u64), 
     let mut second = pass.split(rt)?;
     let before = second.unchanged(&symbol, 0);
     let mut first = library(pass, 5, false);
-    let _ = asked(rt, alloc, &mut first, Ask::Write(FIVE))?;
+    let _ = asked(rt, alloc, &mut first, Ask::Write(Rows::Five))?;
     let seen = second.place();
     Ok((before, second.unchanged(&symbol, 0), seen))
 }

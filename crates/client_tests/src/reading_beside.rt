@@ -1,4 +1,4 @@
-use crate::asks::{Answer, Ask, FIVE, Told};
+use crate::asks::{Answer, Ask, Rows, Told};
 use crate::meanwhile::{Case, meet};
 use bucket_core::{GatePoint, Step};
 use frame_core::Refusal;
@@ -7,8 +7,8 @@ use std::test::Fail;
 // Client 1 has written five rows, and writes them again, prunes and reclaims behind a get of client 2's read.
 const READ: Case = Case {
     rows: 5,
-    before: &[Ask::Write(FIVE)],
-    meanwhile: &[Ask::Replace(FIVE), Ask::Reclaim],
+    before: &[Ask::Write(Rows::Five)],
+    meanwhile: &[Ask::Replace(Rows::Five), Ask::Reclaim],
     twice: false,
     ask: Ask::Read,
     after: Ask::Keys,
