@@ -23,10 +23,10 @@ use Rattle.frame_write.specs.Pieces.{HasBase}
 use Rattle.frame_write.proofs.SharedSlots.{base_storable, shared_stamps, shared_put, shared_lies, shared_reaches, shared_may_name}
 use Rattle.frame_write.proofs.PlanLemmas.{small_rows}
 
--- the frame was put under the key, which a new link may name
+-- the frame was put under the key, which a new link of any version may name
 pub record IsSharedIn (h : History) (client : ℕ) (symbol : Name) (frame : Frame) (key : Key) : Type 0 where
   pub put : frame_put h key ≡ Some frame
-  pub may_name : MayNameKey h client symbol key
+  pub may_name : (version : ℕ) → MayNameKey h client version symbol key
 
 module _ (h : History) (lawful : ∥ IsLawful h ∥₁) (symbol : Name) (schema : Schema) (rows : List Row) (slots : List Slot) (b : HasBase h symbol schema rows slots) (s : Slot) (there : Contains slots s) where
   -- a slot of the base has the stamps of its rows
@@ -51,10 +51,10 @@ module _ (h : History) (lawful : ∥ IsLawful h ∥₁) (symbol : Name) (schema 
   pub shared_told : (client columns : ℕ) → IsSlot columns s → IsSharedIn h client symbol (cut b.version.frame s.part) s.key
   shared_told client columns rule = record {
     put = ∥∥₁_elim lawful (hlevel props) (λ l. shared_put h l symbol schema rows slots b s there);
-    may_name = record {
+    may_name = λ version. record {
       kind = rule.is_tile;
-      name = ∥∥₁_elim lawful (hlevel props) (λ l. (shared_may_name h l symbol schema rows slots b s there client columns rule).name);
-      stands = ∥∥₁_elim lawful (hlevel props) (λ l. (shared_may_name h l symbol schema rows slots b s there client columns rule).stands);
+      name = ∥∥₁_elim lawful (hlevel props) (λ l. (shared_may_name h l symbol schema rows slots b s there client version columns rule).name);
+      stands = ∥∥₁_elim lawful (hlevel props) (λ l. (shared_may_name h l symbol schema rows slots b s there client version columns rule).stands);
       fresh_or_shared = inr (∥∥₁_elim lawful (hlevel props) (λ l. shared_reaches h l symbol schema rows slots b s there));
     };
   }

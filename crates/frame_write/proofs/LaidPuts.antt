@@ -84,22 +84,30 @@ module _ (client : ℕ) (symbol : Name) (version : ℕ) where
       let here : length (tile_puts (placed client symbol version serial t)) ≡ length (parts (grid_of g cutting)) = tiles_counted g cutting serial t z.0 in
       ap length (puts_behind_fresh to serial t rest) ∙ (length-append (tile_puts (placed client symbol version serial t)) (puts_laid rest) ∙ (λ i. here i + later i))
 
-  -- each is a tile of the symbol
-  pub pieces_of_symbol : (list : List Piece) (tiles : List (List Tile)) (to serial : ℕ) → AllByRecursion (λ (p : Key × Bytes). IsKeyOf kinds.TableData symbol p.0) (puts_laid (laid_pieces client symbol version to serial list tiles))
-  pieces_of_symbol [] [] to serial = tt
-  pieces_of_symbol [] (t ∷ tiles) to serial = tt
-  pieces_of_symbol (p ∷ list) [] to serial = tt
-  pieces_of_symbol (pieces.Shared run ∷ list) (t ∷ tiles) to serial =
-      subst (AllByRecursion (λ (p : Key × Bytes). IsKeyOf kinds.TableData symbol p.0)) (sym (puts_behind_run (begin_of run) to run (laid_pieces client symbol version (to + size_of run) (serial + length t) list tiles)))
-      (pieces_of_symbol list tiles (to + size_of run) (serial + length t))
-  pieces_of_symbol (pieces.Fresh g ∷ list) (t ∷ tiles) to serial =
+  -- what holds of the put of each tile, under whatever serial, holds of each
+  pieces_all : (P : Key × Bytes → Type 0) → ((serial : ℕ) (t : Tile) → P ((slot_at client symbol version serial t).key, arc_value t.body)) → (list : List Piece) (tiles : List (List Tile)) (to serial : ℕ)
+      → AllByRecursion P (puts_laid (laid_pieces client symbol version to serial list tiles))
+  pieces_all P one [] [] to serial = tt
+  pieces_all P one [] (t ∷ tiles) to serial = tt
+  pieces_all P one (p ∷ list) [] to serial = tt
+  pieces_all P one (pieces.Shared run ∷ list) (t ∷ tiles) to serial =
+      subst (AllByRecursion P) (sym (puts_behind_run (begin_of run) to run (laid_pieces client symbol version (to + size_of run) (serial + length t) list tiles)))
+      (pieces_all P one list tiles (to + size_of run) (serial + length t))
+  pieces_all P one (pieces.Fresh g ∷ list) (t ∷ tiles) to serial =
       let rest : List Laid = laid_pieces client symbol version (to + length g.rows) (serial + length t) list tiles in
-      subst (AllByRecursion (λ (p : Key × Bytes). IsKeyOf kinds.TableData symbol p.0)) (sym (puts_behind_fresh to serial t rest))
-      (all_append (λ (p : Key × Bytes). IsKeyOf kinds.TableData symbol p.0) (tile_puts (placed client symbol version serial t)) (puts_laid rest) (each serial t) (pieces_of_symbol list tiles (to + length g.rows) (serial + length t)))
+      subst (AllByRecursion P) (sym (puts_behind_fresh to serial t rest))
+      (all_append P (tile_puts (placed client symbol version serial t)) (puts_laid rest) (each serial t) (pieces_all P one list tiles (to + length g.rows) (serial + length t)))
     where
-      each : (serial : ℕ) (ts : List Tile) → AllByRecursion (λ (p : Key × Bytes). IsKeyOf kinds.TableData symbol p.0) (tile_puts (placed client symbol version serial ts))
+      each : (serial : ℕ) (ts : List Tile) → AllByRecursion P (tile_puts (placed client symbol version serial ts))
       each serial [] = tt
-      each serial (t ∷ ts) = ((refl, refl), each (suc serial) ts)
+      each serial (t ∷ ts) = (one serial t, each (suc serial) ts)
+
+  -- each is a tile of the symbol, and its key tells the version
+  pub pieces_of_symbol : (list : List Piece) (tiles : List (List Tile)) (to serial : ℕ) → AllByRecursion (λ (p : Key × Bytes). IsKeyOf kinds.TableData symbol p.0) (puts_laid (laid_pieces client symbol version to serial list tiles))
+  pieces_of_symbol = pieces_all (λ (p : Key × Bytes). IsKeyOf kinds.TableData symbol p.0) (λ serial t. (refl, refl))
+
+  pub pieces_of_version : (list : List Piece) (tiles : List (List Tile)) (to serial : ℕ) → AllByRecursion (λ (p : Key × Bytes). p.0.version ≡ version) (puts_laid (laid_pieces client symbol version to serial list tiles))
+  pieces_of_version = pieces_all (λ (p : Key × Bytes). p.0.version ≡ version) (λ serial t. refl)
 
   -- they may be put one after another, and what follows behind them
   pub pieces_from : (fits : FitsTry client symbol version) (cutting : Cutting) (list : List Piece) (tiles : List (List Tile)) (to serial : ℕ) (rest : List (Key × Bytes)) → AllZip (IsTiledPiece cutting) list tiles

@@ -1,5 +1,6 @@
 pub mod ListLemmas
 pub mod RowStamps
+pub mod IndexStamps
 pub mod CutLimits
 pub mod GridCover
 pub mod GridSlots

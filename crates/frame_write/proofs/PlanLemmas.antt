@@ -129,11 +129,11 @@ module _ (client : ℕ) (symbol : Name) (version : ℕ) (frame : Frame) (try_fit
 
   -- once they stand
   slots_put : (h : History) (serial : ℕ) (tiles : List Tile) (rest : List (Key × Bytes)) → AllByRecursion (IsTileOf frame) tiles → AreOwnPuts h client (tile_puts (placed client symbol version serial tiles) ++ rest)
-      → AllByRecursion (IsPutSlot h client symbol frame) (placed client symbol version serial tiles) × AreOwnPuts h client rest
+      → AllByRecursion (IsPutSlot h client version symbol frame) (placed client symbol version serial tiles) × AreOwnPuts h client rest
   slots_put h serial [] rest each own = (tt, own)
   slots_put h serial (t ∷ tiles) rest each own =
       let more = slots_put h (suc serial) tiles rest each.1 own.1 in
-      ((record { kind = refl; name = refl; own = own.0; spelled = each.0.spelled; stamps = record { first = each.0.first; last = each.0.last } }, more.0), more.1)
+      ((record { kind = refl; name = refl; made_for = refl; own = own.0; spelled = each.0.spelled; stamps = record { first = each.0.first; last = each.0.last } }, more.0), more.1)
 
 -- ---- keys that are all put
 
@@ -223,12 +223,14 @@ module _ (client serial : ℕ) (symbol : Name) (version : ℕ) (frame : Frame) (
       ),
     )
 
-    pub link_put : (h : History) (row : LinkRow) → row.index ≡ index_at → AreOwnPuts h client puts → IsPutLink h client symbol frame row
-    link_put h row is own =
+    pub link_put : (h : History) (row : LinkRow) → row.version ≡ version → row.index ≡ index_at → AreOwnPuts h client puts → IsPutLink h client symbol frame row
+    link_put h row number is own =
         let put = slots_put client symbol version frame try_fits h serial tiles ((index_at, index_body) ∷ (entry_at, entry_body) ∷ []) tiled.each own in
         record {
           kind = ap (λ (k : Key). k.kind) is;
           name = ap (λ (k : Key). k.name) is;
+          made_for = ap (λ (k : Key). k.version) is ∙ sym number;
+          index_stamps = (ap (λ (k : Key). k.first) is, ap (λ (k : Key). k.last) is);
           body = index_body;
           own = subst (λ k. IsOwnPut h client k index_body) (sym is) put.1.0;
           index = record { schema = frame.schema; rows = length frame.rows; slots = slots_of all };
@@ -240,7 +242,7 @@ module _ (client serial : ℕ) (symbol : Name) (version : ℕ) (frame : Frame) (
           index_rows = refl;
           slots = all;
           slots_are = refl;
-          each = put.0;
+          each = subst (λ n. AllByRecursion (IsPutSlot h client n symbol frame) all) (sym number) put.0;
           tiled = subst (Tiled frame) (sym (parts_cut frame (slots_of all) ∙ ap (map {B = CutTile} (λ (p : Part). (p, cut frame p))) slot_parts_are)) (tiled-grid frame cutting tiled.cutting_is);
         }
 
@@ -376,7 +378,7 @@ module _ (client serial : ℕ) (symbol : Name) (version : ℕ) (frame : Frame) (
           (wrote_may_follow (more ++ before) client symbol frame at (reference before symbol) plan.entry (pruned (state_of before symbol) prune) m.row storable
           (m.row_number ∙ (number ∙ sym (ap next_number same.state_is))) m.row_stamp m.row_rows
           (subst (λ st. BuriesLive st (pruned (state_of before symbol) prune)) (sym same.state_is) (buries_staging (state_of before symbol) same.more (pruned (state_of before symbol) prune) (buries_pruned (state_of before symbol) prune)))
-          (link_put client serial symbol version frame cutting tiles storable tiled try_fits small (arc_value m.index.body) (arc_value m.element.body) m.index_spelled (more ++ before) m.row index_row standing)
+          (link_put client serial symbol version frame cutting tiles storable tiled try_fits small (arc_value m.index.body) (arc_value m.element.body) m.index_spelled (more ++ before) m.row m.row_number index_row standing)
           (subst (λ k. IsPutEntry (more ++ before) client symbol k (record { prev = reference before symbol; changes = marks_of m.row (changes_on before symbol frame at prune) })) (sym key_is)
           (entry_put client serial symbol version frame cutting tiles storable tiled try_fits small (arc_value m.index.body) (arc_value m.element.body) m.index_spelled (more ++ before) (reference before symbol) (marks_of m.row (changes_on before symbol frame at prune)) element_spells standing)));
     };

@@ -113,8 +113,8 @@ module _ (h : History) (lawful : IsLawful h) (symbol : Name) (schema : Schema) (
     pub shared_reaches : newest_reaches (state_of h symbol) (links h symbol) s.key ≡ true
     shared_reaches = facts.1 s.key ∙ passes (λ k. same_key k s.key) (reached b.link) s.key in_reached (same_key_self s.key)
 
-    pub shared_may_name : (client columns : ℕ) → IsSlot columns s → MayNameKey h client symbol s.key
-    shared_may_name client columns rule = record {
+    pub shared_may_name : (client version columns : ℕ) → IsSlot columns s → MayNameKey h client version symbol s.key
+    shared_may_name client version columns rule = record {
       kind = rule.is_tile;
       name = ((lawful_is_intact h lawful).table_keys symbol b.link s.key b.link_is in_reached).name;
       stands = ap is_some ((lawful_is_intact h lawful).needed symbol b.link s.key b.link_is (or_left _ _ lives) in_reached).stands;

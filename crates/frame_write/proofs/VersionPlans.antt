@@ -13,7 +13,7 @@ use Rattle.segment_cut.specs.Cuttings.{Cutting}
 use Rattle.segment_cut.specs.Tiles.{Tiled, cut}
 use Rattle.index_tree.specs.declared.index.Slot.{Slot}
 use Rattle.index_tree.specs.IndexText.{index_of}
-use Rattle.index_tree.specs.IndexRules.{IsSlot, IsIndex}
+use Rattle.index_tree.specs.IndexRules.{IsSlot, Cover, IsIndex}
 use Rattle.key_kind.specs.declared.key.KeyKind.TheVariants as kinds
 use Rattle.key_kind.specs.declared.key.Key.{Key}
 use Rattle.key_kind.specs.Names.{Name}
@@ -28,7 +28,7 @@ use Rattle.store_model.specs.declared.chain.ChainMark.TheVariants as marks
 use Rattle.store_model.specs.ChainText.{entry_of}
 use Rattle.store_model.specs.Library.{State, Version, state_of, new_version, next_number}
 use Rattle.store_model.specs.Links.{frame_put}
-use Rattle.store_model.specs.Commits.{MayRefer, MayNameKey, HasSlotStamps, is_version, marks_of}
+use Rattle.store_model.specs.Commits.{MayRefer, MayNameKey, HasFrameStamps, HasSlotStamps, is_version, marks_of}
 use Rattle.store_model.specs.Law.{IsLawful}
 use Rattle.store_model.specs.OwnPuts.{IsOwnPut, AreOwnPuts, IsPutEntry, BuriesLive}
 use Rattle.store_model.proofs.Untouched.{as_it_was}
@@ -53,7 +53,8 @@ use Rattle.frame_write.proofs.Stretches.{IsLaidSlot, AreStretches, stretches_slo
 use Rattle.frame_write.proofs.BaseTold.{IsSharedIn, base_later}
 use Rattle.frame_write.proofs.LaidPieces.{pieces_may_lay, pieces_rows, pieces_laid, laid_index, laid_tiled}
 use Rattle.frame_write.proofs.CutLimits.{frame_within}
-use Rattle.frame_write.proofs.LaidPuts.{puts_counted, pieces_of_symbol, pieces_from, slots_are_laid}
+use Rattle.frame_write.proofs.IndexStamps.{slots_have_stamps}
+use Rattle.frame_write.proofs.LaidPuts.{puts_counted, pieces_of_symbol, pieces_of_version, pieces_from, slots_are_laid}
 use Rattle.frame_write.proofs.ApartKeys.{IsApart, put_apart, new_keys}
 use Rattle.frame_write.proofs.VersionRefers.{makes_version, read_put, tiles_at, IsLinkIn, link_fits, version_may_follow, staged_version}
 
@@ -120,18 +121,19 @@ frames_stand h client symbol f ((s, Some body) ∷ xs) each own = (
   frames_stand h client symbol f xs each.1 own.1,
 )
 
-may_be_named : (h : History) (client : ℕ) (symbol : Name) (f : Frame) (xs : List Laid) → AllByRecursion (IsLaidSlot (IsSharedIn h client symbol) f) xs → AreOwnPuts h client (puts_laid xs)
-    → AllByRecursion (λ (p : Key × Bytes). IsKeyOf kinds.TableData symbol p.0) (puts_laid xs) → AllByRecursion (λ (s : Slot). MayNameKey h client symbol s.key) (slots_laid xs)
-may_be_named h client symbol f [] each own named = tt
-may_be_named h client symbol f ((s, None) ∷ xs) each own named = (each.0.holds.may_name, may_be_named h client symbol f xs each.1 own named)
-may_be_named h client symbol f ((s, Some body) ∷ xs) each own named = (
+may_be_named : (h : History) (client version : ℕ) (symbol : Name) (f : Frame) (xs : List Laid) → AllByRecursion (IsLaidSlot (IsSharedIn h client symbol) f) xs → AreOwnPuts h client (puts_laid xs)
+    → AllByRecursion (λ (p : Key × Bytes). IsKeyOf kinds.TableData symbol p.0) (puts_laid xs) → AllByRecursion (λ (p : Key × Bytes). p.0.version ≡ version) (puts_laid xs)
+    → AllByRecursion (λ (s : Slot). MayNameKey h client version symbol s.key) (slots_laid xs)
+may_be_named h client version symbol f [] each own named made = tt
+may_be_named h client version symbol f ((s, None) ∷ xs) each own named made = (each.0.holds.may_name version, may_be_named h client version symbol f xs each.1 own named made)
+may_be_named h client version symbol f ((s, Some body) ∷ xs) each own named made = (
   record {
     kind = named.0.0;
     name = named.0.1;
     stands = ap is_some own.0.stands;
-    fresh_or_shared = inl (record { own = own.0.unlinked.own; unreached = own.0.unlinked.unreached });
+    fresh_or_shared = inl (record { own = own.0.unlinked.own; made_for = made.0; unreached = own.0.unlinked.unreached });
   },
-  may_be_named h client symbol f xs each.1 own.1 named.1,
+  may_be_named h client version symbol f xs each.1 own.1 named.1 made.1,
 )
 
 stamps_in : (Shares : Frame → Key → Type 0) (f : Frame) (xs : List Laid) → AllByRecursion (IsLaidSlot Shares f) xs → AllByRecursion (HasSlotStamps f) (slots_laid xs)
@@ -268,14 +270,18 @@ module _ (client serial : ℕ) (symbol : Name) (version : ℕ) (before : History
             ∙ ap (λ (ss : List Slot). filter (λ k. list_any (same_key k) (keys_of_puts (puts_laid xs))) (map (λ (s : Slot). s.key) ss)) (sym r.laid.slots)
 
     -- once all stand, the link and the element are there
-    pub link_in : (more : History) → list_any (refers symbol) more ≡ false → ∥ IsLawful (more ++ before) ∥₁ → AreOwnPuts (more ++ before) client puts → (row : LinkRow) → row.index ≡ index_at → IsLinkIn (more ++ before) client symbol v.frame row
-    link_in more e l own row is =
+    pub link_in : (more : History) → list_any (refers symbol) more ≡ false → ∥ IsLawful (more ++ before) ∥₁ → AreOwnPuts (more ++ before) client puts → (row : LinkRow) → row.version ≡ version → row.index ≡ index_at → IsLinkIn (more ++ before) client symbol v.frame row
+    link_in more e l own row number is =
         let all = (whole more e l).0 in
         let each = stretches_slots (IsSharedIn (more ++ before) client symbol) v.frame 0 xs all in
         let parts = own_split (more ++ before) client (puts_laid xs) ((index_at, index_body) ∷ (entry_at, entry_body) ∷ []) own in
+        let stamps = subst (AllByRecursion (HasSlotStamps v.frame)) (sym r.laid.slots) (stamps_in (IsSharedIn (more ++ before) client symbol) v.frame xs each) in
         record {
           kind = ap (λ (k : Key). k.kind) is;
           name = ap (λ (k : Key). k.name) is;
+          made_for = ap (λ (k : Key). k.version) is ∙ sym number;
+          index_stamps = subst (HasFrameStamps v.frame) (sym is) (slots_have_stamps v.frame (length v.frame.schema.columns) layout.slots index_is.each stamps
+              (subst (λ n. Cover n (length v.frame.schema.columns) layout.slots) rows_are index_is.cover));
           body = index_body;
           own = subst (λ k. IsOwnPut (more ++ before) client k index_body) (sym is) parts.1.0;
           index = index_with v.frame.schema layout;
@@ -283,9 +289,10 @@ module _ (client serial : ℕ) (symbol : Name) (version : ℕ) (before : History
           schema = refl;
           index_rows = rows_are;
           puts = subst (AllByRecursion (λ (s : Slot). frame_put (more ++ before) s.key ≡ Some (cut v.frame s.part))) (sym r.laid.slots) (frames_stand (more ++ before) client symbol v.frame xs each parts.0);
-          keys = subst (AllByRecursion (λ (s : Slot). MayNameKey (more ++ before) client symbol s.key)) (sym r.laid.slots)
-              (may_be_named (more ++ before) client symbol v.frame xs each parts.0 (pieces_of_symbol client symbol version list r.laid.tiles 0 serial));
-          stamps = subst (AllByRecursion (HasSlotStamps v.frame)) (sym r.laid.slots) (stamps_in (IsSharedIn (more ++ before) client symbol) v.frame xs each);
+          keys = subst (λ n. AllByRecursion (λ (s : Slot). MayNameKey (more ++ before) client n symbol s.key) layout.slots) (sym number)
+              (subst (AllByRecursion (λ (s : Slot). MayNameKey (more ++ before) client version symbol s.key)) (sym r.laid.slots)
+              (may_be_named (more ++ before) client version symbol v.frame xs each parts.0 (pieces_of_symbol client symbol version list r.laid.tiles 0 serial) (pieces_of_version client symbol version list r.laid.tiles 0 serial)));
+          stamps = stamps;
           tiled = subst (λ (ss : List Slot). Tiled v.frame (tiles_at v.frame ss)) (sym r.laid.slots) (laid_tiled (IsSharedIn (more ++ before) client symbol) v.frame xs r.storable all);
         }
 
@@ -356,7 +363,7 @@ module _ (client serial : ℕ) (symbol : Name) (version : ℕ) (before : History
       let makes : new_version (state_of (more ++ before) symbol) link.change ≡ Some fit.version = ap (λ st. new_version st link.change) same.state_is ∙ (staged_version (state_of before symbol) same.more link.change ∙ fit.makes) in
       let fits_link = link_fits (more ++ before) client symbol row fit.version (number ∙ sym (version_number (state_of before symbol) link.change fit.version fit.makes)) (sym fit.stamp)
       (rows_are client serial symbol version before fit.version options.cutting link.pieces layout ready) fit.storable
-      (link_in client serial symbol version before fit.version options.cutting link.pieces layout ready p.serials_fit p.index p.element spelled more e l standing row refl) in
+      (link_in client serial symbol version before fit.version options.cutting link.pieces layout ready p.serials_fit p.index p.element spelled more e l standing row refl refl) in
       let burying = subst (λ st. BuriesLive st (pruned (state_of before symbol) options.prune)) (sym same.state_is)
       (buries_staging (state_of before symbol) same.more (pruned (state_of before symbol) options.prune) (buries_pruned (state_of before symbol) options.prune)) in
       let entry = entry_in client serial symbol version before fit.version options.cutting link.pieces layout ready p.serials_fit p.index p.element spelled (more ++ before) (reference before symbol)

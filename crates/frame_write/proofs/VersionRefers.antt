@@ -21,7 +21,7 @@ use Rattle.store_model.specs.declared.chain.LinkRow.{LinkRow}
 use Rattle.store_model.specs.ChainText.{entry_of}
 use Rattle.store_model.specs.Library.{State, Version, Piece, state_of, live_versions, new_version}
 use Rattle.store_model.specs.Links.{frame_put, tiles_put, with_tile, entries}
-use Rattle.store_model.specs.Commits.{MayRefer, FitsLink, FitsMark, FitsChange, MayNameKey, HasSlotStamps, making, Buries, no_tombs, some_tombs, no_pieces, BuriesAll, is_version, marks_of}
+use Rattle.store_model.specs.Commits.{MayRefer, FitsLink, FitsMark, FitsChange, MayNameKey, HasFrameStamps, HasSlotStamps, making, Buries, no_tombs, some_tombs, no_pieces, BuriesAll, is_version, marks_of}
 use Rattle.store_model.specs.OwnPuts.{IsOwnPut, IsPutEntry, BuriesLive, buries_none, buries_live}
 use Rattle.store_model.proofs.Numbering.{versions_numbered, live_may_be_buried}
 use Rattle.store_model.proofs.StableRefer.{staging}
@@ -42,6 +42,8 @@ tiles_at frame slots = map (λ (s : Slot). (s.part, cut frame s.part)) slots
 pub record IsLinkIn (h : History) (client : ℕ) (symbol : Name) (frame : Frame) (row : LinkRow) : Type 0 where
   pub kind : row.index.kind ≡ kinds.TableIndex
   pub name : row.index.name ≡ symbol
+  pub made_for : row.index.version ≡ row.version
+  pub index_stamps : HasFrameStamps frame row.index
   pub body : Bytes
   pub own : IsOwnPut h client row.index body
   pub index : Index
@@ -49,7 +51,7 @@ pub record IsLinkIn (h : History) (client : ℕ) (symbol : Name) (frame : Frame)
   pub schema : index.schema ≡ frame.schema
   pub index_rows : index.rows ≡ length frame.rows
   pub puts : AllByRecursion (λ (s : Slot). frame_put h s.key ≡ Some (cut frame s.part)) index.slots
-  pub keys : AllByRecursion (λ (s : Slot). MayNameKey h client symbol s.key) index.slots
+  pub keys : AllByRecursion (λ (s : Slot). MayNameKey h client row.version symbol s.key) index.slots
   pub stamps : AllByRecursion (HasSlotStamps frame) index.slots
   pub tiled : Tiled frame (tiles_at frame index.slots)
 
@@ -67,10 +69,12 @@ link_fits h client symbol row v number stamp rows storable p = record {
   stamp = stamp;
   rows = rows;
   storable = storable;
-  new_index = record { kind = p.kind; name = p.name; stands = ap is_some p.own.stands; fresh = record { own = p.own.unlinked.own; unreached = p.own.unlinked.unreached } };
+  new_index = record { kind = p.kind; name = p.name; stands = ap is_some p.own.stands; fresh = record { own = p.own.unlinked.own; made_for = p.made_for; unreached = p.own.unlinked.unreached } };
+  index_stamps = p.index_stamps;
   link = record { row = row; pages = []; index = p.index; tiles = tiles_at v.frame p.index.slots };
   link_is = flat_linked h row p.index (tiles_at v.frame p.index.slots) (flat_is_put h row.index p.body p.index p.own.put p.spelled) (frames_put h v.frame p.index.slots p.puts);
   new_pages = tt;
+  pages_before = tt;
   pages_fit = tt;
   schema = p.schema;
   index_rows = p.index_rows;

@@ -47,7 +47,7 @@ new_kinds h client symbol was entry list may lawful l new =
     let m = new_link h client symbol was entry list may (lawful_is_intact h lawful) l new in
     subst HasKinds m.is (record {
       index = ap (λ (r : LinkRow). r.index.kind) (linked_row h m.row m.one.fits.link m.one.fits.link_is) ∙ m.one.fits.new_index.kind;
-      tiles = all_weaker (λ (s : Slot). MayNameKey h client symbol s.key) (λ (s : Slot). s.key.kind ≡ kinds.TableData) (λ s k. k.kind) m.one.fits.link.index.slots m.one.fits.keys;
+      tiles = all_weaker (λ (s : Slot). MayNameKey h client m.row.version symbol s.key) (λ (s : Slot). s.key.kind ≡ kinds.TableData) (λ s k. k.kind) m.one.fits.link.index.slots m.one.fits.keys;
     })
 
 -- each link has the key of an index and keys of tiles

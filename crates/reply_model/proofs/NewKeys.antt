@@ -327,7 +327,7 @@ module _ (c : Cutting) (client other : ℕ) (symbol : Name) (old behind : Histor
       ∙ (ap (λ ks. ks ++ keys_named new_names s.blocks) made_keys ∙ ap (λ ks. put_keys ++ ks) (older_keys s.blocks (stored_below s.blocks (λ b d. d))))
 
   -- a slot's key is a stored tile of the symbol
-  slots_stand : (xs : List Slot) → AllByRecursion (λ (x : Slot). MayNameKey before client symbol x.key) xs → AllByRecursion (λ (x : Slot). IsKeyOf kinds.TableData symbol x.key × (is_some (stored new x.key) ≡ true)) xs
+  slots_stand : (xs : List Slot) → AllByRecursion (λ (x : Slot). MayNameKey before client may.row.version symbol x.key) xs → AllByRecursion (λ (x : Slot). IsKeyOf kinds.TableData symbol x.key × (is_some (stored new x.key) ≡ true)) xs
   slots_stand [] all = tt
   slots_stand (x ∷ xs) all = (
     ((all.0.kind, all.0.name), ap (λ b. is_some (cond b (Some (key_text entry)) (stored before x.key))) (put_is_no_reference symbol x.key (ap is_put all.0.kind)) ∙ all.0.stands),

@@ -16,6 +16,7 @@ use Rattle.store_model.specs.Commits.{marks_of}
 use Rattle.store_model.proofs.Telling.{commit_restates_none}
 use Rattle.store_model.specs.Walks.{chain, HasElements}
 use Rattle.store_model.specs.Law.{IsLawful}
+use Rattle.store_model.specs.Promises.{ChainsCanBeFollowed}
 use Rattle.store_model.proofs.Lists.{contains_first, contains_later, one_passes, passes}
 use Rattle.store_model.proofs.Histories.{put_stays}
 use Rattle.store_model.proofs.Lawful.{lawful_is_intact}
@@ -64,6 +65,10 @@ chain-prev (events.Refer c s was entry list ∷ h) lawful symbol i e is =
 chain-prev (events.Name c snap body ∷ h) lawful symbol i e is = chain-prev h lawful.1 symbol i e is
 chain-prev (events.Unname c snap ∷ h) lawful symbol i e is = chain-prev h lawful.1 symbol i e is
 chain-prev (events.Drop c key ∷ h) lawful symbol i e is = chain-prev h lawful.1 symbol i e is
+
+-- so the chain of each symbol of a lawful history can be followed
+pub chains_can_be_followed : ChainsCanBeFollowed
+chains_can_be_followed h lawful symbol = record { newest = entries-first h symbol; before = chain-prev h lawful symbol }
 
 -- the element at the place of an entry
 pub chain-at : (h : History) (symbol : Name) → HasElements h symbol → (i : ℕ) (key : Key) → slice_get (chain_entries h symbol) i ≡ Some key → (e : Entry) × (slice_get (chain h symbol) i ≡ Some e) × (element h key ≡ Some e)

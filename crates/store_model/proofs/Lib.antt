@@ -26,6 +26,7 @@ pub mod WitnessPruned
 pub mod WitnessMet
 pub mod WitnessCleared
 pub mod Refuses
+pub mod LawRefusesKeys
 pub mod Listing
 pub mod OwnPuts
 pub mod Untouched

@@ -24,7 +24,7 @@ use Rattle.store_model.proofs.Referring.{at_symbol, linked_row}
 use Rattle.store_model.proofs.AsPut.{element_stays}
 use Rattle.store_model.proofs.Lawful.{lawful_is_intact}
 use Rattle.store_model.specs.PlainWalks.{row_of, pieces_of, holds_after_mark, tombs_in, rows_in, pieces_in, holds_in, chain, HasElements, WalkIsState, PlainWalks}
-use Rattle.store_model.proofs.Plainly.{is_commit}
+use Rattle.store_model.proofs.Plainly.{is_commit, lawful_chain, lawful_links, entries_stand}
 
 -- ---- the marks of one commit
 
@@ -213,4 +213,10 @@ has_elements (events.Unname c snap ∷ h) lawful symbol = has_elements h lawful.
 has_elements (events.Drop c key ∷ h) lawful symbol = has_elements h lawful.1 symbol
 
 pub plain_walks : PlainWalks
-plain_walks h lawful symbol = (has_elements h lawful symbol, walk_is_state h lawful symbol)
+plain_walks h lawful symbol = record {
+  elements = has_elements h lawful symbol;
+  state = walk_is_state h lawful symbol;
+  whole = lawful_chain h lawful symbol;
+  stand = entries_stand h lawful symbol;
+  no_pages = lawful_links h lawful symbol;
+}

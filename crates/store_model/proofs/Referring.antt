@@ -35,8 +35,8 @@ use Rattle.store_model.proofs.Telling.{refer_tells}
 use Rattle.store_model.proofs.Naming.{refer_holds_stay, may_not_release}
 
 -- a new index key is a key of the symbol's tables, and stands
-new_index_key : (h : History) (client : ℕ) (symbol : Name) (key : Key) → IsNewIndex h client symbol key → IsTableKey symbol key × StandsAsPut h key
-new_index_key h client symbol key n = (record { name = n.name; kind = inr n.kind }, stands_from h key (ap is_put n.kind) n.stands)
+new_index_key : (h : History) (client version : ℕ) (symbol : Name) (key : Key) → IsNewIndex h client version symbol key → IsTableKey symbol key × StandsAsPut h key
+new_index_key h client version symbol key n = (record { name = n.name; kind = inr n.kind }, stands_from h key (ap is_put n.kind) n.stands)
 
 -- the keys of a link that may be made are keys of the symbol's tables, and stand
 fits_keys : (h : History) (client : ℕ) (symbol : Name) (row : LinkRow) (v : Version) (f : FitsLink h client symbol row v) (key : Key)
@@ -46,13 +46,13 @@ fits_keys h client symbol row v f key c =
     elim (reached_cases f.link key c) [
       | inl e ↦
           let this : row.index ≡ key = ap (λ (r : LinkRow). r.index) (sym is) ∙ e in
-          subst (λ k. IsTableKey symbol k × StandsAsPut h k) this (new_index_key h client symbol row.index f.new_index)
+          subst (λ k. IsTableKey symbol k × StandsAsPut h k) this (new_index_key h client row.version symbol row.index f.new_index)
       | inr rest ↦ elim rest [
         | inl d ↦
-            let r = mapped_of (λ (p : Page). IsNewIndex h client symbol p.row.key) (λ (p : Page). p.row.key) f.link.pages key f.new_pages d in
-            subst (λ k. IsTableKey symbol k × StandsAsPut h k) r.3 (new_index_key h client symbol r.0.row.key r.2)
+            let r = mapped_of (λ (p : Page). IsNewIndex h client row.version symbol p.row.key) (λ (p : Page). p.row.key) f.link.pages key f.new_pages d in
+            subst (λ k. IsTableKey symbol k × StandsAsPut h k) r.3 (new_index_key h client row.version symbol r.0.row.key r.2)
         | inr d ↦
-            let r = mapped_of (λ (s : Slot). MayNameKey h client symbol s.key) (λ (s : Slot). s.key) f.link.index.slots key f.keys d in
+            let r = mapped_of (λ (s : Slot). MayNameKey h client row.version symbol s.key) (λ (s : Slot). s.key) f.link.index.slots key f.keys d in
             let stands : StandsAsPut h r.0.key = stands_from h r.0.key (ap is_put r.2.kind) r.2.stands in
             let table : IsTableKey symbol r.0.key = record { name = r.2.name; kind = inl r.2.kind } in
             (subst (IsTableKey symbol) r.3 table, subst (StandsAsPut h) r.3 stands)

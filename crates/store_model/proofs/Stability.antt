@@ -114,29 +114,29 @@ newest_is_needed st (l ∷ older) key e =
     ] refl e
 
 pub fits_source : (h : History) (client : ℕ) (symbol : Name) (row : LinkRow) (v : Version) (f : FitsLink h client symbol row v) (key : Key) → Contains (reached f.link) key
-    → IsFresh h client key ⊎ (newest_reaches (state_of h symbol) (links h symbol) key ≡ true)
+    → IsFresh h client row.version key ⊎ (newest_reaches (state_of h symbol) (links h symbol) key ≡ true)
 fits_source h client symbol row v f key c =
     let is : f.link.row ≡ row = linked_row h row f.link f.link_is in
     elim (reached_cases f.link key c) [
-      | inl e ↦ inl (subst (IsFresh h client) (ap (λ (r : LinkRow). r.index) (sym is) ∙ e) f.new_index.fresh)
+      | inl e ↦ inl (subst (IsFresh h client row.version) (ap (λ (r : LinkRow). r.index) (sym is) ∙ e) f.new_index.fresh)
       | inr rest ↦ elim rest [
         | inl d ↦
-            let r = mapped_of (λ (p : Page). IsNewIndex h client symbol p.row.key) (λ (p : Page). p.row.key) f.link.pages key f.new_pages d in
-            inl (subst (IsFresh h client) r.3 r.2.fresh)
+            let r = mapped_of (λ (p : Page). IsNewIndex h client row.version symbol p.row.key) (λ (p : Page). p.row.key) f.link.pages key f.new_pages d in
+            inl (subst (IsFresh h client row.version) r.3 r.2.fresh)
         | inr d ↦
-            let r = mapped_of (λ (s : Slot). MayNameKey h client symbol s.key) (λ (s : Slot). s.key) f.link.index.slots key f.keys d in
-            subst (λ k. IsFresh h client k ⊎ (newest_reaches (state_of h symbol) (links h symbol) k ≡ true)) r.3 r.2.fresh_or_shared
+            let r = mapped_of (λ (s : Slot). MayNameKey h client row.version symbol s.key) (λ (s : Slot). s.key) f.link.index.slots key f.keys d in
+            subst (λ k. IsFresh h client row.version k ⊎ (newest_reaches (state_of h symbol) (links h symbol) k ≡ true)) r.3 r.2.fresh_or_shared
       ]
     ]
 
--- where a new link reaches a key, the key is fresh to the client, or some needed link reaches it
+-- where a new link reaches a key, the key is new to the client, or some needed link reaches it
 new_source : (h : History) (client : ℕ) (was : Option Key) (entry : Key) (list : List Change) (key : Key) (may : MayRefer h client key.name was entry list) (i : IsIntact h) (l : Linked)
-    → Contains (links_at h entry) l → reaches l key ≡ true → IsFresh h client key ⊎ (is_reached_by_needed h key ≡ true)
+    → Contains (links_at h entry) l → reaches l key ≡ true → ((version : ℕ) × IsFresh h client version key) ⊎ (is_reached_by_needed h key ≡ true)
 new_source h client was entry list key may i l there e =
     let m = new_link h client key.name was entry list may i l there in
     let reach : Contains (reached m.one.fits.link) key = subst (λ k. Contains (reached k) key) (sym m.is) (it_is_reached l key e) in
     elim (fits_source h client key.name m.row m.one.made m.one.fits key reach) [
-      | inl fresh ↦ inl fresh
+      | inl fresh ↦ inl (m.row.version, fresh)
       | inr newest ↦
           let n = newest_is_needed (state_of h key.name) (links h key.name) key newest in
           inr (passes (λ l. is_needed (state_of h key.name) l && reaches l key) (links h key.name) n.0 n.1 (and_from _ _ n.2 n.3))
@@ -150,7 +150,7 @@ module _ (h : History) (client : ℕ) (was : Option Key) (entry : Key) (list : L
       let r = and_parts (is_needed (fold after_change (state_of h key.name) list) l) (reaches l key) both in
       elim (contains_append (links_at h entry) (links h key.name) l there) [
         | inl new ↦ elim (new_source h client was entry list key may i l new r.1) [
-          | inl fresh ↦ true≢false (sym once ∙ fresh.unreached)
+          | inl fresh ↦ true≢false (sym once ∙ fresh.1.unreached)
           | inr needed ↦ true≢false (sym needed ∙ no_more)
         ]
         | inr old ↦
@@ -163,7 +163,7 @@ module _ (h : History) (client : ℕ) (was : Option Key) (entry : Key) (list : L
   unreached_stays owner apart own e = none_pass _ _ (λ l there. is_false _ (λ reach.
       elim (contains_append (links_at h entry) (links h key.name) l there) [
         | inl new ↦ elim (new_source h client was entry list key may i l new reach) [
-          | inl fresh ↦ apart (sym fresh.own ∙ own)
+          | inl fresh ↦ apart (sym fresh.1.own ∙ own)
           | inr needed ↦
               let n = one_passes (λ l. is_needed (state_of h key.name) l && reaches l key) (links h key.name) needed in
               true≢false (sym (passes (λ l. reaches l key) (links h key.name) n.0 n.1 (and_parts (is_needed (state_of h key.name) n.0) (reaches n.0 key) n.2).1) ∙ e)

@@ -97,8 +97,8 @@ not_dead_here h x key alive k claim is =
     dead_of claim = subst (IsClaimed h) is claim
 
 -- an own key of a table that no link reached is not dead to others
-pub fresh_is_not_dead : (h : History) (other client : ℕ) (symbol : Name) (key : Key) → IsIntact h → (other ≡ client → ⊥) → IsTableKey symbol key → IsFresh h client key → IsDead h key other → ⊥
-fresh_is_not_dead h other client symbol key i apart table fresh dead = elim dead [
+pub fresh_is_not_dead : (h : History) (other client version : ℕ) (symbol : Name) (key : Key) → IsIntact h → (other ≡ client → ⊥) → IsTableKey symbol key → IsFresh h client version key → IsDead h key other → ⊥
+fresh_is_not_dead h other client version symbol key i apart table fresh dead = elim dead [
   | inl u ↦ true≢false (sym u.once ∙ fresh.unreached)
   | inr rest ↦ elim rest [
     | inl p ↦ table_is_not_staged symbol key table p.staged
@@ -132,8 +132,8 @@ module _ (h : History) (x : Event) (client : ℕ) (symbol : Name) (claim : IsCla
       let at : refers key.name x ≡ false = subst (λ s. refers s x ≡ false) (sym name) other in
       subst (λ ls. list_any (λ l. reaches l key) ls ≡ false) (sym (links_stay h key.name x at)) e
 
-  fresh_of : (key : Key) → key.name ≡ symbol → IsFresh h client key → IsFresh (x ∷ h) client key
-  fresh_of key name f = record { own = f.own; unreached = unreached_of key name f.unreached }
+  fresh_of : (version : ℕ) (key : Key) → key.name ≡ symbol → IsFresh h client version key → IsFresh (x ∷ h) client version key
+  fresh_of version key name f = record { own = f.own; made_for = f.made_for; unreached = unreached_of key name f.unreached }
 
   newest_of : (key : Key) → newest_reaches (state_of h symbol) (links h symbol) key ≡ true → newest_reaches (state_of (x ∷ h) symbol) (links (x ∷ h) symbol) key ≡ true
   newest_of key e =
@@ -149,23 +149,23 @@ module _ (h : History) (x : Event) (client : ℕ) (symbol : Name) (claim : IsCla
             | false ↦ λ f. unstaged more ls f
           ] e
 
-  new_index_of : (key : Key) → IsNewIndex h client symbol key → IsNewIndex (x ∷ h) client symbol key
-  new_index_of key n = record {
+  new_index_of : (version : ℕ) (key : Key) → IsNewIndex h client version symbol key → IsNewIndex (x ∷ h) client version symbol key
+  new_index_of version key n = record {
     kind = n.kind;
     name = n.name;
-    stands = stored_stays h x key (ap is_put n.kind) (not_dead_here h x key (λ dead. fresh_is_not_dead h (author x) client symbol key i apart (record { name = n.name; kind = inr n.kind }) n.fresh dead)) claim n.stands;
-    fresh = fresh_of key n.name n.fresh;
+    stands = stored_stays h x key (ap is_put n.kind) (not_dead_here h x key (λ dead. fresh_is_not_dead h (author x) client version symbol key i apart (record { name = n.name; kind = inr n.kind }) n.fresh dead)) claim n.stands;
+    fresh = fresh_of version key n.name n.fresh;
   }
 
-  key_of_link : (key : Key) → MayNameKey h client symbol key → MayNameKey (x ∷ h) client symbol key
-  key_of_link key m = record {
+  key_of_link : (version : ℕ) (key : Key) → MayNameKey h client version symbol key → MayNameKey (x ∷ h) client version symbol key
+  key_of_link version key m = record {
     kind = m.kind;
     name = m.name;
     stands = stored_stays h x key (ap is_put m.kind) (not_dead_here h x key (λ dead. elim m.fresh_or_shared [
-      | inl fresh ↦ fresh_is_not_dead h (author x) client symbol key i apart (record { name = m.name; kind = inl m.kind }) fresh dead
+      | inl fresh ↦ fresh_is_not_dead h (author x) client version symbol key i apart (record { name = m.name; kind = inl m.kind }) fresh dead
       | inr shared ↦ shared_is_not_dead h (author x) symbol key i shared dead
     ])) claim m.stands;
-    fresh_or_shared = elim m.fresh_or_shared [ inl fresh ↦ inl (fresh_of key m.name fresh) | inr shared ↦ inr (newest_of key shared) ];
+    fresh_or_shared = elim m.fresh_or_shared [ inl fresh ↦ inl (fresh_of version key m.name fresh) | inr shared ↦ inr (newest_of key shared) ];
   }
 
   link_of : (row : LinkRow) (v : Version) → v.number ≡ v.number → FitsLink h client symbol row v → FitsLink (x ∷ h) client symbol row v
@@ -174,14 +174,16 @@ module _ (h : History) (x : Event) (client : ℕ) (symbol : Name) (claim : IsCla
     stamp = f.stamp;
     rows = f.rows;
     storable = f.storable;
-    new_index = new_index_of row.index f.new_index;
+    new_index = new_index_of row.version row.index f.new_index;
+    index_stamps = f.index_stamps;
     link = f.link;
     link_is = linked_stays h (x ∷ h) (put_stays h x once) row f.link f.link_is;
-    new_pages = all_weaker (λ (p : Page). IsNewIndex h client symbol p.row.key) (λ (p : Page). IsNewIndex (x ∷ h) client symbol p.row.key) (λ p n. new_index_of p.row.key n) f.link.pages f.new_pages;
+    new_pages = all_weaker (λ (p : Page). IsNewIndex h client row.version symbol p.row.key) (λ (p : Page). IsNewIndex (x ∷ h) client row.version symbol p.row.key) (λ p n. new_index_of row.version p.row.key n) f.link.pages f.new_pages;
+    pages_before = f.pages_before;
     pages_fit = f.pages_fit;
     schema = f.schema;
     index_rows = f.index_rows;
-    keys = all_weaker (λ (s : Slot). MayNameKey h client symbol s.key) (λ (s : Slot). MayNameKey (x ∷ h) client symbol s.key) (λ s m. key_of_link s.key m) f.link.index.slots f.keys;
+    keys = all_weaker (λ (s : Slot). MayNameKey h client row.version symbol s.key) (λ (s : Slot). MayNameKey (x ∷ h) client row.version symbol s.key) (λ s m. key_of_link row.version s.key m) f.link.index.slots f.keys;
     tiled = f.tiled;
     stamps = f.stamps;
   }

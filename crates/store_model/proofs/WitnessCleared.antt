@@ -93,10 +93,12 @@ clear_fits = record {
   stamp = refl;
   rows = refl;
   storable = nothing_storable;
-  new_index = record { kind = refl; name = refl; stands = refl; fresh = record { own = refl; unreached = refl } };
+  new_index = record { kind = refl; name = refl; stands = refl; fresh = record { own = refl; made_for = refl; unreached = refl } };
+  index_stamps = (refl, refl);
   link = record { row = empty_row; pages = []; index = empty_index; tiles = [] };
   link_is = refl;
   new_pages = tt;
+  pages_before = tt;
   pages_fit = tt;
   schema = refl;
   index_rows = refl;
@@ -187,14 +189,16 @@ final_fits = record {
   stamp = refl;
   rows = refl;
   storable = w.table_storable;
-  new_index = record { kind = refl; name = refl; stands = refl; fresh = record { own = refl; unreached = refl } };
+  new_index = record { kind = refl; name = refl; stands = refl; fresh = record { own = refl; made_for = refl; unreached = refl } };
+  index_stamps = (refl, refl);
   link = record { row = final_row; pages = []; index = final_index; tiles = (w.part, w.table) ∷ [] };
   link_is = refl;
   new_pages = tt;
+  pages_before = tt;
   pages_fit = tt;
   schema = refl;
   index_rows = refl;
-  keys = (record { kind = refl; name = refl; stands = refl; fresh_or_shared = inl (record { own = refl; unreached = refl }) }, tt);
+  keys = (record { kind = refl; name = refl; stands = refl; fresh_or_shared = inl (record { own = refl; made_for = refl; unreached = refl }) }, tt);
   tiled = w.tiled;
   stamps = (record { first = refl; last = refl }, tt);
 }

@@ -92,14 +92,16 @@ link_fits = record {
   stamp = refl;
   rows = refl;
   storable = w.table_storable;
-  new_index = record { kind = refl; name = refl; stands = refl; fresh = record { own = refl; unreached = refl } };
+  new_index = record { kind = refl; name = refl; stands = refl; fresh = record { own = refl; made_for = refl; unreached = refl } };
+  index_stamps = (refl, refl);
   link = record { row = row; pages = []; index = index; tiles = (w.part, w.table) ∷ [] };
   link_is = refl;
   new_pages = tt;
+  pages_before = tt;
   pages_fit = tt;
   schema = refl;
   index_rows = refl;
-  keys = (record { kind = refl; name = refl; stands = refl; fresh_or_shared = inl (record { own = refl; unreached = refl }) }, tt);
+  keys = (record { kind = refl; name = refl; stands = refl; fresh_or_shared = inl (record { own = refl; made_for = refl; unreached = refl }) }, tt);
   tiled = w.tiled;
   stamps = (record { first = refl; last = refl }, tt);
 }

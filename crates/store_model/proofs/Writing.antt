@@ -1,5 +1,5 @@
 -- A Refer of a whole new frame may be tried: once its tiles, its index and its element are put, it may follow, or the reference has moved on.
-use Rattle.std.proofs.Common.{◌≡◌, ℕ, true, false, List, [], ◌∷◌, ◌++◌, refl, ap, sym, ◌∙◌, subst, inl, inr, Option, Some, None, cond}
+use Rattle.std.proofs.Common.{◌≡◌, ℕ, ◌<◌, true, false, List, [], ◌∷◌, ◌++◌, refl, ap, sym, ◌∙◌, subst, inl, inr, Option, Some, None, cond}
 use Rattle.std.proofs.lemmas.Bool.{eq-eqb}
 use Rattle.key_kind.specs.declared.key.KeyKind.TheVariants as kinds
 use Rattle.std.specs.Prelude.{ℤ, is_some, map, reverse, length, option_map, option_and_then}
@@ -43,35 +43,35 @@ abbrev parts_of : Frame → List Slot → List Tile
 parts_of frame slots = map (λ (s : Slot). (s.part, cut frame s.part)) slots
 
 module _ (h : History) (client : ℕ) (symbol : Name) (frame : Frame) where
-  tiles_are_put : (ws : List (Slot × Bytes)) → AllByRecursion (IsPutSlot h client symbol frame) ws → tiles_put h (slots_of ws) ≡ Some (parts_of frame (slots_of ws))
-  tiles_are_put [] all = refl
-  tiles_are_put (w ∷ ws) all =
+  tiles_are_put : (version : ℕ) (ws : List (Slot × Bytes)) → AllByRecursion (IsPutSlot h client version symbol frame) ws → tiles_put h (slots_of ws) ≡ Some (parts_of frame (slots_of ws))
+  tiles_are_put version [] all = refl
+  tiles_are_put version (w ∷ ws) all =
       let one : frame_put h w.0.key ≡ Some (cut frame w.0.part) = read_put (λ body. read_of (segment_of body)) (body_put h w.0.key) w.1 (cut frame w.0.part) all.0.own.put (ap read_of all.0.spelled) in
-      let rest : tiles_put h (slots_of ws) ≡ Some (parts_of frame (slots_of ws)) = tiles_are_put ws all.1 in
+      let rest : tiles_put h (slots_of ws) ≡ Some (parts_of frame (slots_of ws)) = tiles_are_put version ws all.1 in
       λ i. with_tile w.0.part (one i) (rest i)
 
-  slot_keys : (ws : List (Slot × Bytes)) → AllByRecursion (IsPutSlot h client symbol frame) ws → AllByRecursion (λ (s : Slot). MayNameKey h client symbol s.key) (slots_of ws)
-  slot_keys [] all = tt
-  slot_keys (w ∷ ws) all = (
+  slot_keys : (version : ℕ) (ws : List (Slot × Bytes)) → AllByRecursion (IsPutSlot h client version symbol frame) ws → AllByRecursion (λ (s : Slot). MayNameKey h client version symbol s.key) (slots_of ws)
+  slot_keys version [] all = tt
+  slot_keys version (w ∷ ws) all = (
     record {
       kind = all.0.kind;
       name = all.0.name;
       stands = ap is_some all.0.own.stands;
-      fresh_or_shared = inl (record { own = all.0.own.unlinked.own; unreached = all.0.own.unlinked.unreached });
+      fresh_or_shared = inl (record { own = all.0.own.unlinked.own; made_for = all.0.made_for; unreached = all.0.own.unlinked.unreached });
     },
-    slot_keys ws all.1,
+    slot_keys version ws all.1,
   )
 
-  slot_stamps : (ws : List (Slot × Bytes)) → AllByRecursion (IsPutSlot h client symbol frame) ws → AllByRecursion (HasSlotStamps frame) (slots_of ws)
-  slot_stamps [] all = tt
-  slot_stamps (w ∷ ws) all = (all.0.stamps, slot_stamps ws all.1)
+  slot_stamps : (version : ℕ) (ws : List (Slot × Bytes)) → AllByRecursion (IsPutSlot h client version symbol frame) ws → AllByRecursion (HasSlotStamps frame) (slots_of ws)
+  slot_stamps version [] all = tt
+  slot_stamps version (w ∷ ws) all = (all.0.stamps, slot_stamps version ws all.1)
 
-  pages_are_put : (ws : List (Page × Bytes)) → AllByRecursion (IsPutPage h client symbol) ws → pages_put h (map (λ (p : Page). p.row) (pages_of ws)) ≡ Some (pages_of ws)
-  pages_are_put [] all = refl
-  pages_are_put (w ∷ ws) all =
+  pages_are_put : (row : LinkRow) (ws : List (Page × Bytes)) → AllByRecursion (IsPutPage h client symbol row) ws → pages_put h (map (λ (p : Page). p.row) (pages_of ws)) ≡ Some (pages_of ws)
+  pages_are_put row [] all = refl
+  pages_are_put row (w ∷ ws) all =
       let found : object_put h w.0.row.key ≡ Some (objects.Page w.0.slots) = read_put (λ body. read_of (object_of body)) (body_put h w.0.row.key) w.1 (objects.Page w.0.slots) all.0.own.put (ap read_of all.0.spelled) in
       let one : option_and_then page_in (object_put h w.0.row.key) ≡ Some w.0.slots = ap (option_and_then page_in) found in
-      let rest : pages_put h (map (λ (p : Page). p.row) (pages_of ws)) ≡ Some (pages_of ws) = pages_are_put ws all.1 in
+      let rest : pages_put h (map (λ (p : Page). p.row) (pages_of ws)) ≡ Some (pages_of ws) = pages_are_put row ws all.1 in
       λ i. with_page w.0.row (one i) (rest i)
 
   -- a root with its pages is its index
@@ -91,18 +91,27 @@ module _ (h : History) (client : ℕ) (symbol : Name) (frame : Frame) where
   link_is_put : (row : LinkRow) (p : IsPutLink h client symbol frame row) → linked h row ≡ Some (record { row = row; pages = pages_of p.pages; index = p.index; tiles = parts_of frame (slots_of p.slots) })
   link_is_put row p =
       let found : index_put h row.index ≡ Some (record { pages = pages_of p.pages; index = p.index }) =
-      ap (λ o. option_and_then (whole_index h) (option_and_then (λ body. read_of (object_of body)) o)) p.own.put ∙ whole_is_put p.body p.index (pages_of p.pages) p.spelled (pages_are_put p.pages p.each_page) in
-      let tiles : tiles_put h p.index.slots ≡ Some (parts_of frame (slots_of p.slots)) = ap (tiles_put h) p.slots_are ∙ tiles_are_put p.slots p.each in
+      ap (λ o. option_and_then (whole_index h) (option_and_then (λ body. read_of (object_of body)) o)) p.own.put ∙ whole_is_put p.body p.index (pages_of p.pages) p.spelled (pages_are_put row p.pages p.each_page) in
+      let tiles : tiles_put h p.index.slots ≡ Some (parts_of frame (slots_of p.slots)) = ap (tiles_put h) p.slots_are ∙ tiles_are_put row.version p.slots p.each in
       ap (λ o. option_and_then (λ i. option_map (λ t. record { row = row; pages = i.pages; index = i.index; tiles = t }) (tiles_put h i.index.slots)) o) found
       ∙ ap (option_map (λ t. record { row = row; pages = pages_of p.pages; index = p.index; tiles = t })) tiles
 
   -- own keys of an index and of pages are new ones
-  new_index : (key : Key) (body : Bytes) → key.kind ≡ kinds.TableIndex → key.name ≡ symbol → IsOwnPut h client key body → IsNewIndex h client symbol key
-  new_index key body kind name own = record { kind = kind; name = name; stands = ap is_some own.stands; fresh = record { own = own.unlinked.own; unreached = own.unlinked.unreached } }
+  new_index : (version : ℕ) (key : Key) (body : Bytes) → key.kind ≡ kinds.TableIndex → key.name ≡ symbol → key.version ≡ version → IsOwnPut h client key body → IsNewIndex h client version symbol key
+  new_index version key body kind name made_for own = record {
+    kind = kind;
+    name = name;
+    stands = ap is_some own.stands;
+    fresh = record { own = own.unlinked.own; made_for = made_for; unreached = own.unlinked.unreached };
+  }
 
-  new_pages : (ws : List (Page × Bytes)) → AllByRecursion (IsPutPage h client symbol) ws → AllByRecursion (λ (p : Page). IsNewIndex h client symbol p.row.key) (pages_of ws)
-  new_pages [] all = tt
-  new_pages (w ∷ ws) all = (new_index w.0.row.key w.1 all.0.kind all.0.name all.0.own, new_pages ws all.1)
+  new_pages : (row : LinkRow) (ws : List (Page × Bytes)) → AllByRecursion (IsPutPage h client symbol row) ws → AllByRecursion (λ (p : Page). IsNewIndex h client row.version symbol p.row.key) (pages_of ws)
+  new_pages row [] all = tt
+  new_pages row (w ∷ ws) all = (new_index row.version w.0.row.key w.1 all.0.kind all.0.name all.0.made_for all.0.own, new_pages row ws all.1)
+
+  pages_before : (row : LinkRow) (ws : List (Page × Bytes)) → AllByRecursion (IsPutPage h client symbol row) ws → AllByRecursion (λ (p : Page). p.row.key.serial < row.index.serial) (pages_of ws)
+  pages_before row [] all = tt
+  pages_before row (w ∷ ws) all = (all.0.before, pages_before row ws all.1)
 
   -- it fits the version
   pub put_link_fits : (row : LinkRow) (v : Version) → v.frame ≡ frame → row.version ≡ v.number → row.stamp ≡ v.stamp → row.rows ≡ length frame.rows → IsStorable frame
@@ -112,16 +121,18 @@ module _ (h : History) (client : ℕ) (symbol : Name) (frame : Frame) where
     stamp = stamp;
     rows = rows;
     storable = storable;
-    new_index = new_index row.index p.body p.kind p.name p.own;
+    new_index = new_index row.version row.index p.body p.kind p.name p.made_for p.own;
+    index_stamps = p.index_stamps;
     link = record { row = row; pages = pages_of p.pages; index = p.index; tiles = parts_of frame (slots_of p.slots) };
     link_is = link_is_put row p;
-    new_pages = new_pages p.pages p.each_page;
+    new_pages = new_pages row p.pages p.each_page;
+    pages_before = pages_before row p.pages p.each_page;
     pages_fit = p.pages_fit;
     schema = p.schema;
     index_rows = p.index_rows;
-    keys = subst (AllByRecursion (λ (s : Slot). MayNameKey h client symbol s.key)) (sym p.slots_are) (slot_keys p.slots p.each);
+    keys = subst (AllByRecursion (λ (s : Slot). MayNameKey h client row.version symbol s.key)) (sym p.slots_are) (slot_keys row.version p.slots p.each);
     tiled = p.tiled;
-    stamps = subst (AllByRecursion (HasSlotStamps frame)) (sym p.slots_are) (slot_stamps p.slots p.each);
+    stamps = subst (AllByRecursion (HasSlotStamps frame)) (sym p.slots_are) (slot_stamps row.version p.slots p.each);
   })
 
 -- what is buried beside a new version

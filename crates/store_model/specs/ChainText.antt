@@ -103,15 +103,15 @@ pieces_at before (suc n) bytes = do
       (pieces_at (Some (record { client = client.0; serial = serial.0 })) n serial.1)
   Ok (record { client = client.0; serial = serial.0 } ∷ more.0, more.1)
 
--- Gate B, closed: no bytes spell a Compact, so none can be put, and an element is read in one of the five forms alone. It opens as
--- `is_compact tag = nat_eq tag 6`, once version_chain reads and spells a Compact. With it goes: that the readers and writers of version_chain, which
--- know no Compact, are exact (`IsMark` and `IsForm` of its Entries). Seen to prove with this gate and gate C open: that an element on
--- another one has no Compact (`no_compact_on_another_element`, with its fault at the tag)
+-- Gate B, closed: no bytes spell a Compact, so none can be put, and each mark of an element has one of the tags 1 to 5. It opens before gates C
+-- and D, as `is_compact tag = nat_eq tag 6`, once version_chain reads and spells a Compact. With it goes: that the readers and writers of
+-- version_chain, which know no Compact, are exact (`IsMark` and `IsForm` of its Entries). Seen to prove with this gate and gate C open: that an
+-- element on another one has no Compact (`no_compact_on_another_element`, with its fault at the tag)
 abbrev pub is_compact : ℕ → Bool
 is_compact tag = false
 
--- what may come next in an element: anything, and in one that stands on no other also a Compact; Tombs or a Discard behind a Link; Tombs
--- alone; nothing
+-- what may come next in an element: first, any mark, in an element that stands on no other, a Compact too; start, any mark but a Compact; linked,
+-- Tombs or a Discard, behind a Link; buried, more Tombs; ended, nothing
 pub data Form : Type 0 where
   first start linked buried ended : Form
 

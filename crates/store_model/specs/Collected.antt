@@ -1,9 +1,9 @@
 -- What a collector leaves behind.
---     IsClean             each stored table key that a client put was reached by a link or is an entry
---     HasNoneDead         no stored key is one that nobody needs any more
+--     IsClean             each stored tile, index and element that a client put was reached by a link or is an entry
+--     HasNoneDead         no stored key is one that was needed and is so no more
 --     IsWanted            a key that somebody needs
 --     HasNothingLeft      the stored keys are exactly those
---     CollectsAll         in each lawful history where each client is clean and all is swept, nothing is left over
+--     CollectsAll         in each lawful history where each client is clean and none is dead, nothing is left over
 use Rattle.std.specs.Prelude.{◌≡◌, ◌⊎◌, ℕ, true, false, Contains, is_some}
 use Rattle.key_kind.specs.declared.key.Key.{Key}
 use Rattle.key_kind.specs.Names.{Name}
@@ -24,7 +24,8 @@ pub record IsBehindCompact (h : History) (key : Key) : Type 0 where
   pub once : is_entry h key.name key ≡ true
   pub no_more : is_chained h key.name key ≡ false
 
--- no stored key is one that nobody needs any more
+-- no stored key is one that was needed and is so no more. Sweeps alone do not give it (IsSwept): the law lets a dead index go before its tiles, and
+-- a dead tile is in no sweep's reach once its index is gone
 abbrev pub HasNoneDead : History → Type 0
 HasNoneDead h = (key : Key) → is_some (stored h key) ≡ true → (IsUnneeded h key ⊎ IsConsumedPiece h key ⊎ IsBehindCompact h key) → ⊥
 
@@ -41,6 +42,6 @@ pub record HasNothingLeft (h : History) : Type 0 where
   pub needed : (key : Key) → is_some (stored h key) ≡ true → IsWanted h key
   pub stored : (key : Key) → IsWanted h key → is_some (stored h key) ≡ true
 
--- where each client is clean and all is swept, nothing is left over
+-- where each client is clean and no stored key is dead, nothing is left over
 abbrev pub CollectsAll : Type 0
 CollectsAll = (h : History) → IsLawful h → ((client : ℕ) → IsClean h client) → HasNoneDead h → HasNothingLeft h

@@ -1,11 +1,13 @@
 -- When a Refer may follow a history: what its changes are, and what is claimed of them.
 --     marks_of            the marks of a list of changes
+--     IsFresh, IsNewIndex, MayNameKey      the keys that a new link may have
+--     HasFrameStamps, HasSlotStamps      a key, and a slot, with the stamps of their rows
 --     FitsLink, FitsRemoved, FitsHeld, FitsReleased, FitsDiscarded      when each change fits
 --     IsCommit            the forms of the changes of one commit
 --     MayChange           an element that spells the changes of one commit
 --     MayRestate          an element that tells the whole state anew
 --     MayRefer            all that is claimed of a Refer
-use Rattle.std.specs.Prelude.{◌≡◌, ◌⊎◌, ℕ, ◌+◌, ◌<◌, Bool, true, false, List, [], ◌∷◌, map, flat_map, reverse, length, count_by, slice_range, Option, Some, None, if◌then◌else◌, ⊤, IfSome, is_some}
+use Rattle.std.specs.Prelude.{◌≡◌, ◌⊎◌, ℕ, pos, ◌+◌, ◌<◌, Bool, true, false, List, [], ◌∷◌, map, flat_map, reverse, length, count_by, slice_range, Option, Some, None, if◌then◌else◌, ⊤, IfSome, is_some, unwrap_or}
 use Rattle.std.specs.List.{list_any, AllByRecursion}
 use Rattle.frame_core.specs.Ranges.{IsRange}
 use Rattle.frame_core.specs.Frames.{Frame, first_stamp, last_stamp}
@@ -47,29 +49,34 @@ change_marks row changes.Restated = []
 abbrev pub marks_of : LinkRow → List Change → List ChainMark
 marks_of row list = flat_map (change_marks row) list
 
--- a key that the client put and that no link reached
-pub record IsFresh (h : History) (client : ℕ) (key : Key) : Type 0 where
+-- a key that the client made for this version and that no link reached
+pub record IsFresh (h : History) (client version : ℕ) (key : Key) : Type 0 where
   pub own : key.client ≡ client
+  pub made_for : key.version ≡ version
   pub unreached : is_reached h key ≡ false
 
--- a new index key or page key of a link: a stored key of the symbol, put by the client and reached by no earlier link
-pub record IsNewIndex (h : History) (client : ℕ) (symbol : Name) (key : Key) : Type 0 where
+-- a new index key or page key of a link: a stored key of the symbol, made by the client for the link's version and reached by no earlier link
+pub record IsNewIndex (h : History) (client version : ℕ) (symbol : Name) (key : Key) : Type 0 where
   pub kind : key.kind ≡ kinds.TableIndex
   pub name : key.name ≡ symbol
   pub stands : is_some (stored h key) ≡ true
-  pub fresh : IsFresh h client key
+  pub fresh : IsFresh h client version key
+
+-- the key has the first and the last stamp of the frame's rows; of no rows both are 0
+abbrev pub HasFrameStamps : Frame → Key → Type 0
+HasFrameStamps frame key = (key.first ≡ unwrap_or (first_stamp frame.rows) (pos 0)) × (key.last ≡ unwrap_or (last_stamp frame.rows) (pos 0))
 
 -- the newest live link reaches the key
 abbrev pub newest_reaches : State → List Linked → Key → Bool
 newest_reaches st [] key = false
 newest_reaches st (l ∷ older) key = if is_live st l.row.version then reaches l key else newest_reaches st older key
 
--- a data key of a link
-pub record MayNameKey (h : History) (client : ℕ) (symbol : Name) (key : Key) : Type 0 where
+-- a data key of a link of this version: a stored key of the symbol, new as those of indexes are, or reached by the newest live link
+pub record MayNameKey (h : History) (client version : ℕ) (symbol : Name) (key : Key) : Type 0 where
   pub kind : key.kind ≡ kinds.TableData
   pub name : key.name ≡ symbol
   pub stands : is_some (stored h key) ≡ true
-  pub fresh_or_shared : IsFresh h client key ⊎ (newest_reaches (state_of h symbol) (links h symbol) key ≡ true)
+  pub fresh_or_shared : IsFresh h client version key ⊎ (newest_reaches (state_of h symbol) (links h symbol) key ≡ true)
 
 -- the slot has the first and the last stamp of its rows in the frame
 pub record HasSlotStamps (frame : Frame) (slot : Slot) : Type 0 where
@@ -82,14 +89,19 @@ pub record FitsLink (h : History) (client : ℕ) (symbol : Name) (row : LinkRow)
   pub stamp : row.stamp ≡ v.stamp
   pub rows : row.rows ≡ length v.frame.rows
   pub storable : IsStorable v.frame
-  pub new_index : IsNewIndex h client symbol row.index
+  -- the key of its index is new, and tells the version and the frame's stamps
+  pub new_index : IsNewIndex h client row.version symbol row.index
+  pub index_stamps : HasFrameStamps v.frame row.index
+  -- what was put under it, with its pages, whose keys are new and stand before that of the index
   pub link : Linked
   pub link_is : linked h row ≡ Some link
-  pub new_pages : AllByRecursion (λ (p : Page). IsNewIndex h client symbol p.row.key) link.pages
+  pub new_pages : AllByRecursion (λ (p : Page). IsNewIndex h client row.version symbol p.row.key) link.pages
+  pub pages_before : AllByRecursion (λ (p : Page). p.row.key.serial < row.index.serial) link.pages
   pub pages_fit : FitsPages link.index link.pages
+  -- the index is one of the frame, with keys that the link may have, and its tiles are the frame
   pub schema : link.index.schema ≡ v.frame.schema
   pub index_rows : link.index.rows ≡ length v.frame.rows
-  pub keys : AllByRecursion (λ (s : Slot). MayNameKey h client symbol s.key) link.index.slots
+  pub keys : AllByRecursion (λ (s : Slot). MayNameKey h client row.version symbol s.key) link.index.slots
   pub tiled : Tiled v.frame link.tiles
   pub stamps : AllByRecursion (HasSlotStamps v.frame) link.index.slots
 
@@ -201,11 +213,13 @@ pub record TellsState (h : History) (symbol : Name) (told : WholeState) : Type 0
   pub pieces : AsOften told.pieces (state_of h symbol).consumed
 
 -- the element stands on no other and tells the whole state, and the event restates it and does no more.
--- Gate C, closed by its field `not_yet`: no Refer tells a state anew. It opens by taking the field away, once walks end at a Compact. With
--- it go: that no Refer restates (`lawful_is_plain`), that the chain has all entries (`plain_chain`), each of which stands
--- (`entries_stand`), that a Refer makes the changes of a commit (`is_commit`), and that a walk finds the state in its order (PlainWalks, with
--- PlainWalking and PlainFollowing). Seen to prove with gates B and C open: a lawful history with a Compact (`compacted_lawful`), and that
--- a Compact may neither forget a hold (`no_compact_that_forgets_a_hold`) nor tell a live version as buried (`no_compact_that_buries`)
+-- Gate C, closed by its field `not_yet`: no Refer tells a state anew. It opens by taking the field away, once walks end at a Compact. Another
+-- field comes in its place: that the symbol has a reference, since only then does restating change nothing (`restating_changes_nothing`). With
+-- the gate go: that no Refer restates (`lawful_is_plain`), that the chain has all entries (`plain_chain`), each of which stands
+-- (`entries_stand`), that a Refer makes the changes of a commit (`is_commit`), and that a walk finds the state in its order, along all entries
+-- (the clause `plainly` of the theorem on walks but for its field `no_pages`; PlainWalking and PlainFollowing). Seen to prove with gates B and
+-- C open: a lawful history with a Compact (`compacted_lawful`), and that a Compact may neither forget a hold (`no_compact_that_forgets_a_hold`)
+-- nor tell a live version as buried (`no_compact_that_buries`)
 pub record MayRestate (h : History) (symbol : Name) (entry : Key) (list : List Change) : Type 0 where
   pub not_yet : ⊥
   pub alone : list ≡ changes.Restated ∷ []

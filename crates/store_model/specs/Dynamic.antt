@@ -1,5 +1,5 @@
 -- Frames whose cells may be missing: what a frame, an append or update that brings other columns, and tiles of short row blocks are to be, once
--- `Cell` can be missing. The law is the same over them.
+-- `Cell` can be missing. No clause rests on them yet: the law is over frames without missing cells, and is to keep its words over these.
 --     Seen, WideRow, WideFrame      a cell or none; rows and frames of such
 --     union, schemas_clash          the columns of two schemas; where one name has two types
 --     widen, united                 a row under more columns; the rows of both frames under the columns of both

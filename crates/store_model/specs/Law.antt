@@ -2,9 +2,9 @@
 --     MayPut, MayName, IsDead      what is claimed of a Put, a Name and a Drop
 --     IsClaimed           what is claimed of each event
 --     IsLawful            each event may follow the events before it
-use Rattle.std.specs.Prelude.{◌≡◌, ◌⊎◌, ℕ, pos, false, Result, Ok, Err, ⊤, IsOk, unwrap_or}
+use Rattle.std.specs.Prelude.{◌≡◌, ◌⊎◌, ℕ, false, Result, Ok, Err, ⊤, IsOk}
 use Rattle.std.specs.List.{AllByRecursion}
-use Rattle.frame_core.specs.Frames.{Frame, first_stamp, last_stamp}
+use Rattle.frame_core.specs.Frames.{Frame}
 use Rattle.segment_bytes.specs.Segments.{segment_of}
 use Rattle.index_tree.specs.IndexText.{index_of}
 use Rattle.key_kind.specs.declared.key.KeyKind.{KeyKind}
@@ -19,20 +19,23 @@ use Rattle.store_model.specs.declared.snapshot.SnapBody.{SnapBody}
 use Rattle.store_model.specs.ChainText.{entry_of, snap_of}
 use Rattle.store_model.specs.Links.{IsUnneeded, IsConsumedPiece, IsOwnUnlinked, IsRetold}
 use Rattle.store_model.specs.Holders.{has_name, IsHeldRow}
-use Rattle.store_model.specs.Commits.{MayRefer}
+use Rattle.store_model.specs.Commits.{MayRefer, HasFrameStamps}
 
 -- ---- Put
 
 -- a staged body has its key's stamps
 abbrev pub HasStamps : Key → Result Frame ℕ → Type 0
-HasStamps key (Ok frame) = (key.first ≡ unwrap_or (first_stamp frame.rows) (pos 0)) × (key.last ≡ unwrap_or (last_stamp frame.rows) (pos 0))
+HasStamps key (Ok frame) = HasFrameStamps frame key
 HasStamps key (Err fault) = ⊥
 
 -- the body is in the grammar of its key's kind; no other kinds are put.
 -- Gate P, closed by `index_of` in the clause of TableIndex: no page and no root of pages is put. It opens with `object_of` in its place, once the
--- readers of indexes read roots and pages. With it go: that no link has pages (`plain_links`, `lawful_links`), and that the index of a link is
--- what was put whole under its key (`linked_flat`, with `flat_put` of PlainLinks). Seen to prove with it open: a lawful history with an index in
--- two pages (`paged_lawful`), and that nobody drops a page of its live version (`no_drop_of_a_needed_page`)
+-- readers of indexes read roots and pages. What has to know pages then: a try puts them before their root, whose serial is above theirs
+-- (`pages_before` of FitsLink), and drops them again where it is met; a whole index has at most 64 slots (a rule of `index_of` that it still
+-- lacks); a reclaim drops them, counts them and leaves none (`IsSwept`, where the outcome Freed is told today without pages), and may find one
+-- gone as it may an index. With the gate go: that no link has pages (`plain_links`, `lawful_links`, `no_pages` of WalksPlainly), and that the
+-- index of a link is what was put whole under its key (`linked_flat`, with `flat_put` of PlainLinks). Seen to prove with it open: a lawful history
+-- with an index in two pages (`paged_lawful`), and that nobody drops a page of its live version (`no_drop_of_a_needed_page`)
 abbrev pub SpellsKind : Key → KeyKind → Bytes → Type 0
 SpellsKind key kinds.TableData body = IsOk (segment_of body)
 SpellsKind key kinds.TableIndex body = IsOk (index_of body)

@@ -181,7 +181,7 @@ reaches l key = list_any (λ k. same_key k key) (reached l)
 abbrev pub is_needed : State → Linked → Bool
 is_needed st l = is_kept st l.row.version
 
--- some link of the key's symbol reached it, and a live or held one does
+-- some link of the key's symbol reached it
 abbrev pub is_reached : History → Key → Bool
 is_reached h key = list_any (λ l. reaches l key) (links h key.name)
 
@@ -191,7 +191,7 @@ is_reached_by_needed h key = list_any (λ l. is_needed (state_of h key.name) l &
 
 -- ---- dead keys
 
--- a tile or an index that some link reached, and that no live or held link reaches
+-- a tile, an index or a page that some link reached, and that no live or held link reaches
 pub record IsUnneeded (h : History) (key : Key) : Type 0 where
   pub once : is_reached h key ≡ true
   pub no_more : is_reached_by_needed h key ≡ false
@@ -209,9 +209,12 @@ pub record IsOwnUnlinked (h : History) (key : Key) (client : ℕ) : Type 0 where
   pub no_entry : is_entry h key.name key ≡ false
 
 -- an element of the symbol's chain before its last Compact, which tells anew what it told.
--- Gate D, closed by its field `not_yet`: no element may be dropped because it was told anew. It opens by taking the field away, once walks begin
--- again where an element is gone. With it goes: that no element is retold (`none_retold`). Seen to prove with gates B, C and D open: that two clients drop the older elements of a chain that was told
--- anew (`gone_on_lawful`), that nobody drops the Compact (`no_drop_of_a_compact`) nor an element above it (`no_drop_above_a_compact`)
+-- Gate D, closed by its field `not_yet`: no element may be dropped because it was told anew. It opens by taking the field away, behind gates B
+-- and C, once walks begin again: an element that a walk is to read may then be gone, since another client told the chain anew, so the walk looks at
+-- the reference again and starts from there, as often as it may. With the gate goes: that no element is retold (`none_retold`), and so that a
+-- walk finds each element that its reference leads to. Seen to prove with gates B, C and D open: that two clients drop the older elements of a
+-- chain that was told anew (`gone_on_lawful`), that nobody drops the Compact (`no_drop_of_a_compact`) nor an element above it
+-- (`no_drop_above_a_compact`)
 pub record IsRetold (h : History) (key : Key) : Type 0 where
   pub not_yet : ⊥
   pub once : is_entry h key.name key ≡ true

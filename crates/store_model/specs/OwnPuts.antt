@@ -1,9 +1,10 @@
 -- What a client has put and nothing links yet.
 --     IsOwnPut, AreOwnPuts      a key of the client's own that stands with this body, and that no link reached and no Refer named; several
 --     IsTableKind         the kinds of such keys
---     IsPutSlot, IsPutPage, IsPutLink, IsPutEntry      a slot's tile, a page, a link with its index, pages and tiles, and an element that a client has put
+--     IsPutSlot, IsPutPage, IsPutLink, IsPutEntry      a slot's tile, a page, a link with its index, pages and tiles, and an element that a client
+--                         has put, under keys that tell the link's version and, of an index, the frame's stamps
 --     BuriesLive          the changes that bury beside a new version all that was live, or nothing
-use Rattle.std.specs.Prelude.{◌≡◌, ℕ, true, ◌||◌, List, [], ◌∷◌, map, reverse, length, Some, Ok}
+use Rattle.std.specs.Prelude.{◌≡◌, ℕ, ◌<◌, true, ◌||◌, List, [], ◌∷◌, map, reverse, length, Some, Ok}
 use Rattle.std.specs.List.{AllByRecursion}
 use Rattle.frame_core.specs.Frames.{Frame}
 use Rattle.segment_bytes.specs.Segments.{segment_of}
@@ -27,7 +28,7 @@ use Rattle.store_model.specs.declared.chain.Entry.{Entry}
 use Rattle.store_model.specs.ChainText.{entry_of}
 use Rattle.store_model.specs.Library.{State, Version, live_versions}
 use Rattle.store_model.specs.Links.{page_slots_of, IsOwnUnlinked}
-use Rattle.store_model.specs.Commits.{HasSlotStamps, IsFilled}
+use Rattle.store_model.specs.Commits.{HasFrameStamps, HasSlotStamps, IsFilled}
 
 -- an own key that stands with the body that was put, that no link reached and that is no entry
 pub record IsOwnPut (h : History) (client : ℕ) (key : Key) (body : Bytes) : Type 0 where
@@ -45,10 +46,11 @@ AreOwnPuts h client puts = AllByRecursion (λ (p : Key × Bytes). IsOwnPut h cli
 
 -- ---- a link and its element
 
--- a slot of the frame whose tile the client has put with this body
-pub record IsPutSlot (h : History) (client : ℕ) (symbol : Name) (frame : Frame) (w : Slot × Bytes) : Type 0 where
+-- a slot of the frame whose tile the client has put for this version, with this body
+pub record IsPutSlot (h : History) (client version : ℕ) (symbol : Name) (frame : Frame) (w : Slot × Bytes) : Type 0 where
   pub kind : w.0.key.kind ≡ kinds.TableData
   pub name : w.0.key.name ≡ symbol
+  pub made_for : w.0.key.version ≡ version
   pub own : IsOwnPut h client w.0.key w.1
   pub spelled : segment_of w.1 ≡ Ok (cut frame w.0.part)
   pub stamps : HasSlotStamps frame w.0
@@ -57,10 +59,12 @@ pub record IsPutSlot (h : History) (client : ℕ) (symbol : Name) (frame : Frame
 abbrev pub slots_of : List (Slot × Bytes) → List Slot
 slots_of ws = map (λ (w : Slot × Bytes). w.0) ws
 
--- a page that the client has put with this body
-pub record IsPutPage (h : History) (client : ℕ) (symbol : Name) (w : Page × Bytes) : Type 0 where
+-- a page that the client has put for the row's version, before its index, with this body
+pub record IsPutPage (h : History) (client : ℕ) (symbol : Name) (row : LinkRow) (w : Page × Bytes) : Type 0 where
   pub kind : w.0.row.key.kind ≡ kinds.TableIndex
   pub name : w.0.row.key.name ≡ symbol
+  pub made_for : w.0.row.key.version ≡ row.version
+  pub before : w.0.row.key.serial < row.index.serial
   pub own : IsOwnPut h client w.0.row.key w.1
   pub spelled : object_of w.1 ≡ Ok (objects.Page w.0.slots)
 
@@ -81,18 +85,20 @@ pub data SpellsIndex (body : Bytes) (i : Index) : List Page → Type 0 where
 pub record IsPutLink (h : History) (client : ℕ) (symbol : Name) (frame : Frame) (row : LinkRow) : Type 0 where
   pub kind : row.index.kind ≡ kinds.TableIndex
   pub name : row.index.name ≡ symbol
+  pub made_for : row.index.version ≡ row.version
+  pub index_stamps : HasFrameStamps frame row.index
   pub body : Bytes
   pub own : IsOwnPut h client row.index body
   pub index : Index
   pub pages : List (Page × Bytes)
   pub spelled : SpellsIndex body index (pages_of pages)
-  pub each_page : AllByRecursion (IsPutPage h client symbol) pages
+  pub each_page : AllByRecursion (IsPutPage h client symbol row) pages
   pub pages_fit : FitsPages index (pages_of pages)
   pub schema : index.schema ≡ frame.schema
   pub index_rows : index.rows ≡ length frame.rows
   pub slots : List (Slot × Bytes)
   pub slots_are : index.slots ≡ slots_of slots
-  pub each : AllByRecursion (IsPutSlot h client symbol frame) slots
+  pub each : AllByRecursion (IsPutSlot h client row.version symbol frame) slots
   pub tiled : Tiled frame (map (λ (s : Slot). (s.part, cut frame s.part)) (slots_of slots))
 
 -- an element of the symbol that the client has put

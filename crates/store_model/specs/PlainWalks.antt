@@ -1,24 +1,25 @@
--- What a walk along all elements of a symbol gives while gate C is closed, in the order in which it was told. It goes with that gate; Walks has
--- what holds then.
+-- What a walk along all elements of a symbol gives while gate C is closed, in the order in which it was told. It goes with that gate, but for
+-- `no_pages`, which goes with gate P; Walks has what holds then.
 --     chain               the elements of all the symbol's Refers as they were put, the newest first
 --     tombs_in, rows_in, pieces_in, holds_in      what a walk along the elements finds
 --     WalkIsState         it is the symbol's state, in its order
---     PlainWalks          in each lawful history it is, and the elements are still what was put under their entries
-use Rattle.std.specs.Prelude.{◌≡◌, not, Option, Some, None, List, [], ◌∷◌, ◌++◌, map, flat_map, filter, filter_map, fold, if◌then◌else◌, ℕ}
+--     WalksPlainly        it is, along elements that are still what was put; the chain has all entries, and no link has pages
+--     PlainWalks          so it is in each lawful history
+use Rattle.std.specs.Prelude.{◌≡◌, not, Option, Some, None, List, [], ◌∷◌, ◌++◌, map, flat_map, filter, filter_map, fold, if◌then◌else◌, ℕ, Contains}
 use Rattle.std.specs.List.{AllZip, cons_option}
 use Rattle.key_kind.specs.declared.key.Key.{Key}
 use Rattle.key_kind.specs.Names.{Name, same_name}
 use Rattle.key_kind.specs.Keys.{same_holder}
 use Rattle.bucket_core.specs.declared.event.PieceName.{PieceName}
 use Rattle.bucket_core.specs.declared.event.Event.TheVariants as events
-use Rattle.bucket_core.specs.History.{History}
+use Rattle.bucket_core.specs.History.{History, StandsAsPut}
 use Rattle.store_model.specs.declared.chain.LinkRow.{LinkRow}
 use Rattle.store_model.specs.declared.chain.ChainMark.{ChainMark}
 use Rattle.store_model.specs.declared.chain.ChainMark.TheVariants as marks
 use Rattle.store_model.specs.declared.chain.Entry.{Entry}
 use Rattle.store_model.specs.ChainText.{tomb_of}
 use Rattle.store_model.specs.Library.{Hold, state_of}
-use Rattle.store_model.specs.Links.{Linked, links, entries, element}
+use Rattle.store_model.specs.Links.{Linked, links, entries, chain_entries, element}
 use Rattle.store_model.specs.Law.{IsLawful}
 
 -- ---- along the elements, the newest first
@@ -76,6 +77,17 @@ pub record WalkIsState (h : History) (symbol : Name) : Type 0 where
   pub holds : holds_in (chain h symbol) ≡ (state_of h symbol).holds
   pub pieces : pieces_in (chain h symbol) ≡ (state_of h symbol).consumed
 
--- in each lawful history a walk finds the elements and the state
+-- what holds of the symbol while gates C and P are closed
+pub record WalksPlainly (h : History) (symbol : Name) : Type 0 where
+  -- each entry has its element, and these tell the state
+  pub elements : HasElements h symbol
+  pub state : WalkIsState h symbol
+  -- the chain has all entries, and each stands as it was put
+  pub whole : chain_entries h symbol ≡ entries h symbol
+  pub stand : (key : Key) → Contains (entries h symbol) key → StandsAsPut h key
+  -- no link has pages
+  pub no_pages : (l : Linked) → Contains (links h symbol) l → l.pages ≡ []
+
+-- it does in each lawful history
 abbrev pub PlainWalks : Type 0
-PlainWalks = (h : History) → IsLawful h → (symbol : Name) → HasElements h symbol × WalkIsState h symbol
+PlainWalks = (h : History) → IsLawful h → (symbol : Name) → WalksPlainly h symbol

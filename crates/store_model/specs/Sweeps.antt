@@ -1,10 +1,10 @@
--- What the sweeping commands leave: a reclaim, a compaction and a tidy, each between the place p of its look and its end e. A key that the
--- command found gone by another's hand is told by `apart`.
---     IsDeadIndex, IsDeadPage      the index of a link, and a page of it, that a reclaim drops
+-- What the sweeping commands leave: a reclaim, a compaction and a tidy, each between the place p of its look and its end e. `apart` tells of which
+-- keys a Drop before e was not the command's own.
+--     IsDeadIndex, IsDeadPage      the index of a link, and a page of it, that is dead and stored
 --     IsSwept             what a reclaim leaves of a symbol: dead indexes, their pages and tiles, and consumed pieces are gone
 --     last_restates       the symbol's last Refer told its state anew
---     IsCompacted         what a compaction leaves: no element that stood before it
---     IsTidied            what a tidy leaves: a clean client, and each symbol swept
+--     IsCompacted         what a compaction leaves: no element that the chain had before it
+--     IsTidied            what a tidy leaves: a clean client, its holds released, and each symbol swept
 use Rattle.std.specs.Prelude.{◌≡◌, ◌⊎◌, ℕ, Bool, true, false, List, [], ◌∷◌, map, Contains, None, is_some, if◌then◌else◌}
 use Rattle.std.specs.List.{list_any, AllByRecursion}
 use Rattle.index_tree.specs.declared.index.Slot.{Slot}
@@ -46,7 +46,8 @@ pub record HasPageApart (apart : Key → Type 0) (l : Linked) (key : Key) : Type
   pub gone : apart page.row.key
 
 -- of what was dead at p nothing is stored at e: indexes; their pages, but where the root went by another's hand; the tiles that an index names,
--- itself or by its pages, but where the index or that page went so; and consumed pieces
+-- itself or by its pages, but where the index or that page went so; and consumed pieces. A tile is found by its index alone: a dead one whose
+-- index had gone before p may stay for good, so a swept symbol can have dead keys yet (HasNoneDead of Collected says more)
 pub record IsSwept (apart : Key → Type 0) (at_p at_e : History) (symbol : Name) : Type 0 where
   pub no_index : (l : Linked) → IsDeadIndex at_p symbol l → stored at_e l.row.index ≡ None
   pub no_page : (l : Linked) (p : Page) → IsDeadPage at_p symbol l p → (stored at_e p.row.key ≡ None) ⊎ apart l.row.index
@@ -62,7 +63,8 @@ last_restates [] symbol = false
 last_restates (events.Refer c s was entry list ∷ h) symbol = if same_name s symbol then restates list else last_restates h symbol
 last_restates (_ ∷ h) symbol = last_restates h symbol
 
--- no element is stored at e that the chain had before the Compact
+-- no element is stored at e that the chain had before the Compact. Of an element behind an older Compact it says nothing: to drop that one was
+-- for the compaction which made it
 abbrev pub IsCompacted : History → History → Name → Type 0
 IsCompacted before at_e symbol = (key : Key) → Contains (chain_entries before symbol) key → stored at_e key ≡ None
 

@@ -3,7 +3,7 @@ ghost use Rattle.bucket_core.specs.Calls.{MovesOn};
 ghost use Rattle.store_model.specs.Law.{IsClaimed};
 ghost use Rattle.store_model.specs.Intact.{IsIntact, IsAsPut, IsShown};
 ghost use Rattle.store_model.specs.Once.{PiecesOnce, NamedOnce};
-ghost use Rattle.store_model.specs.Promises.{InEachLawful, EventsKeep, BeginningsAreLawful};
+ghost use Rattle.store_model.specs.Promises.{InEachLawful, EventsKeep, BeginningsAreLawful, ChainsCanBeFollowed};
 ghost use Rattle.store_model.specs.Walks.{LawfulWalks};
 ghost use Rattle.store_model.specs.PlainWalks.{PlainWalks};
 ghost use Rattle.store_model.specs.Listings.{AllListsAgree};
@@ -50,10 +50,12 @@ pub fn references_move_on()
     ensures { MovesOn IsClaimed }
 {}
 
-/// A walk along the elements of a lawful history, from the reference back to the last Compact, finds the symbol's state. While gate C
-/// is closed these are the elements of all its Refers, and the state is found in the order in which it was told.
+/// A walk along the elements of a lawful history, from the reference back to the last Compact, finds the symbol's state, and the reference
+/// leads along them: each element names the one before it. While gate C is closed these are the elements of all its Refers, each of which
+/// stands, and the state is found in the order in which it was told; while gate P is closed no link has pages.
 pub fn walks_give_the_state()
     ensures state { LawfulWalks }
+    ensures followed { ChainsCanBeFollowed }
     ensures plainly { PlainWalks }
 {}
 
@@ -63,8 +65,9 @@ pub fn library_lists_agree()
     ensures { AllListsAgree }
 {}
 
-/// Where each client has taken back what it never linked, and nothing is stored that anybody may drop, the stored keys are exactly
-/// those that somebody needs.
+/// Where each client has taken back what it never linked, and nothing is stored that was needed and is so no more, the stored keys are
+/// exactly those that somebody needs. Whether sweeps come to the second of these is not said here: they do not where a dead tile's index
+/// has gone before it.
 pub fn nothing_is_left_over()
     ensures { CollectsAll }
 {}
