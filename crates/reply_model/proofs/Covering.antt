@@ -1,16 +1,13 @@
--- Each event lies in a window of its own client: by a test of the events, one after another. And a whole run of three clients.
-use Rattle.std.proofs.Common.{◌≡◌, ℕ, suc, ◌-◌, ◌≤◌, ◌<◌, Bool, true, List, [], ◌∷◌, length, drop, Some, None, refl, sym, ◌∙◌, ap, subst, inl, inr, arith, lit≤, cond}
+-- Each event lies in a window of its own client: by a test of the events, one after another.
+use Rattle.std.proofs.Common.{◌≡◌, ℕ, suc, ◌-◌, ◌≤◌, ◌<◌, Bool, true, List, [], ◌∷◌, length, drop, Some, None, refl, sym, ◌∙◌, ap, subst, inl, inr, arith, cond}
 use Rattle.std.specs.Prelude.{◌&&◌, Any, nat_eq, nat_lt}
 use Rattle.std.specs.List.{list_any}
 use Rattle.std.proofs.lemmas.Bool.{and_parts, cases_lt, le-leb, lt-ltb, eqb-true}
-use Rattle.frame_core.specs.declared.refusal.Refusal.TheVariants as refusals
 use Rattle.store_model.proofs.Lists.{one_passes}
 use Rattle.bucket_core.specs.declared.event.Event.{Event}
 use Rattle.bucket_core.specs.History.{History, author, event_at, history_at, newest}
-use Rattle.reply_model.specs.declared.outcome.Outcome.TheVariants as outcomes
-use Rattle.reply_model.specs.Runs.{Talk, Covers, AllCovered, is_covered, IsLegalRun}
+use Rattle.reply_model.specs.Runs.{Talk, Covers, AllCovered, is_covered}
 use Rattle.reply_model.proofs.Later.{history_at_later}
-use Rattle.reply_model.proofs.HonestWrites.{client, window, reply, writes, appends, met, write_is_legal, first_append_is_legal, second_append_is_moved}
 
 -- the event of a place stays what it is, and the newest one is that of the last place
 pub event_at_later : (x : Event) (h : History) (n : ℕ) → n ≤ length h → event_at (x ∷ h) n ≡ event_at h n
@@ -25,11 +22,11 @@ event_at_end x h =
     ∙ ap (λ m. newest (drop m (x ∷ h))) none
 
 -- a talk of the event's author covers the place
-abbrev is_of_talk : ℕ → Event → Talk → Bool
+abbrev pub is_of_talk : ℕ → Event → Talk → Bool
 is_of_talk n e t = nat_eq t.client.session.client (author e) && is_covered t.windows n
 
 -- so it is of each event behind a place
-abbrev all_tested : ℕ → List Talk → History → Bool
+abbrev pub all_tested : ℕ → List Talk → History → Bool
 all_tested from talks [] = true
 all_tested from talks (e ∷ h) = cond (nat_lt from (suc (length h))) (list_any (is_of_talk (suc (length h)) e) talks) true && all_tested from talks h
 
@@ -58,29 +55,3 @@ all_covered from talks (x ∷ h) t n e after before at = elim (cases_lt (length 
       all_covered from talks h (and_parts (cond (nat_lt from (suc (length h))) (list_any (is_of_talk (suc (length h)) x) talks) true) (all_tested from talks h) t).1 n e after within
       (sym (event_at_later x h n within) ∙ at)
 ]
-
--- ---- a run: a write, and then two clients that append at once, with one try
-
-abbrev first : Talk
-first = record { client = client 1 1; commands = writes ∷ []; replies = reply 4 (4 ∷ []) (outcomes.Committed 0) ∷ []; windows = window 0 4 ∷ [] }
-
-abbrev a : Talk
-a = record { client = client 2 1; commands = appends ∷ []; replies = reply 11 (11 ∷ []) (outcomes.Committed 1) ∷ []; windows = window 4 11 ∷ [] }
-
-abbrev b : Talk
-b = record { client = client 3 1; commands = appends ∷ []; replies = reply 11 [] (outcomes.Refused (refusals.Moved 11)) ∷ []; windows = window 4 14 ∷ [] }
-
-abbrev last : Talk
-last = record { client = client 1 1; commands = []; replies = []; windows = [] }
-
-pub two_appends_at_once : IsLegalRun met 0 first (a ∷ b ∷ []) last
-two_appends_at_once = record {
-  first_legal = (lit≤ tt, (lit≤ tt, write_is_legal 1 (lit≤ tt)), tt);
-  clients_legal = ((lit≤ tt, (lit≤ tt, first_append_is_legal), tt), ((lit≤ tt, (lit≤ tt, second_append_is_moved), tt), tt));
-  last_legal = tt;
-  same_pass = refl;
-  covered = all_covered 0 (first ∷ last ∷ a ∷ b ∷ []) met refl;
-  apart = (((λ e. (tt, tt)), ((λ e. absurd cc), ((λ e. absurd cc), tt))), (((λ e. absurd cc), ((λ e. absurd cc), tt)), (((λ e. absurd cc), tt), (tt, tt))));
-  no_fault = ((refl, tt), (tt, ((refl, tt), ((refl, tt), tt))));
-  one_moment = (refl, (refl, (refl, tt)));
-}

@@ -17,16 +17,6 @@ pub mod Standing
 pub mod MovesOn
 pub mod Walking
 pub mod Following
-pub mod SmallFrames
-pub mod WorkedHistories
-pub mod Witness
-pub mod WitnessKept
-pub mod WitnessShared
-pub mod WitnessPruned
-pub mod WitnessMet
-pub mod WitnessCleared
-pub mod Refuses
-pub mod LawRefusesKeys
 pub mod Listing
 pub mod OwnPuts
 pub mod Untouched
@@ -35,7 +25,6 @@ pub mod Writing
 pub mod Told
 pub mod Collecting
 pub mod Settling
-pub mod WitnessCollected
 pub mod Flat
 pub mod Widening
 pub mod Restating

@@ -23,9 +23,9 @@ use Rattle.store_model.specs.declared.chain.LinkRow.{LinkRow}
 use Rattle.store_model.specs.declared.chain.ChainMark.TheVariants as marks
 use Rattle.store_model.specs.declared.chain.Entry.{Entry}
 use Rattle.store_model.specs.ChainText.{entry_of, entry_text}
-use Rattle.store_model.proofs.SmallFrames.{S}
-use Rattle.store_model.proofs.Witness as w
-use Rattle.store_model.proofs.WitnessShared as shared
+use Rattle.model_examples.proofs.SmallFrames.{S}
+use Rattle.model_examples.proofs.Witness as w
+use Rattle.model_examples.proofs.WitnessShared as shared
 use Rattle.index_tree.specs.PageText.{object_of}
 use Rattle.expr_clause.specs.declared.command.AsOf.TheVariants as moments
 use Rattle.expr_clause.specs.declared.command.Command.{Command}

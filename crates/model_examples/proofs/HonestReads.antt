@@ -22,17 +22,17 @@ use Rattle.index_tree.specs.IndexText.{index_text, index_of}
 use Rattle.store_model.specs.ChainText.{entry_of, entry_text}
 use Rattle.store_model.specs.Library.{state_of}
 use Rattle.store_model.specs.Links.{Linked, links, reaches, is_needed, IsUnneeded}
-use Rattle.store_model.proofs.SmallFrames.{S}
-use Rattle.store_model.proofs.Witness as w
-use Rattle.store_model.proofs.WitnessPruned as pruned
+use Rattle.model_examples.proofs.SmallFrames.{S}
+use Rattle.model_examples.proofs.Witness as w
+use Rattle.model_examples.proofs.WitnessPruned as pruned
 use Rattle.index_tree.specs.PageText.{object_of}
 use Rattle.expr_clause.specs.declared.command.Command.TheVariants as commands
 use Rattle.reply_model.specs.declared.outcome.Outcome.TheVariants as outcomes
 use Rattle.reply_model.specs.Tries.{IsTry, of_version}
 use Rattle.reply_model.specs.Drops.{IsDeadIndex, IsDeadTile, reclaim_outcome}
 use Rattle.reply_model.specs.Legal.{IsLegalSeen}
-use Rattle.reply_model.proofs.HonestWrites.{client, window, reply, reads}
-use Rattle.reply_model.proofs.HonestSnapshots.{none_consumed}
+use Rattle.model_examples.proofs.HonestWrites.{client, window, reply, reads}
+use Rattle.model_examples.proofs.HonestSnapshots.{none_consumed}
 
 -- the two links, the newest first
 abbrev new_link : Linked

@@ -28,9 +28,9 @@ use Rattle.store_model.specs.declared.chain.ChainMark.TheVariants as marks
 use Rattle.store_model.specs.ChainText.{entry_of, entry_text, snap_of, snap_text}
 use Rattle.store_model.specs.Library.{state_of, after_changes, is_consumed, same_piece}
 use Rattle.store_model.specs.Links.{Linked, links, reaches, is_needed, IsUnneeded, IsConsumedPiece}
-use Rattle.store_model.proofs.SmallFrames.{S, k}
-use Rattle.store_model.proofs.Witness as w
-use Rattle.store_model.proofs.WitnessKept as kept
+use Rattle.model_examples.proofs.SmallFrames.{S, k}
+use Rattle.model_examples.proofs.Witness as w
+use Rattle.model_examples.proofs.WitnessKept as kept
 use Rattle.index_tree.specs.PageText.{object_of}
 use Rattle.expr_clause.specs.declared.command.AsOf.TheVariants as moments
 use Rattle.reply_model.specs.declared.outcome.HeldAt.{HeldAt}
@@ -41,7 +41,7 @@ use Rattle.reply_model.specs.Windows.{Client}
 use Rattle.reply_model.specs.Tries.{IsTry, of_mark}
 use Rattle.reply_model.specs.Drops.{IsDeadIndex, IsDeadTile}
 use Rattle.reply_model.specs.Legal.{IsLegalSeen, Legal}
-use Rattle.reply_model.proofs.HonestWrites.{client, window, reply, everything, write_is_legal}
+use Rattle.model_examples.proofs.HonestWrites.{client, window, reply, everything, write_is_legal}
 
 abbrev one : Client
 one = client 1 8

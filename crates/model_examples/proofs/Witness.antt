@@ -37,7 +37,7 @@ use Rattle.store_model.specs.ChainText.{entry_text, entry_of}
 use Rattle.store_model.specs.Links.{IsUnneeded}
 use Rattle.store_model.specs.Commits.{MayRefer, FitsLink, making, marking, no_tombs, no_pieces}
 use Rattle.store_model.specs.Law.{IsLawful, MayPut}
-use Rattle.store_model.proofs.SmallFrames.{S, frame, column_rules, line_fits}
+use Rattle.model_examples.proofs.SmallFrames.{S, frame, column_rules, line_fits}
 
 abbrev pub key : KeyKind → ℕ → Key
 key kind serial = record { kind = kind; name = S; client = 1; serial = serial; version = 0; first = pos 0; last = pos 0 }

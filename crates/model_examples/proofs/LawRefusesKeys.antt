@@ -38,8 +38,8 @@ use Rattle.store_model.specs.Commits.{FitsLink, MayNameKey, MayChange}
 use Rattle.store_model.specs.Law.{IsClaimed}
 use Rattle.store_model.proofs.Lists.{contains_cases, contains_none}
 use Rattle.store_model.proofs.Telling.{is_change}
-use Rattle.store_model.proofs.SmallFrames.{S}
-use Rattle.store_model.proofs.Witness as w
+use Rattle.model_examples.proofs.SmallFrames.{S}
+use Rattle.model_examples.proofs.Witness as w
 
 -- ---- a second version, which client 2 writes behind the first
 

@@ -7,7 +7,7 @@ use Rattle.frame_core.specs.RawFrames.{Table}
 use Rattle.frame_core.specs.declared.refusal.Asked.TheVariants as asks
 use Rattle.frame_core.specs.declared.refusal.Refusal.{Refusal}
 use Rattle.frame_core.specs.declared.refusal.Refusal.TheVariants as refusals
-use Rattle.store_model.proofs.SmallFrames.{S, X, k, frame}
+use Rattle.model_examples.proofs.SmallFrames.{S, X, k, frame}
 use Rattle.expr_clause.specs.declared.command.AsOf.TheVariants as moments
 use Rattle.expr_clause.specs.declared.command.Command.{Command}
 use Rattle.expr_clause.specs.declared.command.Command.TheVariants as commands

@@ -18,16 +18,16 @@ use Rattle.store_model.specs.declared.chain.ChainMark.TheVariants as marks
 use Rattle.store_model.specs.declared.chain.Entry.{Entry}
 use Rattle.store_model.specs.declared.snapshot.SnapBody.{SnapBody}
 use Rattle.store_model.specs.ChainText.{entry_of, entry_text, snap_of, snap_text}
-use Rattle.store_model.proofs.SmallFrames.{S, k}
-use Rattle.store_model.proofs.Witness as w
-use Rattle.store_model.proofs.WitnessKept as kept
-use Rattle.store_model.proofs.WitnessShared.{element_key}
+use Rattle.model_examples.proofs.SmallFrames.{S, k}
+use Rattle.model_examples.proofs.Witness as w
+use Rattle.model_examples.proofs.WitnessKept as kept
+use Rattle.model_examples.proofs.WitnessShared.{element_key}
 use Rattle.expr_clause.specs.declared.command.Command.{Command}
 use Rattle.expr_clause.specs.declared.command.Command.TheVariants as commands
 use Rattle.reply_model.specs.declared.outcome.Outcome.TheVariants as outcomes
 use Rattle.reply_model.specs.Tries.{IsTry, of_mark}
 use Rattle.reply_model.specs.Legal.{IsLegalSeen}
-use Rattle.reply_model.proofs.HonestWrites.{client, window, reply}
+use Rattle.model_examples.proofs.HonestWrites.{client, window, reply}
 
 abbrev holder : ℕ → Holder
 holder number = record { client = number; serial = 0 }

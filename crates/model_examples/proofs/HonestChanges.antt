@@ -13,15 +13,15 @@ use Rattle.key_kind.specs.declared.key.KeyKind.TheVariants as kinds
 use Rattle.key_kind.specs.KeyText.{key_at, key_text}
 use Rattle.segment_bytes.specs.Segments.{segment_text, segment_of, sheet_spelled}
 use Rattle.store_model.specs.ChainText.{entry_of, entry_text}
-use Rattle.store_model.proofs.SmallFrames.{S}
-use Rattle.store_model.proofs.Witness as w
+use Rattle.model_examples.proofs.SmallFrames.{S}
+use Rattle.model_examples.proofs.Witness as w
 use Rattle.expr_clause.specs.declared.command.Command.TheVariants as commands
 use Rattle.reply_model.specs.declared.outcome.Outcome.TheVariants as outcomes
 use Rattle.reply_model.specs.Tries.{IsTry, of_version}
 use Rattle.reply_model.specs.Legal.{IsLegalSeen}
-use Rattle.reply_model.proofs.HonestWrites.{client, window, reply}
+use Rattle.model_examples.proofs.HonestWrites.{client, window, reply}
 use Rattle.index_tree.specs.IndexText.{index_text, index_of}
-use Rattle.store_model.proofs.WitnessCleared as cleared
+use Rattle.model_examples.proofs.WitnessCleared as cleared
 use Rattle.index_tree.specs.PageText.{object_of}
 
 -- ---- delete_range

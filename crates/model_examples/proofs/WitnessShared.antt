@@ -33,8 +33,8 @@ use Rattle.store_model.specs.ChainText.{entry_text, entry_of}
 use Rattle.store_model.specs.Links.{IsConsumedPiece}
 use Rattle.store_model.specs.Commits.{MayRefer, FitsLink, making, marking, no_tombs, no_pieces}
 use Rattle.store_model.specs.Law.{IsLawful, MayPut}
-use Rattle.store_model.proofs.SmallFrames.{column_rules, line_fits, S, frame}
-use Rattle.store_model.proofs.Witness as w
+use Rattle.model_examples.proofs.SmallFrames.{column_rules, line_fits, S, frame}
+use Rattle.model_examples.proofs.Witness as w
 
 -- ---- an append by a client that shares the base's tile
 

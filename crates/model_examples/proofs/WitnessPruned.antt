@@ -28,8 +28,8 @@ use Rattle.store_model.specs.ChainText.{entry_text, entry_of}
 use Rattle.store_model.specs.Links.{IsUnneeded}
 use Rattle.store_model.specs.Commits.{MayRefer, FitsLink, making, some_tombs, no_pieces}
 use Rattle.store_model.specs.Law.{IsLawful, MayPut}
-use Rattle.store_model.proofs.SmallFrames.{S}
-use Rattle.store_model.proofs.Witness as w
+use Rattle.model_examples.proofs.SmallFrames.{S}
+use Rattle.model_examples.proofs.Witness as w
 
 abbrev pub key : KeyKind → ℕ → Key
 key kind serial = record { kind = kind; name = S; client = 3; serial = serial; version = 1; first = pos 1; last = pos 1 }

@@ -20,10 +20,10 @@ use Rattle.bucket_core.specs.History.{History}
 use Rattle.store_model.specs.ChainText.{entry_text, entry_of}
 use Rattle.store_model.specs.Commits.{MayRefer, FitsLink, making, no_tombs, no_pieces}
 use Rattle.store_model.specs.Law.{IsLawful, MayPut}
-use Rattle.store_model.proofs.SmallFrames.{S}
-use Rattle.store_model.proofs.Witness as w
+use Rattle.model_examples.proofs.SmallFrames.{S}
+use Rattle.model_examples.proofs.Witness as w
 use Rattle.store_model.specs.Links.{IsOwnUnlinked}
-use Rattle.store_model.proofs.WitnessShared as shared
+use Rattle.model_examples.proofs.WitnessShared as shared
 
 abbrev pub put_3 : History
 put_3 = shared.put_element 3 2 1 ∷ shared.put_index 3 1 0 ∷ shared.put_tile 3 0 ∷ w.written

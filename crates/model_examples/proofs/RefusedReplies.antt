@@ -17,11 +17,11 @@ use Rattle.store_model.proofs.Lists.{all_weaker}
 use Rattle.key_kind.specs.declared.key.Key.{Key}
 use Rattle.key_kind.specs.declared.key.KeyKind.TheVariants as kinds
 use Rattle.key_kind.specs.KeyText.{key_at, key_text}
-use Rattle.store_model.proofs.SmallFrames.{S, k, frame}
-use Rattle.store_model.proofs.WorkedHistories.{key, commit, snap, holder, after_snapshot}
-use Rattle.store_model.proofs.Witness as w
-use Rattle.store_model.proofs.WitnessKept as kept
-use Rattle.reply_model.proofs.HonestSnapshots.{index_drops}
+use Rattle.model_examples.proofs.SmallFrames.{S, k, frame}
+use Rattle.model_examples.proofs.WorkedHistories.{key, commit, snap, holder, after_snapshot}
+use Rattle.model_examples.proofs.Witness as w
+use Rattle.model_examples.proofs.WitnessKept as kept
+use Rattle.model_examples.proofs.HonestSnapshots.{index_drops}
 use Rattle.store_model.specs.ChainText.{entry_of, snap_of, snap_text}
 use Rattle.store_model.specs.Law.{MayPut}
 use Rattle.expr_clause.specs.declared.command.AsOf.TheVariants as moments

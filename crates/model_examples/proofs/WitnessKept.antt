@@ -25,8 +25,8 @@ use Rattle.store_model.specs.ChainText.{entry_text, entry_of, snap_text, snap_of
 use Rattle.store_model.specs.Links.{IsUnneeded}
 use Rattle.store_model.specs.Commits.{MayRefer, marking}
 use Rattle.store_model.specs.Law.{IsLawful, MayPut, MayName}
-use Rattle.store_model.proofs.SmallFrames.{S, k}
-use Rattle.store_model.proofs.Witness as w
+use Rattle.model_examples.proofs.SmallFrames.{S, k}
+use Rattle.model_examples.proofs.Witness as w
 
 -- ---- the bodies and the events
 

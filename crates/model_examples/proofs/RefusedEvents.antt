@@ -37,10 +37,10 @@ use Rattle.store_model.specs.Links.{Linked, linked}
 use Rattle.store_model.specs.Commits.{FitsLink}
 use Rattle.store_model.specs.Law.{IsClaimed}
 use Rattle.store_model.proofs.Telling.{is_change}
-use Rattle.store_model.proofs.SmallFrames.{S, k, frame}
-use Rattle.store_model.proofs.Witness as w
-use Rattle.store_model.proofs.WitnessKept as kept
-use Rattle.store_model.proofs.WitnessShared as shared
+use Rattle.model_examples.proofs.SmallFrames.{S, k, frame}
+use Rattle.model_examples.proofs.Witness as w
+use Rattle.model_examples.proofs.WitnessKept as kept
+use Rattle.model_examples.proofs.WitnessShared as shared
 
 -- ---- references
 

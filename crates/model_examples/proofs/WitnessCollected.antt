@@ -22,10 +22,10 @@ use Rattle.store_model.specs.Library.{state_of, next_number}
 use Rattle.store_model.specs.Links.{IsOwnUnlinked}
 use Rattle.store_model.specs.Law.{IsLawful, IsClaimed, MayPut}
 use Rattle.store_model.specs.Settled.{base_number, IsSettledIn}
-use Rattle.store_model.proofs.SmallFrames.{S}
-use Rattle.store_model.proofs.Witness as w
-use Rattle.store_model.proofs.WitnessKept as kept
-use Rattle.store_model.proofs.WitnessShared as shared
+use Rattle.model_examples.proofs.SmallFrames.{S}
+use Rattle.model_examples.proofs.Witness as w
+use Rattle.model_examples.proofs.WitnessKept as kept
+use Rattle.model_examples.proofs.WitnessShared as shared
 
 -- ---- an orphan
 

@@ -22,7 +22,7 @@ use Rattle.store_model.specs.declared.snapshot.SnapBody.{SnapBody}
 use Rattle.store_model.specs.ChainText.{snap_text, snap_of}
 use Rattle.store_model.specs.Library.{State, state_of, is_live, is_held, base_of, live_versions, open_pieces}
 use Rattle.store_model.specs.Snapshots.{snapshots_of, symbols_of}
-use Rattle.store_model.proofs.SmallFrames.{S, k, frame}
+use Rattle.model_examples.proofs.SmallFrames.{S, k, frame}
 
 abbrev pub key : KeyKind → ℕ → ℕ → Key
 key kind client serial = record { kind = kind; name = S; client = client; serial = serial; version = 0; first = pos 0; last = pos 0 }

@@ -25,10 +25,10 @@ use Rattle.key_kind.proofs.KeyTests.{same_key_is}
 use Rattle.segment_bytes.specs.Segments.{segment_text, segment_of, sheet_spelled}
 use Rattle.store_model.specs.ChainText.{entry_of, entry_text}
 use Rattle.store_model.specs.Links.{Linked, links, reaches, IsUnneeded}
-use Rattle.store_model.proofs.SmallFrames.{S}
-use Rattle.store_model.proofs.WorkedHistories.{commit}
-use Rattle.store_model.proofs.Witness as w
-use Rattle.store_model.proofs.WitnessShared as shared
+use Rattle.model_examples.proofs.SmallFrames.{S}
+use Rattle.model_examples.proofs.WorkedHistories.{commit}
+use Rattle.model_examples.proofs.Witness as w
+use Rattle.model_examples.proofs.WitnessShared as shared
 use Rattle.expr_clause.specs.declared.command.Command.TheVariants as commands
 use Rattle.reply_model.specs.declared.outcome.Outcome.TheVariants as outcomes
 use Rattle.reply_model.specs.declared.reply.Reply.{Reply}
@@ -37,7 +37,7 @@ use Rattle.reply_model.specs.Tries.{IsTry, of_mark}
 use Rattle.reply_model.specs.Drops.{IsDeadPiece, reclaim_outcome}
 use Rattle.reply_model.specs.OwnEvents.{IsStaging}
 use Rattle.reply_model.specs.Legal.{IsLegalSeen, Legal}
-use Rattle.reply_model.proofs.HonestWrites.{client, window, reply, is_try, puts}
+use Rattle.model_examples.proofs.HonestWrites.{client, window, reply, is_try, puts}
 
 abbrev one : Client
 one = client 1 8

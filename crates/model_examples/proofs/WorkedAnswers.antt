@@ -21,8 +21,8 @@ use Rattle.bucket_core.specs.History.{History}
 use Rattle.store_model.specs.ChainText.{snap_of}
 use Rattle.store_model.specs.Library.{Piece, unknown}
 use Rattle.store_model.specs.Snapshots.{library_of}
-use Rattle.store_model.proofs.SmallFrames.{S, X, k, frame}
-use Rattle.store_model.proofs.WorkedHistories.{after_append, after_update, after_clear, after_two_writes, after_pruning_write, after_prune, after_snapshot, after_delete, after_release, after_stages, after_finalize, holder, stage}
+use Rattle.model_examples.proofs.SmallFrames.{S, X, k, frame}
+use Rattle.model_examples.proofs.WorkedHistories.{after_append, after_update, after_clear, after_two_writes, after_pruning_write, after_prune, after_snapshot, after_delete, after_release, after_stages, after_finalize, holder, stage}
 use Rattle.expr_clause.specs.declared.command.AsOf.{AsOf}
 use Rattle.expr_clause.specs.declared.command.AsOf.TheVariants as moments
 use Rattle.expr_clause.specs.declared.command.Command.{Command}

@@ -25,8 +25,8 @@ use Rattle.store_model.specs.declared.chain.Entry.{Entry}
 use Rattle.store_model.specs.ChainText.{entry_text, entry_of}
 use Rattle.store_model.specs.Commits.{MayRefer, FitsLink, making, no_pieces}
 use Rattle.store_model.specs.Law.{IsLawful, MayPut}
-use Rattle.store_model.proofs.SmallFrames.{column_rules, S}
-use Rattle.store_model.proofs.Witness as w
+use Rattle.model_examples.proofs.SmallFrames.{column_rules, S}
+use Rattle.model_examples.proofs.Witness as w
 use Rattle.std.specs.Prelude.{◌≤ℤ◌}
 use Rattle.std.proofs.Common.{None, arith}
 use Rattle.frame_core.specs.Ranges.{Range}
@@ -35,7 +35,7 @@ use Rattle.frame_core.specs.Limits.{IsStorable}
 use Rattle.segment_cut.specs.Tiles.{Tiled}
 use Rattle.bucket_core.specs.declared.event.PieceName.{PieceName}
 use Rattle.store_model.specs.Commits.{no_tombs, some_pieces}
-use Rattle.store_model.proofs.SmallFrames.{column_rules, frame}
+use Rattle.model_examples.proofs.SmallFrames.{column_rules, frame}
 
 -- ---- a range is cleared
 
