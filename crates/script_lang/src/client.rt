@@ -1,4 +1,4 @@
-ghost use Rattle.std.specs.Prelude.{◌≡◌};
+ghost use Rattle.std.specs.Prelude.{◌≡◌, [], ◌∷◌, ◌++◌, IfOk, IfErr};
 ghost use Rattle.std.specs.List.{list_all};
 ghost use Rattle.script_lang.specs.Fronts.{where_true};
 ghost use Rattle.script_lang.specs.Clients.{is_client_byte, is_part_name, is_client_name, is_taken, new_client_of, in_last_client};
@@ -87,6 +87,16 @@ pub fn new_client_of(
     Ok(Text::make(alloc, name)?)
 }
 
+/// The client with one more command behind its own.
+fn with_one_more(part: ClientPart, command: Command) -> Result<ClientPart, ScriptFault>
+    ensures more { IfOk result (λ more. more ≡ record part { commands = part.commands ++ command ∷ [] }) }
+    ensures memory { IfErr result (λ e. e ≡ ScriptFault.NoMemory) }
+{
+    let mut part = part;
+    part.commands.push(command)?;
+    Ok(part)
+}
+
 /// The clients with one more command behind those of the last one.
 pub fn in_last_client(
     clients: Items<ClientPart>,
@@ -95,11 +105,12 @@ pub fn in_last_client(
     ensures { GivesScript (λ parts. parts) result (in_last_client clients command) }
 {
     let mut parts = clients.into_vec();
-    let Some(ClientPart { name, mut commands }) = parts.pop() else {
+    let Some(part) = parts.pop() else {
+        drop(command);
         return Err(ScriptFault::BadScript);
     };
-    commands.push(command)?;
+    let part = with_one_more(part, command)?;
     let mut clients = Items::from_vec(parts);
-    clients.push(ClientPart { name, commands })?;
+    clients.push(part)?;
     Ok(clients)
 }

@@ -1,6 +1,6 @@
 ghost use Rattle.std.specs.Prelude.{◌≡◌, map, Some, unwrap_or};
 ghost use Rattle.script_lang.specs.Words.{symbol_of};
-ghost use Rattle.script_lang.specs.Commands.{commit_of, commit_form, update_form, required_range, delete_range_form, delete_form, only_symbol, whole_range, read_form, command_of};
+ghost use Rattle.script_lang.specs.Commands.{commit_of, commit_form, update_form, required_range, delete_range_form, delete_form, only_symbol, symbol_form, whole_range, read_form, command_of};
 ghost use Rattle.script_lang.specs.Loads.{frame_names};
 ghost use Rattle.script_lang.specs.Answers.{GivesScript};
 
@@ -219,6 +219,34 @@ fn read_of(alloc: Global, words: &[&[u8]]) -> Result<Command, ScriptFault>
     }
 }
 
+fn prune_of(alloc: Global, words: &[&[u8]]) -> Result<Command, ScriptFault>
+    ensures { GivesScript (λ command. command) result (symbol_form Command.Prune (map (λ word. word.now) words.now)) }
+{
+    let symbol = only_symbol(alloc, words)?;
+    Ok(Command::Prune { symbol })
+}
+
+fn reclaim_of(alloc: Global, words: &[&[u8]]) -> Result<Command, ScriptFault>
+    ensures { GivesScript (λ command. command) result (symbol_form Command.Reclaim (map (λ word. word.now) words.now)) }
+{
+    let symbol = only_symbol(alloc, words)?;
+    Ok(Command::Reclaim { symbol })
+}
+
+fn versions_of(alloc: Global, words: &[&[u8]]) -> Result<Command, ScriptFault>
+    ensures { GivesScript (λ command. command) result (symbol_form Command.Versions (map (λ word. word.now) words.now)) }
+{
+    let symbol = only_symbol(alloc, words)?;
+    Ok(Command::Versions { symbol })
+}
+
+fn keys_of(alloc: Global, words: &[&[u8]]) -> Result<Command, ScriptFault>
+    ensures { GivesScript (λ command. command) result (symbol_form Command.Keys (map (λ word. word.now) words.now)) }
+{
+    let symbol = only_symbol(alloc, words)?;
+    Ok(Command::Keys { symbol })
+}
+
 /// The command of a line's words, of which the first is its verb.
 pub fn command_of(
     alloc: Global,
@@ -239,17 +267,13 @@ pub fn command_of(
     } else if verb == b"delete".as_slice() {
         delete_of(alloc, words)
     } else if verb == b"prune".as_slice() {
-        let symbol = only_symbol(alloc, words)?;
-        Ok(Command::Prune { symbol })
+        prune_of(alloc, words)
     } else if verb == b"reclaim".as_slice() {
-        let symbol = only_symbol(alloc, words)?;
-        Ok(Command::Reclaim { symbol })
+        reclaim_of(alloc, words)
     } else if verb == b"versions".as_slice() {
-        let symbol = only_symbol(alloc, words)?;
-        Ok(Command::Versions { symbol })
+        versions_of(alloc, words)
     } else if verb == b"keys".as_slice() {
-        let symbol = only_symbol(alloc, words)?;
-        Ok(Command::Keys { symbol })
+        keys_of(alloc, words)
     } else if verb == b"read".as_slice() {
         read_of(alloc, words)
     } else {

@@ -1,5 +1,5 @@
-ghost use Rattle.std.specs.Prelude.{◌≡◌, map};
-ghost use Rattle.script_lang.specs.Scripts.{before_parts, before_last, no_lines, after_load, after_first, with_client, only_word, after_client, after_last, with_command, after_verb, after_words, after_line, after_lines};
+ghost use Rattle.std.specs.Prelude.{◌≡◌, map, None};
+ghost use Rattle.script_lang.specs.Scripts.{before_parts, before_last, no_lines, after_load, after_first, with_client, only_word, after_client, after_last, in_part, with_command, after_form, after_verb, after_words, after_line, after_lines};
 ghost use Rattle.script_lang.specs.Answers.{Reads, GivesScript};
 
 use crate::client::{ClientPart, in_last_client, new_client_of};
@@ -120,30 +120,60 @@ fn after_last(draft: Draft, words: &[&[u8]]) -> Result<Draft, ScriptFault>
     Ok(draft)
 }
 
+/// Adds a command behind those of `first`.
+fn in_first(draft: Draft, command: Command) -> Result<Draft, ScriptFault>
+    ensures { GivesScript (λ next. next) result (in_part Stage.First draft command) }
+{
+    let mut draft = draft;
+    draft.first.push(command)?;
+    Ok(draft)
+}
+
+/// Adds a command behind those of the last client.
+fn in_clients(draft: Draft, command: Command) -> Result<Draft, ScriptFault>
+    ensures { GivesScript (λ next. next) result (in_part Stage.Clients draft command) }
+{
+    let mut draft = draft;
+    draft.clients = in_last_client(draft.clients, command)?;
+    Ok(draft)
+}
+
+/// Adds a command behind those of `last`.
+fn in_last(draft: Draft, command: Command) -> Result<Draft, ScriptFault>
+    ensures { GivesScript (λ next. next) result (in_part Stage.Last draft command) }
+{
+    let mut draft = draft;
+    draft.last.push(command)?;
+    Ok(draft)
+}
+
 /// Adds a command behind those of the part that the lines have come to.
 fn with_command(draft: Draft, command: Command) -> Result<Draft, ScriptFault>
     ensures { GivesScript (λ next. next) result (with_command draft command) }
 {
-    let Draft {
-        loads,
-        mut first,
-        mut clients,
-        mut last,
-        stage,
-    } = draft;
-    match stage {
-        Stage::Loads => return Err(ScriptFault::BadScript),
-        Stage::First => first.push(command)?,
-        Stage::Clients => clients = in_last_client(clients, command)?,
-        Stage::Last => last.push(command)?,
+    match draft.stage {
+        Stage::Loads => {
+            drop(draft);
+            drop(command);
+            Err(ScriptFault::BadScript)
+        }
+        Stage::First => in_first(draft, command),
+        Stage::Clients => in_clients(draft, command),
+        Stage::Last => in_last(draft, command),
     }
-    Ok(Draft {
-        loads,
-        first,
-        clients,
-        last,
-        stage,
-    })
+}
+
+/// Adds the command of this verb and these words.
+fn after_command(
+    alloc: Global,
+    draft: Draft,
+    verb: &[u8],
+    words: &[&[u8]],
+) -> Result<Draft, ScriptFault>
+    ensures { GivesScript (λ next. next) result (after_form None draft verb.now (map (λ word. word.now) words.now)) }
+{
+    let command = command_of(alloc, draft.loads.items(), verb, words)?;
+    with_command(draft, command)
 }
 
 /// What a line of this verb and these words makes of the draft.
@@ -156,19 +186,16 @@ fn after_verb(
     ensures { GivesScript (λ next. next) result (after_verb draft verb.now (map (λ word. word.now) words.now)) }
 {
     if verb == b"load".as_slice() {
-        return after_load(alloc, draft, words);
+        after_load(alloc, draft, words)
+    } else if verb == b"first".as_slice() {
+        after_first(draft, words)
+    } else if verb == b"client".as_slice() {
+        after_client(alloc, draft, words)
+    } else if verb == b"last".as_slice() {
+        after_last(draft, words)
+    } else {
+        after_command(alloc, draft, verb, words)
     }
-    if verb == b"first".as_slice() {
-        return after_first(draft, words);
-    }
-    if verb == b"client".as_slice() {
-        return after_client(alloc, draft, words);
-    }
-    if verb == b"last".as_slice() {
-        return after_last(draft, words);
-    }
-    let command = command_of(alloc, draft.loads.items(), verb, words)?;
-    with_command(draft, command)
 }
 
 fn after_words(alloc: Global, draft: Draft, words: &[&[u8]]) -> Result<Draft, ScriptFault>

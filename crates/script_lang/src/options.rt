@@ -1,7 +1,7 @@
 ghost use Rattle.std.specs.Prelude.{◌≡◌, map};
 ghost use Rattle.script_lang.specs.Fronts.{whole};
 ghost use Rattle.script_lang.specs.PlainFiles.{column_name_at};
-ghost use Rattle.script_lang.specs.Options.{option_name, option_value, after_option, commit_settings, commit_options, update_settings, update_options, versions_of, versions_given, columns_of, read_settings, read_options};
+ghost use Rattle.script_lang.specs.Options.{option_name, option_value, after_option, commit_settings, commit_options, update_settings, update_options, versions_of, versions_given, columns_of, set_as_of, set_read_range, set_columns, read_settings, read_options};
 ghost use Rattle.script_lang.specs.Answers.{GivesScript};
 
 use crate::fault::ScriptFault;
@@ -185,40 +185,59 @@ fn columns_of(alloc: Global, word: &[u8]) -> Result<Items<ColName>, ScriptFault>
     Ok(columns)
 }
 
+fn set_as_of(options: ReadOptions, value: &[u8]) -> Result<ReadOptions, ScriptFault>
+    ensures { GivesScript (λ next. next) result (set_as_of options value.now) }
+{
+    let mut options = options;
+    if options.as_of.is_some() {
+        return Err(ScriptFault::BadScript);
+    }
+    let Some(asked) = as_of_of(value) else {
+        return Err(ScriptFault::BadScript);
+    };
+    options.as_of = Some(asked);
+    Ok(options)
+}
+
+fn set_range(options: ReadOptions, value: &[u8]) -> Result<ReadOptions, ScriptFault>
+    ensures { GivesScript (λ next. next) result (set_read_range options value.now) }
+{
+    let mut options = options;
+    if options.range.is_some() {
+        return Err(ScriptFault::BadScript);
+    }
+    let Some(asked) = range_of(value) else {
+        return Err(ScriptFault::BadScript);
+    };
+    options.range = Some(asked);
+    Ok(options)
+}
+
+fn set_columns(
+    alloc: Global,
+    options: ReadOptions,
+    value: &[u8],
+) -> Result<ReadOptions, ScriptFault>
+    ensures { GivesScript (λ next. next) result (set_columns options value.now) }
+{
+    let mut options = options;
+    if options.columns.is_some() {
+        return Err(ScriptFault::BadScript);
+    }
+    options.columns = Some(columns_of(alloc, value)?);
+    Ok(options)
+}
+
 fn with_read(alloc: Global, options: ReadOptions, word: &[u8]) -> Result<ReadOptions, ScriptFault>
     ensures { GivesScript (λ next. next) result (after_option read_settings options word.now) }
 {
-    let ReadOptions {
-        as_of,
-        range,
-        columns,
-    } = options;
     let (name, value) = option_parts(word);
-    if name == b"as_of=".as_slice() && as_of.is_none() {
-        let Some(asked) = as_of_of(value) else {
-            return Err(ScriptFault::BadScript);
-        };
-        Ok(ReadOptions {
-            as_of: Some(asked),
-            range,
-            columns,
-        })
-    } else if name == b"range=".as_slice() && range.is_none() {
-        let Some(asked) = range_of(value) else {
-            return Err(ScriptFault::BadScript);
-        };
-        Ok(ReadOptions {
-            as_of,
-            range: Some(asked),
-            columns,
-        })
-    } else if name == b"columns=".as_slice() && columns.is_none() {
-        let columns = Some(columns_of(alloc, value)?);
-        Ok(ReadOptions {
-            as_of,
-            range,
-            columns,
-        })
+    if name == b"as_of=".as_slice() {
+        set_as_of(options, value)
+    } else if name == b"range=".as_slice() {
+        set_range(options, value)
+    } else if name == b"columns=".as_slice() {
+        set_columns(alloc, options, value)
     } else {
         Err(ScriptFault::BadScript)
     }

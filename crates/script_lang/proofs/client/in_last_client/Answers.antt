@@ -6,6 +6,6 @@ use Rattle.script_lang.proofs.client.in_last_client.Goals as goal
 
 pub returns : goal.returns
 returns c =
-    let parts : c.args.clients ≡ c.pop.new.self.items ++ c.in-Some.field-0 ∷ [] = sym c.into_vec-parts.ensures ∙ c.in-Some.ensures.items in
-    let grown : c.pop.new.self.items ++ record c.in-Some.field-0 { commands = c.in-Some.field-0.commands ++ c.args.command ∷ [] } ∷ [] ≡ c.push-2.new.self = search rules in
-    ap (λ (list : List ClientPart). in_last_client list c.args.command) parts ∙ in_last_client-append c.pop.new.self.items c.in-Some.field-0 c.args.command ∙ ap (λ (list : List ClientPart). Some list) grown
+    let parts : c.args.clients ≡ c.pop.new.self.items ++ c.in-Some.part ∷ [] = sym c.into_vec-parts.ensures ∙ c.in-Some.ensures.items in
+    let grown : c.pop.new.self.items ++ record c.in-Some.part { commands = c.in-Some.part.commands ++ c.args.command ∷ [] } ∷ [] ≡ c.push.new.self = search rules in
+    ap (λ (list : List ClientPart). in_last_client list c.args.command) parts ∙ in_last_client-append c.pop.new.self.items c.in-Some.part c.args.command ∙ ap (λ (list : List ClientPart). Some list) grown
