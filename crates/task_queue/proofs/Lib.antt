@@ -1,0 +1,3 @@
+mod Balance
+mod Dealing
+mod Told
