@@ -39,7 +39,7 @@ use Rattle.frame_write.proofs.LegalLemmas.{own_in_window, met_in_window}
 use Rattle.frame_write.proofs.MeetLemmas.{puts_refer_not}
 use Rattle.frame_write.proofs.NewestLinks.{commit_newest}
 use Rattle.append_update.specs.declared.wish.Wish.{Wish}
-use Rattle.append_update.specs.Asking.{answer_to, IsAnswered, Declines, Wants}
+use Rattle.append_update.specs.Asking.{answer_to, IsAnswered, Declines, Wants, Loses}
 use Rattle.append_update.specs.RowBlocks.{AreSmall, HavePartKeys, IsPutAs, IsBuiltOn, LaysAs}
 use Rattle.reply_model.specs.Blocks.{run_cutting}
 use Rattle.append_update.proofs.AskedLemmas.{answer_staged}
@@ -98,7 +98,7 @@ first_same e = cc
 -- ---- a commit
 
 module _ (client : ℕ) (sole : Bool) (symbol : Name) (wish : Wish) (options : Options) (limit before now : ℕ) (old new : History) (done : Committed) (cut : IsCutting options.cutting) (lawful : ∥ IsLawful new ∥₁)
-    (grows : GrowsAlone client old new) (d : DidTries client sole symbol (IsAnswered client symbol wish options) (Declines symbol wish options) (Wants symbol wish options) options.tries limit before now old new (Ok done)) where
+    (grows : GrowsAlone client old new) (d : DidTries client sole symbol (IsAnswered client symbol wish options) (Declines symbol wish options) (Wants symbol wish options) (Loses symbol wish) options.tries limit before now old new (Ok done)) where
   abbrev c : Cutting
   c = run_cutting options.cutting
 
@@ -193,7 +193,7 @@ module _ (client : ℕ) (sole : Bool) (symbol : Name) (wish : Wish) (options : O
 
 -- a commit of all tries
 pub tries_lay : (client : ℕ) (sole : Bool) (symbol : Name) (wish : Wish) (options : Options) (limit before now : ℕ) (old new : History) (r : Result Committed Refused) → IsCutting options.cutting → ∥ IsLawful new ∥₁ → GrowsAlone client old new
-    → DidTries client sole symbol (IsAnswered client symbol wish options) (Declines symbol wish options) (Wants symbol wish options) options.tries limit before now old new r
+    → DidTries client sole symbol (IsAnswered client symbol wish options) (Declines symbol wish options) (Wants symbol wish options) (Loses symbol wish) options.tries limit before now old new r
     → (answer : State → Result Answer Refusal) → ((st : State) → answer st ≡ answer_to wish options.prune options.at st) → IfOk r (λ done. LaysAs (run_cutting options.cutting) symbol answer done.place old new)
 tries_lay client sole symbol wish options limit before now old new (Err refused) cut lawful grows d answer same_as = tt
 tries_lay client sole symbol wish options limit before now old new (Ok done) cut lawful grows d answer same_as = commit_lays client sole symbol wish options limit before now old new done cut lawful grows d answer same_as

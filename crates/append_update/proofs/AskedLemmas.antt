@@ -7,7 +7,10 @@ use Rattle.frame_core.specs.Ranges.{Range}
 use Rattle.frame_core.specs.Frames.{Row, Frame}
 use Rattle.frame_core.specs.RawFrames.{unless}
 use Rattle.key_kind.specs.Names.{Name}
+use Rattle.bucket_core.specs.History.{History}
 use Rattle.store_model.specs.Library.{State, Version, Piece, state_of, base_of, next_number}
+use Rattle.reply_model.specs.declared.reply.Reply.{Reply}
+use Rattle.reply_model.specs.Losses.{FindsGone}
 use Rattle.reply_model.specs.declared.outcome.Outcome.TheVariants as outcomes
 use Rattle.store_model.specs.Snapshots.{Library, library_of}
 use Rattle.store_model.specs.Commits.{IsFilled}
@@ -21,7 +24,7 @@ use Rattle.frame_write.specs.Plans.{IsUnmoved}
 use Rattle.frame_write.proofs.CommandLemmas.{MakesVersion, is_answer, IsAskedBy}
 use Rattle.append_update.specs.declared.wish.Wish.{Wish}
 use Rattle.append_update.specs.declared.wish.Wish.TheVariants as wishes
-use Rattle.append_update.specs.Asking.{answer_to, IsAnswered, Declines, Wants}
+use Rattle.append_update.specs.Asking.{answer_to, IsAnswered, Declines, Wants, Loses}
 
 -- ---- each refusal is one that the library may give
 
@@ -109,11 +112,13 @@ answer_unmoved wish options st now c u e =
 
 pub asked_by : (s : Session) (c : Command) (symbol : Name) (wish : Wish) (options : Options) → MakesVersion c symbol
     → ((listed l : Library) (p : ℕ) → answer s listed l p c ≡ Some (answered (answer_to wish options.prune options.at (l.state symbol))))
-    → IsAskedBy s c symbol (IsAnswered s.client symbol wish options) (Declines symbol wish options) (Wants symbol wish options)
-asked_by s c symbol wish options makes is = record {
+    → ((h : History) (limit : ℕ) (reply : Reply) (look showed : ℕ) → Loses symbol wish h look showed → FindsGone h (record { session = s; limit = limit }) c reply symbol look showed)
+    → IsAskedBy s c symbol (IsAnswered s.client symbol wish options) (Declines symbol wish options) (Wants symbol wish options) (Loses symbol wish)
+asked_by s c symbol wish options makes is loses = record {
   makes = makes;
   answers = λ m a l p. is l (library_of m.before) p ∙ (ap (λ r. Some (answered r)) a.answered ∙ ap (λ marks. Some (record { outcome = outcomes.Committed (next_number (state_of m.before symbol)); marks = marks })) (sym a.list));
   filled = λ m a. subst IsFilled (sym a.list) tt;
   refuses = λ h why r. (good_answer wish options.prune options.at (state_of h symbol) why r, λ l p. is l (library_of h) p ∙ ap (λ r. Some (answered r)) r);
   wants = λ h w l p. subst MarksAt (sym (is l (library_of h) p ∙ ap (λ r. Some (answered r)) w.1)) (inl (λ e. absurd cc));
+  loses = loses;
 }

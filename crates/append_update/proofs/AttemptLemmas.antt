@@ -5,14 +5,15 @@ use Rattle.std.proofs.lemmas.List.{append-nil}
 use Rattle.frame_core.specs.declared.refusal.Refused.{Refused}
 use Rattle.key_kind.specs.Names.{Name}
 use Rattle.bucket_core.specs.History.{History}
+use Rattle.store_model.specs.Library.{Version}
 use Rattle.version_chain.specs.Traces.{met_in, Went}
 use Rattle.frame_write.specs.Tries.{DidRefused, IsMet}
 use Rattle.version_chain.proofs.TraceLemmas.{append_assoc, went_then, went_as, went_longer, same_front, met_in-append}
 use Rattle.frame_write.proofs.MeetLemmas.{met_sooner, met_once}
 use Rattle.append_update.specs.Attempts.{DidGone}
 
-pub tries_gone : (client : ℕ) (sole : Bool) (symbol : Name) (old mid new : History) (n : ℕ) (refused : Refused) → DidRefused client sole symbol old mid n → DidGone client sole symbol mid new refused → DidRefused client sole symbol old new (n + 1)
-tries_gone client sole symbol old mid new n refused a b =
+pub tries_gone : (client : ℕ) (sole : Bool) (symbol : Name) (Fits : Version → Type 0) (old mid new : History) (n : ℕ) (refused : Refused) → DidRefused client sole symbol old mid n → DidGone client sole symbol Fits mid new refused → DidRefused client sole symbol old new (n + 1)
+tries_gone client sole symbol Fits old mid new n refused a b =
     let w : Went client sole old new (flat_map (λ t. t) a.tries) =
     went_as client sole old new (flat_map (λ t. t) a.tries ++ []) (flat_map (λ t. t) a.tries) (append-nil (flat_map (λ t. t) a.tries)) (went_then client sole old mid new (flat_map (λ t. t) a.tries) [] a.went b.went) in
     let is : new ≡ (b.went.more ++ a.went.more) ++ old = b.went.is ∙ (ap (λ h. b.went.more ++ h) a.went.is ∙ sym (append_assoc b.went.more a.went.more old)) in
@@ -28,5 +29,5 @@ tries_gone client sole symbol old mid new n refused a b =
     }
 
 -- the commit that it met stands behind the place at which the first try began
-pub gone_met : (client : ℕ) (sole : Bool) (symbol : Name) (old mid new : History) (n : ℕ) (refused : Refused) → DidRefused client sole symbol old mid n → DidGone client sole symbol mid new refused → IsMet client symbol (length old) new refused.place
-gone_met client sole symbol old mid new n refused a b = met_sooner client symbol (length mid) (length old) new refused.place (went_longer client sole old mid (flat_map (λ t. t) a.tries) a.went) b.met
+pub gone_met : (client : ℕ) (sole : Bool) (symbol : Name) (Fits : Version → Type 0) (old mid new : History) (n : ℕ) (refused : Refused) → DidRefused client sole symbol old mid n → DidGone client sole symbol Fits mid new refused → IsMet client symbol (length old) new refused.place
+gone_met client sole symbol Fits old mid new n refused a b = met_sooner client symbol (length mid) (length old) new refused.place (went_longer client sole old mid (flat_map (λ t. t) a.tries) a.went) b.met

@@ -1,6 +1,6 @@
 -- What a look at a base finds.
 use Rattle.std.proofs.Common.{◌≡◌, ℕ, zero, suc, ◌+◌, ◌-◌, ◌≤◌, Bool, true, false, ◌&&◌, List, [], ◌∷◌, ◌++◌, length, take, drop, refl, sym, ap, ◌∙◌, subst, arith, Some, None, nat_eq, length-append}
-use Rattle.std.specs.Prelude.{Contains}
+use Rattle.std.specs.Prelude.{◌⊎◌, Contains}
 use Rattle.std.specs.List.{list_any}
 use Rattle.std.proofs.lemmas.Bool.{and_from, eq-eqb, or_right}
 use Rattle.std.proofs.lemmas.List.{take-append-drop, append_assoc}
@@ -14,11 +14,12 @@ use Rattle.index_tree.specs.IndexRules.{IsIndex}
 use Rattle.key_kind.specs.Names.{Name}
 use Rattle.key_kind.specs.Keys.{same_key, reference_key}
 use Rattle.key_kind.proofs.KeyTests.{same_key_self}
-use Rattle.bucket_core.specs.History.{History, AllByOthers, history_at, since, referred_at}
+use Rattle.key_kind.specs.declared.key.Key.{Key}
+use Rattle.bucket_core.specs.History.{History, AllByOthers, stored, history_at, since, referred_at}
 use Rattle.bucket_core.specs.Laws.{refers}
 use Rattle.store_model.specs.declared.chain.LinkRow.{LinkRow}
 use Rattle.store_model.specs.Library.{Version, state_of, base_of, is_buried}
-use Rattle.store_model.specs.Links.{Linked, links}
+use Rattle.store_model.specs.Links.{Linked, links, reached}
 use Rattle.store_model.specs.Holders.{has_index}
 use Rattle.store_model.specs.Law.{IsLawful}
 use Rattle.store_model.proofs.Lists.{passes}
@@ -35,13 +36,14 @@ use Rattle.version_chain.specs.Marking.{own_refers}
 use Rattle.frame_write.specs.Tries.{IsMet}
 use Rattle.frame_write.proofs.MeetLemmas.{met_here, none_in_both, others_refer_not}
 use Rattle.append_update.specs.Newest.{IsNewest}
-use Rattle.frame_read.specs.Fetches.{IsGone, IsGetRefusal, RefusesGet}
+use Rattle.frame_read.specs.Fetches.{IsGone, IsGetRefusal, RefusesGet, LacksAt, LacksKey}
+use Rattle.reply_model.specs.Losses.{LosesBase}
 use Rattle.reply_model.proofs.Later.{history_at_later}
 use Rattle.reply_model.proofs.Places.{history_at_end}
 use Rattle.append_update.specs.Looking.{MetCommit, MetAt}
 use Rattle.append_update.proofs.GoneLemmas.{since_referred, referred_since}
 use Rattle.append_update.proofs.ToldLemmas.{Told, told_prop}
-use Rattle.append_update.proofs.NewestLemmas.{no_newest, newest_is, newest_linked}
+use Rattle.append_update.proofs.NewestLemmas.{no_newest, newest_is, newest_linked, newest_numbered}
 
 index_told : (a b : Index) → Told (a ≡ b)
 index_told a b = told_prop (hlevel props)
@@ -91,9 +93,13 @@ module _ (h : History) (symbol : Name) (prune : Bool) (tip : ChainTip) (at : IsT
     pub lives : is_buried (state_of (history_at h tip.place) symbol) row.version ≡ false
     lives = (newest_linked (history_at h tip.place) symbol prune tip row (lawful_at h tip.place lawful) tip_there newest).1
 
+    -- it is the newest live one
+    pub numbered : (v : Version) × (base_of (state_of (history_at h tip.place) symbol) ≡ Some v) × (row.version ≡ v.number)
+    numbered = newest_numbered (history_at h tip.place) symbol prune tip row (lawful_at h tip.place lawful) tip_there newest
+
     -- the index that was got is that of the newest live version
     pub one_found : (more new : History) (target : Target) (index : Index) → new ≡ more ++ h → ∥ IsLawful new ∥₁ → target.symbol ≡ symbol → target.index ≡ row.index → IsIndex index → IsTargetIndex new target index
-        → (v : Version) × IsNewest (history_at h tip.place) symbol v index
+        → (v : Version) × IsNewest (history_at h tip.place) symbol v index × (row.version ≡ v.number)
     one_found more new target index is lawful_new symbol_is key rules got =
         newest_is (history_at h tip.place) symbol prune tip row index (lawful_at h tip.place lawful) tip_there newest rules (λ l there row_is.
         let whole : new ≡ (more ++ take (length h - tip.place) h) ++ history_at h tip.place =
@@ -107,26 +113,7 @@ module _ (h : History) (symbol : Name) (prune : Bool) (tip : ChainTip) (at : IsT
 look_wider : (before mid now : ℕ) (why : Refusal) → before ≤ mid → IsLookRefusal mid now why → IsLookRefusal before now why
 look_wider before mid now refusals.NoMemory le is = is
 look_wider before mid now refusals.StoreFault le is = omega (arith, le, is)
-look_wider before mid now (refusals.VersionGone number) le is = absurd is
-look_wider before mid now refusals.NoSuchSymbol le is = absurd is
-look_wider before mid now (refusals.NoSuchVersion asked) le is = absurd is
-look_wider before mid now (refusals.Moved at) le is = absurd is
-look_wider before mid now (refusals.Unsorted row) le is = absurd is
-look_wider before mid now (refusals.SchemaDiffers column) le is = absurd is
-look_wider before mid now (refusals.AppendBefore last first) le is = absurd is
-look_wider before mid now (refusals.OutsideRange row) le is = absurd is
-look_wider before mid now refusals.EmptyUpdate le is = absurd is
-look_wider before mid now (refusals.NoSuchColumn clause position) le is = absurd is
-look_wider before mid now (refusals.TypeMismatch clause) le is = absurd is
-look_wider before mid now (refusals.Overflow clause row) le is = absurd is
-look_wider before mid now (refusals.GroupOverflow clause group) le is = absurd is
-look_wider before mid now (refusals.NotTimeIndexed clause) le is = absurd is
-look_wider before mid now refusals.SnapshotExists le is = absurd is
-look_wider before mid now refusals.NoSuchSnapshot le is = absurd is
-look_wider before mid now refusals.NoStaged le is = absurd is
-look_wider before mid now (refusals.StagedOverlap piece) le is = absurd is
-look_wider before mid now (refusals.Spent count) le is = absurd is
-look_wider before mid now (refusals.TooLarge what limit) le is = absurd is
+look_wider before mid now why le is = absurd is
 
 -- a look that refuses refuses the whole call
 pub walk_wider : (before mid now : ℕ) (others old between new : History) (refused : Refused) → before ≤ mid → between ≡ others ++ old → RefusesWalk mid now between new refused → RefusesWalk before now old new refused
@@ -156,28 +143,55 @@ any_later p zero xs e = e
 any_later p (suc n) [] e = e
 any_later p (suc n) (x ∷ xs) e = or_right (p x) (list_any p xs) (any_later p n xs e)
 
-pub gone_was_met : (client : ℕ) (symbol : Name) (before more : History) (place number : ℕ) (refused : Refused) → ∥ IsLawful (more ++ before) ∥₁ → list_any (own_refers client symbol) more ≡ false
+pub gone_was_met : (client : ℕ) (symbol : Name) (Fits : Version → Type 0) (before more : History) (place number : ℕ) (refused : Refused) → ∥ IsLawful (more ++ before) ∥₁ → list_any (own_refers client symbol) more ≡ false
     → length before ≤ place → is_buried (state_of before symbol) number ≡ false → is_buried (state_of (history_at (more ++ before) place) symbol) number ≡ true
-    → MetCommit (more ++ before) symbol refused → MetAt client symbol (length before) (more ++ before) refused
-gone_was_met client symbol before more place number refused lawful none le live buried m =
+    → LosesBase (more ++ before) symbol Fits (length before) (length (more ++ before)) → MetCommit (more ++ before) symbol refused → MetAt client symbol Fits (length before) (more ++ before) refused
+gone_was_met client symbol Fits before more place number refused lawful none le live buried lost m =
     let cut = drop (length (more ++ before) - place) more in
     let some : list_any (refers symbol) cut ≡ true = referred_since cut before symbol number live (subst (λ h. is_buried (state_of h symbol) number ≡ true) (at_place more before place le) buried) in
     let all : list_any (refers symbol) more ≡ true = any_later (refers symbol) (length (more ++ before) - place) more some in
     record {
       met = subst (IsMet client symbol (length before) (more ++ before)) (sym (m.place ∙ since_told (more ++ before) symbol lawful)) (met_here client symbol before more none all);
       why = m.why;
+      shown = sym (m.place ∙ since_told (more ++ before) symbol lawful);
+      lost = lost;
     }
 
 gone_of : (before now : ℕ) (h : History) (symbol : Name) (version number : ℕ) (why : Refusal) → IsGetRefusal before now h symbol version why → why ≡ refusals.VersionGone number → IsGone h symbol version
 gone_of before now h symbol version number why is e = (subst (IsGetRefusal before now h symbol version) e is).1
 
+-- the key that was found gone is one of the base
+lost_of : (symbol : Name) (Fits : Version → Type 0) (IsSought : Linked → Key → Type 0) (before mid new more : History) (v : Version) (version place : ℕ) (why : Refusal) (number : ℕ) → new ≡ more ++ mid → history_at new (length before) ≡ before
+    → length before ≤ place → place ≤ length mid → base_of (state_of before symbol) ≡ Some v → version ≡ v.number
+    → ((link : Linked) (key : Key) → IsSought link key → Contains (reached link) key × ((key ≡ link.row.index) ⊎ Fits v))
+    → why ≡ refusals.VersionGone number → LacksAt mid symbol version IsSought place why → LosesBase new symbol Fits (length before) (length new)
+lost_of symbol Fits IsSought before mid new more v version place why number is there low high base number_is sorts e l =
+    let lacks = subst (LacksAt mid symbol version IsSought place) e l in
+    let here : history_at new place ≡ history_at mid place = ap (λ h. history_at h place) is ∙ history_at_later mid more place high in
+    let sort = sorts lacks.0 lacks.3 lacks.4 in
+    record {
+      version = v;
+      base = ap (λ h. base_of (state_of h symbol)) there ∙ base;
+      place = place;
+      behind = low;
+      before = omega (arith, high, ap length is, length-append more mid);
+      link = lacks.0;
+      link_is = subst (λ h. Contains (links h symbol) lacks.0) (sym here) lacks.1;
+      number = lacks.2 ∙ number_is;
+      key = lacks.3;
+      reached_by = sort.0;
+      gone = ap (λ h. stored h lacks.3) here ∙ lacks.5;
+      judged = sort.1;
+    }
+
 -- so the look at the reference tells that commit
-pub base_gone : (client faults now : ℕ) (symbol : Name) (later before old mid new first more : History) → old ≡ later ++ before → list_any (own_refers client symbol) later ≡ false
+pub base_gone : (client faults now : ℕ) (symbol : Name) (Fits : Version → Type 0) (IsSought : Linked → Key → Type 0) (v : Version) (later before old mid new first more : History) → old ≡ later ++ before → list_any (own_refers client symbol) later ≡ false
     → ∥ IsLawful new ∥₁ → mid ≡ first ++ old → new ≡ more ++ mid → AllByOthers client first → AllByOthers client more
-    → (target : Target) → target.symbol ≡ symbol → is_buried (state_of before symbol) target.version ≡ false
-    → (got refused : Refused) (number : ℕ) → got.why ≡ refusals.VersionGone number → RefusesGet faults now old mid target.symbol target.version got
-    → MetCommit new symbol refused → MetAt client symbol (length before) new refused
-base_gone client faults now symbol later before old mid new first more split none lawful_new is_mid is_new by_first by_more target symbol_is live got refused number why r m =
+    → (target : Target) → target.symbol ≡ symbol → is_buried (state_of before symbol) target.version ≡ false → base_of (state_of before symbol) ≡ Some v → target.version ≡ v.number
+    → ((link : Linked) (key : Key) → IsSought link key → Contains (reached link) key × ((key ≡ link.row.index) ⊎ Fits v))
+    → (got refused : Refused) (number : ℕ) → got.why ≡ refusals.VersionGone number → RefusesGet faults now old mid target.symbol target.version got → LacksKey mid target IsSought got
+    → MetCommit new symbol refused → MetAt client symbol Fits (length before) new refused
+base_gone client faults now symbol Fits IsSought v later before old mid new first more split none lawful_new is_mid is_new by_first by_more target symbol_is live base number_is sorts got refused number why r lacks m =
     let gone = gone_of faults now (history_at mid got.place) target.symbol target.version number got.why r.why why in
     let all : History = more ++ (first ++ later) in
     let whole : new ≡ all ++ before =
@@ -192,5 +206,9 @@ base_gone client faults now symbol later before old mid new first more split non
     let here : history_at (all ++ before) got.place ≡ history_at mid got.place =
     ap (λ h. history_at h got.place) (sym whole ∙ is_new) ∙ history_at_later mid more got.place r.place.to in
     let buried : is_buried (state_of (history_at (all ++ before) got.place) symbol) target.version ≡ true = subst (λ h. is_buried (state_of h symbol) target.version ≡ true) (sym here) buried_mid in
-    let met = gone_was_met client symbol before all got.place target.version refused (subst (λ h. ∥ IsLawful h ∥₁) whole lawful_new) no_own low live buried (subst (λ h. MetCommit h symbol refused) whole m) in
-    subst (λ h. MetAt client symbol (length before) h refused) (sym whole) met
+    let there : history_at new (length before) ≡ before = ap (λ h. history_at h (length before)) whole ∙ (history_at_later before all (length before) (omega arith) ∙ history_at_end before) in
+    let lost = lost_of symbol Fits IsSought before mid new more v target.version got.place got.why number is_new there low r.place.to base number_is sorts why
+    (subst (λ s. LacksAt mid s target.version IsSought got.place got.why) symbol_is lacks) in
+    let met = gone_was_met client symbol Fits before all got.place target.version refused (subst (λ h. ∥ IsLawful h ∥₁) whole lawful_new) no_own low live buried
+    (subst (λ h. LosesBase h symbol Fits (length before) (length h)) whole lost) (subst (λ h. MetCommit h symbol refused) whole m) in
+    subst (λ h. MetAt client symbol Fits (length before) h refused) (sym whole) met

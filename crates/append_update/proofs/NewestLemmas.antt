@@ -196,7 +196,7 @@ module _ (h : History) (symbol : Name) (v : Version) (link : Linked) (index : In
 
 -- and with one, whose index was put under its key
 pub newest_is : (h : History) (symbol : Name) (prune : Bool) (tip : ChainTip) (row : LinkRow) (index : Index) → ∥ IsLawful h ∥₁ → IsTipOf h symbol prune tip → tip.newest ≡ Some row
-    → IsIndex index → ((l : Linked) → Contains (links h symbol) l → l.row ≡ row → l.index ≡ index) → (v : Version) × IsNewest h symbol v index
+    → IsIndex index → ((l : Linked) → Contains (links h symbol) l → l.row ≡ row → l.index ≡ index) → (v : Version) × IsNewest h symbol v index × (row.version ≡ v.number)
 newest_is h symbol prune tip row index lawful is e rules same =
     let found = first_live (state_of h symbol).buried (links h symbol) (state_of h symbol).versions (lawful_is_paired h symbol lawful) row (newest_found h symbol prune tip is (Some row) e) in
     let index_is : found.link.index ≡ index = same found.link found.link_is found.row_is in
@@ -223,7 +223,16 @@ newest_is h symbol prune tip row index lawful is e rules same =
         keys_are = base_keeps h symbol v found.link index found.first number link_is index_is;
         tiled = ∥∥₁_map found.pair (λ p. p.link.assembled);
       },
+      sym (ap (λ (r : LinkRow). r.version) found.row_is) ∙ number,
     )
+
+-- also where its index was not read
+pub newest_numbered : (h : History) (symbol : Name) (prune : Bool) (tip : ChainTip) (row : LinkRow) → ∥ IsLawful h ∥₁ → IsTipOf h symbol prune tip → tip.newest ≡ Some row
+    → (v : Version) × (base_of (state_of h symbol) ≡ Some v) × (row.version ≡ v.number)
+newest_numbered h symbol prune tip row lawful is e =
+    let found = first_live (state_of h symbol).buried (links h symbol) (state_of h symbol).versions (lawful_is_paired h symbol lawful) row (newest_found h symbol prune tip is (Some row) e) in
+    let number : found.link.row.version ≡ found.version.number = nat_told found.link.row.version found.version.number (∥∥₁_map found.pair (λ p. p.link.number)) in
+    (found.version, found.first, sym (ap (λ (r : LinkRow). r.version) found.row_is) ∙ number)
 
 -- the newest live link is a link of the symbol, and its version is not buried
 pub newest_linked : (h : History) (symbol : Name) (prune : Bool) (tip : ChainTip) (row : LinkRow) → ∥ IsLawful h ∥₁ → IsTipOf h symbol prune tip → tip.newest ≡ Some row

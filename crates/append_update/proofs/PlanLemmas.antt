@@ -6,7 +6,9 @@ use Rattle.std.proofs.lemmas.List.{append-nil, append_assoc}
 use Rattle.frame_core.specs.declared.refusal.Extent.{Extent}
 use Rattle.frame_core.specs.declared.refusal.Extent.TheVariants as extents
 use Rattle.frame_core.specs.Ranges.{Range, IsRange}
-use Rattle.frame_core.specs.Frames.{Frame, replace_range}
+use Rattle.frame_core.specs.Schemas.{schemas_differ}
+use Rattle.frame_core.specs.Frames.{Frame, replace_range, first_stamp, last_stamp}
+use Rattle.reply_model.specs.Answering.{append_before}
 use Rattle.frame_core.specs.Limits.{IsStorable, too_large, frame_too_large}
 use Rattle.key_kind.specs.Names.{Name}
 use Rattle.bucket_core.specs.declared.event.Change.{Change}
@@ -28,7 +30,7 @@ use Rattle.frame_write.proofs.MeetLemmas.{none_in_both, others_refer_not}
 use Rattle.append_update.specs.declared.base.Base.{Base}
 use Rattle.append_update.specs.declared.wish.Wish.{Wish}
 use Rattle.append_update.specs.declared.wish.Wish.TheVariants as wishes
-use Rattle.append_update.specs.Asking.{answer_to, IsWish, IsPlanOf, IsAlone, why_missing}
+use Rattle.append_update.specs.Asking.{answer_to, IsWish, IsPlanOf, IsAlone, why_missing, MayStandBehind, HasColumnsOf}
 use Rattle.append_update.specs.Newest.{IsNewest, IsBaseAt}
 use Rattle.append_update.specs.Replacing.{appended}
 use Rattle.reply_model.specs.Blocks.{run_cutting}
@@ -142,7 +144,7 @@ append_over_is h symbol options v base frame plan n f may is =
 -- ---- the base of a walked tip
 
 abbrev pub base_found : (client : ℕ) (old new others : History) (symbol : Name) (prune : Bool) (tip : ChainTip) (base : Base) (at : IsTipAt old symbol prune tip) → list_any (own_refers client symbol) at.later ≡ false → new ≡ others ++ old → AllByOthers client others
-    → (v : Version) × IsNewest (history_at old tip.place) symbol v base.index → IsTargetIndex new base.target base.index → base.target.symbol ≡ symbol → base.target.place ≡ tip.place
+    → (v : Version) × IsNewest (history_at old tip.place) symbol v base.index × (base.target.version ≡ v.number) → IsTargetIndex new base.target base.index → base.target.symbol ≡ symbol → base.target.place ≡ tip.place
     → is_buried (state_of (history_at old tip.place) symbol) base.target.version ≡ false → IsBaseAt client new symbol base
 base_found client old new others symbol prune tip base at none is by_others found target symbol_is place live =
     let here = walked_here old symbol prune tip at in
@@ -154,10 +156,21 @@ base_found client old new others symbol prune tip base at none is by_others foun
       none_own = none_in_both (own_refers client symbol) others at.later (others_refer_not client symbol others by_others) none;
       version = found.0;
       newest = subst (λ h. IsNewest h symbol found.0 base.index) here found.1;
+      number_is = found.2;
       target = target;
       symbol_is = symbol_is;
       live = subst (λ h. is_buried (state_of h symbol) base.target.version ≡ false) here live;
     }
+
+-- ---- what the index of a base tells
+
+-- the frame has the base's columns
+pub columns_fit : (v : Version) (frame : Frame) → schemas_differ v.frame.schema frame.schema ≡ None → HasColumnsOf frame v
+columns_fit v frame e = rw e refl
+
+-- and stands behind it
+pub stands_behind : (v : Version) (frame : Frame) → schemas_differ v.frame.schema frame.schema ≡ None → append_before (last_stamp v.frame.rows) (first_stamp frame.rows) ≡ None → MayStandBehind frame v
+stands_behind v frame e f = rw (e, f) refl
 
 -- ---- the plan of what is asked where there is no live version
 

@@ -22,7 +22,7 @@ use Rattle.append_update.specs.declared.base.Base.{Base}
 use Rattle.append_update.specs.declared.wish.Wish.TheVariants as wishes
 use Rattle.append_update.specs.Asking.{answer_to, IsPlanOf}
 use Rattle.append_update.specs.Bases.{Divides}
-use Rattle.append_update.specs.Looking.{RefusesPlan}
+use Rattle.append_update.specs.Looking.{AnyBase, RefusesPlan}
 use Rattle.append_update.specs.Newest.{IsNewest}
 use Rattle.append_update.specs.Replacing.{replaced, AreEdges}
 use Rattle.append_update.proofs.PlanLemmas.{inside_range}
@@ -81,8 +81,8 @@ module _ (h : History) (symbol : Name) (options : Options) (v : Version) (is : b
   clear_plans (Err refused) p = tt
 
   -- and its refusals
-  pub clear_refusals : (client before now : ℕ) (old new : History) (r : Result LinkPlan Refused) → IfErr r (RefusesPlan client symbol (λ st. update_answer st false options.prune options.at (Some range) (record v.frame { rows = [] })) h before now old new)
-      → IfErr r (RefusesPlan client symbol (answer_to (wishes.Clear range) options.prune options.at) h before now old new)
+  pub clear_refusals : (client before now : ℕ) (old new : History) (r : Result LinkPlan Refused) → IfErr r (RefusesPlan client symbol AnyBase (λ st. update_answer st false options.prune options.at (Some range) (record v.frame { rows = [] })) h before now old new)
+      → IfErr r (RefusesPlan client symbol AnyBase (answer_to (wishes.Clear range) options.prune options.at) h before now old new)
   clear_refusals client before now old new (Ok plan) p = tt
   clear_refusals client before now old new (Err refused) p = elim p [
     | inl look ↦ inl look

@@ -11,33 +11,36 @@ use Rattle.store_model.specs.Library.{State}
 use Rattle.store_model.specs.Snapshots.{Library, library_of}
 use Rattle.expr_clause.specs.declared.command.Command.{Command}
 use Rattle.expr_clause.specs.declared.command.Command.TheVariants as commands
+use Rattle.reply_model.specs.declared.reply.Reply.{Reply}
+use Rattle.reply_model.specs.Losses.{LosesBase, FindsGone}
 use Rattle.reply_model.specs.Answering.{Session, Answer, answered, refused, ◌then◌, frame_of, stamp_of}
 use Rattle.reply_model.specs.CommitAnswers.{append_answer, update_answer, update_range, outside}
 use Rattle.reply_model.specs.Answers.{answer}
 use Rattle.frame_write.specs.declared.options.Committed.{Committed}
 use Rattle.frame_write.specs.declared.options.Options.{Options}
 use Rattle.frame_write.specs.Tries.{DidTries}
-use Rattle.frame_write.specs.Writes.{IsLegalCall}
+use Rattle.frame_write.specs.Writes.{IsLegalCall, Whole}
 use Rattle.frame_write.proofs.CommandLemmas.{MakesVersion, of_append, of_update, of_delete_range}
 use Rattle.frame_write.proofs.TriesLemmas.{tries_none}
 use Rattle.frame_write.proofs.LegalWrites.{tries_are_legal}
 use Rattle.append_update.specs.declared.wish.Wish.{Wish}
 use Rattle.append_update.specs.declared.wish.Wish.TheVariants as wishes
-use Rattle.append_update.specs.Asking.{answer_to, IsAnswered, Declines, Wants}
+use Rattle.append_update.specs.Asking.{answer_to, IsAnswered, Declines, Wants, FitsBase, Loses}
 use Rattle.append_update.specs.Replies.{IsLegalAppend, IsLegalUpdate, IsLegalDelete}
 use Rattle.append_update.proofs.AskedLemmas.{asked_by, good_range}
 
 -- what all tries did of a wish
 abbrev pub AllTries : ℕ → Bool → Name → Wish → Options → ℕ → ℕ → ℕ → ℕ → History → History → Result Committed Refused → Type 0
 AllTries client sole symbol wish options most limit before now old new result =
-    DidTries client sole symbol (IsAnswered client symbol wish options) (Declines symbol wish options) (Wants symbol wish options) most limit before now old new result
+    DidTries client sole symbol (IsAnswered client symbol wish options) (Declines symbol wish options) (Wants symbol wish options) (Loses symbol wish) most limit before now old new result
 
 -- the tries of a command that asks so
 wish_is_legal : (s : Session) (c : Command) (sole : Bool) (symbol : Name) (wish : Wish) (options : Options) (client most limit before now : ℕ) (old new : History) (result : Result Committed Refused) → MakesVersion c symbol
     → ((listed l : Library) (p : ℕ) → answer s listed l p c ≡ Some (answered (answer_to wish options.prune options.at (l.state symbol))))
+    → ((h : History) (limit : ℕ) (reply : Reply) (look showed : ℕ) → Loses symbol wish h look showed → FindsGone h (record { session = s; limit = limit }) c reply symbol look showed)
     → s.client ≡ client → s.tries ≡ most → AllTries client sole symbol wish options most limit before now old new result → IsLegalCall s c limit before now old new result
-wish_is_legal s c sole symbol wish options client most limit before now old new result makes is same_client same_tries d =
-    tries_are_legal s limit c sole symbol (IsAnswered s.client symbol wish options) (Declines symbol wish options) (Wants symbol wish options) (asked_by s c symbol wish options makes is) before now old new result
+wish_is_legal s c sole symbol wish options client most limit before now old new result makes is loses same_client same_tries d =
+    tries_are_legal s limit c sole symbol (IsAnswered s.client symbol wish options) (Declines symbol wish options) (Wants symbol wish options) (Loses symbol wish) (asked_by s c symbol wish options makes is loses) before now old new result
     (subst (λ n. AllTries n sole symbol wish options s.tries limit before now old new result) (sym same_client)
     (subst (λ t. AllTries client sole symbol wish options t limit before now old new result) (sym same_tries) d))
 
@@ -53,6 +56,7 @@ append_is_legal client sole symbol frame wish options limit before now old new r
     wish_is_legal s (commands.Append symbol n asked options.prune) sole symbol wish options client options.tries limit before now old new result of_append
     (λ listed l p. with_brought s n frame.now asked options.at (λ at f. append_answer (l.state symbol) options.prune at f) b.frame_is b.stamp_is
     ∙ ap (λ w. Some (answered (answer_to w options.prune options.at (l.state symbol)))) (sym is))
+    (λ h most reply look showed l. (frame.now, b.frame_is, subst (λ w. LosesBase h symbol (FitsBase w) look showed) is l))
     b.client_is b.tries_are d
 
 -- an update whose range is known
@@ -68,6 +72,7 @@ update_is_legal client sole symbol frame asked range upsert wish options limit b
     (λ listed l p. with_brought s n frame.now stamp options.at (λ at f. update_answer (l.state symbol) upsert options.prune at asked f) b.frame_is b.stamp_is
     ∙ (ap (λ r. Some (answered r)) (same_range (l.state symbol) upsert options.prune options.at asked range frame.now range_is inside)
     ∙ ap (λ w. Some (answered (answer_to w options.prune options.at (l.state symbol)))) (sym is)))
+    (λ h most reply look showed l. (frame.now, b.frame_is, range, range_is, subst (λ w. LosesBase h symbol (FitsBase w) look showed) is l))
     b.client_is b.tries_are d
 
 pub delete_is_legal : (client : ℕ) (sole : Bool) (symbol : Name) (range : Range) (wish : Wish) (options : Options) (limit before now : ℕ) (old new : History) (result : Result Committed Refused)
@@ -76,6 +81,7 @@ delete_is_legal client sole symbol range wish options limit before now old new r
     wish_is_legal s (commands.DeleteRange symbol range stamp options.prune) sole symbol wish options client options.tries limit before now old new result of_delete_range
     (λ listed l p. ap (λ t. Some (answered (answer_to (wishes.Clear range) options.prune t (l.state symbol)))) b.stamp_is
     ∙ ap (λ w. Some (answered (answer_to w options.prune options.at (l.state symbol)))) (sym is))
+    (λ h most reply look showed l. subst (λ w. LosesBase h symbol (FitsBase w) look showed) is l)
     b.client_is b.tries_are d
 
 -- an update that is refused before a try
@@ -83,7 +89,7 @@ pub unranged_is_legal : (client : ℕ) (sole : Bool) (symbol : Name) (frame : Fr
     → update_range asked frame ≡ Err why → 1 ≤ options.tries → place ≡ length old → IsLegalUpdate limit client symbol frame asked upsert options before now old old (Err (record { place = place; why = why }))
 unranged_is_legal client sole symbol frame asked upsert options limit before now place old why range_is some at = λ s n stamp b.
     let c : Command = commands.Update symbol n asked upsert stamp options.prune in
-    tries_are_legal s limit c sole symbol (λ m. ⊥) (λ h w. w ≡ why) (λ h. ⊥)
+    tries_are_legal s limit c sole symbol (λ m. ⊥) (λ h w. w ≡ why) (λ h. ⊥) Whole
     (record {
       makes = of_update;
       answers = λ m e. absurd e;
@@ -93,6 +99,7 @@ unranged_is_legal client sole symbol frame asked upsert options limit before now
         λ l p. with_brought s n frame stamp options.at (λ at f. update_answer ((library_of h).state symbol) upsert options.prune at asked f) b.frame_is b.stamp_is ∙ (unranged ((library_of h).state symbol) ∙ ap (λ x. Some (refused x)) (sym e)),
       );
       wants = λ h e. absurd e;
+      loses = λ h most reply look showed e. absurd e;
     })
     before now old old (Err (record { place = place; why = why }))
     (inr (record {

@@ -34,9 +34,9 @@ use Rattle.frame_write.specs.Links.{IsLinkMade}
 use Rattle.frame_write.specs.Tries.{Made, DidTry, DidFail, IsBusy}
 use Rattle.frame_write.proofs.MeetLemmas.{met_sooner}
 use Rattle.frame_write.proofs.CommitLemmas.{walk_stops}
-use Rattle.frame_write.proofs.TriesLemmas.{try_from}
+use Rattle.frame_write.proofs.TriesLemmas.{try_from, met_from, fail_from}
 use Rattle.append_update.specs.declared.wish.Wish.{Wish}
-use Rattle.append_update.specs.Asking.{answer_to, IsAnswered, Declines, Wants, IsPlanOf}
+use Rattle.append_update.specs.Asking.{answer_to, IsAnswered, Declines, Wants, FitsBase, IsPlanOf}
 use Rattle.append_update.specs.Attempts.{DidAttempt}
 use Rattle.append_update.specs.Looking.{RefusesPlan}
 use Rattle.append_update.proofs.BaseLemmas.{walked_here, walk_wider}
@@ -61,9 +61,9 @@ tip_later old new others symbol prune tip is at = record {
 }
 
 -- a refusal of a look is one of the whole try
-pub plan_wider : (client : ℕ) (symbol : Name) (answer : State → Result Answer Refusal) (h : History) (before mid now : ℕ) (others old between new : History) (refused : Refused) → before ≤ mid → between ≡ others ++ old
-    → RefusesPlan client symbol answer h mid now between new refused → RefusesPlan client symbol answer h before now old new refused
-plan_wider client symbol answer h before mid now others old between new refused le is r = elim r [
+pub plan_wider : (client : ℕ) (symbol : Name) (Fits : Version → Type 0) (answer : State → Result Answer Refusal) (h : History) (before mid now : ℕ) (others old between new : History) (refused : Refused) → before ≤ mid → between ≡ others ++ old
+    → RefusesPlan client symbol Fits answer h mid now between new refused → RefusesPlan client symbol Fits answer h before now old new refused
+plan_wider client symbol Fits answer h before mid now others old between new refused le is r = elim r [
   | inl look ↦ elim look [
     | inl w ↦ inl (inl (walk_wider before mid now others old between new refused le is w))
     | inr m ↦ inl (inr m)
@@ -74,58 +74,18 @@ plan_wider client symbol answer h before mid now others old between new refused 
 -- ---- where the store was full
 
 busy_else : (Busy : History → Type 0) (old new : History) (place : ℕ) (why : Refusal) → (q : ℕ) × (length old ≤ q) × (q ≤ place) × Busy (history_at new q) → IsBusy Busy old new place why
-busy_else busy old new place refusals.NoMemory some = tt
-busy_else busy old new place refusals.StoreFault some = tt
 busy_else busy old new place (refusals.Spent count) some = some
-busy_else busy old new place refusals.NoSuchSymbol some = tt
-busy_else busy old new place (refusals.NoSuchVersion asked) some = tt
-busy_else busy old new place (refusals.VersionGone version) some = tt
-busy_else busy old new place (refusals.Moved at) some = tt
-busy_else busy old new place (refusals.Unsorted row) some = tt
-busy_else busy old new place (refusals.SchemaDiffers column) some = tt
-busy_else busy old new place (refusals.AppendBefore last first) some = tt
-busy_else busy old new place (refusals.OutsideRange row) some = tt
-busy_else busy old new place refusals.EmptyUpdate some = tt
-busy_else busy old new place (refusals.NoSuchColumn clause position) some = tt
-busy_else busy old new place (refusals.TypeMismatch clause) some = tt
-busy_else busy old new place (refusals.Overflow clause row) some = tt
-busy_else busy old new place (refusals.GroupOverflow clause group) some = tt
-busy_else busy old new place (refusals.NotTimeIndexed clause) some = tt
-busy_else busy old new place refusals.SnapshotExists some = tt
-busy_else busy old new place refusals.NoSuchSnapshot some = tt
-busy_else busy old new place refusals.NoStaged some = tt
-busy_else busy old new place (refusals.StagedOverlap piece) some = tt
-busy_else busy old new place (refusals.TooLarge what most) some = tt
+busy_else busy old new place why some = tt
 
 look_busy : (Busy : History → Type 0) (before now : ℕ) (old new : History) (place : ℕ) (why : Refusal) → IsLookRefusal before now why → IsBusy Busy old new place why
-look_busy busy before now old new place refusals.NoMemory is = tt
-look_busy busy before now old new place refusals.StoreFault is = tt
 look_busy busy before now old new place (refusals.Spent count) is = absurd is
-look_busy busy before now old new place refusals.NoSuchSymbol is = tt
-look_busy busy before now old new place (refusals.NoSuchVersion asked) is = tt
-look_busy busy before now old new place (refusals.VersionGone version) is = tt
-look_busy busy before now old new place (refusals.Moved at) is = tt
-look_busy busy before now old new place (refusals.Unsorted row) is = tt
-look_busy busy before now old new place (refusals.SchemaDiffers column) is = tt
-look_busy busy before now old new place (refusals.AppendBefore last first) is = tt
-look_busy busy before now old new place (refusals.OutsideRange row) is = tt
-look_busy busy before now old new place refusals.EmptyUpdate is = tt
-look_busy busy before now old new place (refusals.NoSuchColumn clause position) is = tt
-look_busy busy before now old new place (refusals.TypeMismatch clause) is = tt
-look_busy busy before now old new place (refusals.Overflow clause row) is = tt
-look_busy busy before now old new place (refusals.GroupOverflow clause group) is = tt
-look_busy busy before now old new place (refusals.NotTimeIndexed clause) is = tt
-look_busy busy before now old new place refusals.SnapshotExists is = tt
-look_busy busy before now old new place refusals.NoSuchSnapshot is = tt
-look_busy busy before now old new place refusals.NoStaged is = tt
-look_busy busy before now old new place (refusals.StagedOverlap piece) is = tt
-look_busy busy before now old new place (refusals.TooLarge what most) is = tt
+look_busy busy before now old new place why is = tt
 
 -- ---- the ends of a try
 
 module _ (client : ℕ) (sole : Bool) (symbol : Name) (wish : Wish) (options : Options) (limit before now : ℕ) (old : History) where
   abbrev pub Did : History → Result Committed Refused → Type 0
-  Did new r = DidAttempt client sole symbol (IsAnswered client symbol wish options) (Declines symbol wish options) (Wants symbol wish options) limit before now old new r
+  Did new r = DidAttempt client sole symbol (IsAnswered client symbol wish options) (Declines symbol wish options) (Wants symbol wish options) (FitsBase wish) limit before now old new r
 
   -- a look failed
   pub look_ends : (new : History) (refused : Refused) → Looks IsClaimed client sole old new → RefusesWalk before now old new refused → Did new (Err refused)
@@ -134,7 +94,7 @@ module _ (client : ℕ) (sole : Bool) (symbol : Name) (wish : Wish) (options : O
 
   -- there is no plan
   pub plan_ends : (new : History) (tip : ChainTip) (refused : Refused) → Looks IsClaimed client sole old new → (at : IsTipAt new symbol options.prune tip) → length old ≤ tip.place
-      → RefusesPlan client symbol (answer_to wish options.prune options.at) at.before before now old new refused → Did new (Err refused)
+      → RefusesPlan client symbol (FitsBase wish) (answer_to wish options.prune options.at) at.before before now old new refused → Did new (Err refused)
   plan_ends new tip refused looks at from r = elim r [
     | inl look ↦ elim look [
       | inl w ↦ look_ends new refused looks w
@@ -142,6 +102,11 @@ module _ (client : ℕ) (sole : Bool) (symbol : Name) (wish : Wish) (options : O
         went = went_looks client sole old new looks;
         met = met_sooner client symbol (length at.before) (length old) new refused.place (subst (λ n. length old ≤ n) at.place from) m.met;
         why = m.why;
+        shown = m.shown;
+        look = length at.before;
+        from = subst (λ n. length old ≤ n) at.place from;
+        between = m.met.added;
+        lost = m.lost;
       }))
     ]
     | inr d ↦
@@ -226,7 +191,7 @@ module _ (client : ℕ) (sole : Bool) (symbol : Name) (wish : Wish) (options : O
               | inl m ↦ subst (IsBusy (Wants symbol wish options) old new refused.place) (sym m.why) tt
               | inr f ↦ busy_else (Wants symbol wish options) old new refused.place refused.why (tip.place, from, omega (arith, within (IsAnswered client symbol wish options) refused f, size, at.place), wants)
             ] in
-            elim (try_from client sole symbol (IsAnswered client symbol wish options) limit before now tip.place (length old) old mid new from looks (Err refused) d) [
-              | inl m ↦ inl m
-              | inr f ↦ inr (inr (inl (f, busy)))
+            elim d [
+              | inl m ↦ inl (record { look = tip.place; from = from; wants = wants; met = met_from client sole symbol tip.place tip.place old mid new (omega arith) looks refused m })
+              | inr f ↦ inr (inr (inl (inr (fail_from client sole symbol (IsAnswered client symbol wish options) limit before now tip.place (length old) old mid new from looks refused f), busy)))
             ]

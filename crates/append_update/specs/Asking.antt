@@ -1,7 +1,8 @@
 -- What a command asks of the newest live version of its symbol.
 --     answer_to           what the one-thread library answers
 --     IsWish              when a command may ask so
---     IsAnswered, Declines, Wants      a commit that makes what is asked; a refusal; a history in which there is a version to make
+--     MayStandBehind, HasColumnsOf, FitsBase      whether what is asked fits the base, as its index tells
+--     IsAnswered, Declines, Wants, Loses      a commit that makes what is asked; a refusal; a history in which there is a version to make; a base that is lost
 --     IsPlanOf            a plan of what is asked
 --     IsAlone, why_missing        the plan where there is no live version; why there is none
 use Rattle.std.specs.Prelude.{◌≡◌, ℕ, ℤ, Bool, true, false, if◌then◌else◌, [], ◌∷◌, Option, Some, None, Result, Ok, Err}
@@ -9,15 +10,17 @@ use Rattle.frame_core.specs.declared.refusal.Asked.TheVariants as asks
 use Rattle.frame_core.specs.declared.refusal.Refusal.{Refusal}
 use Rattle.frame_core.specs.declared.refusal.Refusal.TheVariants as refusals
 use Rattle.frame_core.specs.Ranges.{IsRange}
+use Rattle.frame_core.specs.Frames.{Frame}
 use Rattle.frame_core.specs.Limits.{IsStorable}
 use Rattle.segment_cut.specs.Cuttings.{IsCutting}
 use Rattle.key_kind.specs.Names.{Name}
 use Rattle.bucket_core.specs.declared.event.Change.{Change}
 use Rattle.bucket_core.specs.declared.event.Change.TheVariants as changes
 use Rattle.bucket_core.specs.History.{History}
-use Rattle.store_model.specs.Library.{State, state_of, next_number}
-use Rattle.reply_model.specs.Answering.{Answer, committed, pruned}
+use Rattle.store_model.specs.Library.{State, Version, state_of, next_number}
+use Rattle.reply_model.specs.Answering.{Answer, committed, pruned, may_append, fits_schema}
 use Rattle.reply_model.specs.CommitAnswers.{append_answer, update_answer, clear_answer, outside}
+use Rattle.reply_model.specs.Losses.{LosesBase}
 use Rattle.reply_model.specs.Standing.{parts_laid}
 use Rattle.frame_write.specs.declared.options.Options.{Options}
 use Rattle.frame_write.specs.declared.pieces.LinkPlan.{LinkPlan}
@@ -27,6 +30,7 @@ use Rattle.frame_write.specs.Pieces.{laid}
 use Rattle.frame_write.specs.Tries.{Made}
 use Rattle.append_update.specs.declared.wish.Wish.{Wish}
 use Rattle.append_update.specs.declared.wish.Wish.TheVariants as wishes
+use Rattle.append_update.specs.Looking.{AnyBase}
 use Rattle.append_update.specs.RowBlocks.{AreParts, KeepKeys, AreSmall, IsBuiltOn}
 use Rattle.append_update.specs.Shares.{MakesSlots}
 use Rattle.reply_model.specs.Blocks.{run_cutting}
@@ -43,6 +47,20 @@ IsWish (wishes.Append frame) = IsStorable frame.now
 IsWish (wishes.Replace frame range upsert) = IsStorable frame.now × IsRange range × (outside 1 range frame.now.rows ≡ None)
 IsWish (wishes.Clear range) = IsRange range
 
+-- the frame has the base's columns, and does not begin before the base ends
+abbrev pub MayStandBehind : Frame → Version → Type 0
+MayStandBehind frame v = may_append (Some v) frame ≡ Ok frame
+
+-- the frame has the base's columns
+abbrev pub HasColumnsOf : Frame → Version → Type 0
+HasColumnsOf frame v = fits_schema v.frame frame ≡ Ok frame
+
+-- what is asked fits a base, as the base's index tells
+abbrev pub FitsBase : Wish → Version → Type 0
+FitsBase (wishes.Append frame) v = MayStandBehind frame.now v
+FitsBase (wishes.Replace frame range upsert) v = HasColumnsOf frame.now v
+FitsBase (wishes.Clear range) v = AnyBase v
+
 -- the commit has one change, and what it buries; the library answers so just before it; its row blocks are those of the change
 pub record IsAnswered (client : ℕ) (symbol : Name) (wish : Wish) (options : Options) (m : Made) : Type 0 where
   pub change : Change
@@ -57,6 +75,10 @@ Declines symbol wish options h why = answer_to wish options.prune options.at (st
 -- the library makes a version
 abbrev pub Wants : Name → Wish → Options → History → Type 0
 Wants symbol wish options h = (c : Change) × (answer_to wish options.prune options.at (state_of h symbol) ≡ Ok (committed (state_of h symbol) options.prune c))
+
+-- behind a look a key of its base is gone, which what is asked fits where the base's index was read
+abbrev pub Loses : Name → Wish → History → ℕ → ℕ → Type 0
+Loses symbol wish h look showed = LosesBase h symbol (FitsBase wish) look showed
 
 -- the plan may be tried in this history, in which the library answers its change; its pieces have the row blocks of the change, with the keys
 -- that those keep, and they are laid out as its slots

@@ -34,7 +34,7 @@ pub record IsNewest (h : History) (symbol : Name) (version : Version) (index : I
 -- the newest live version, or there is none
 abbrev pub IsBase : History → Name → Option Base → Type 0
 IsBase h symbol None = base_of (state_of h symbol) ≡ None
-IsBase h symbol (Some base) = (version : Version) × IsNewest h symbol version base.index
+IsBase h symbol (Some base) = (version : Version) × IsNewest h symbol version base.index × (base.target.version ≡ version.number)
 
 -- the newest live version at its target's place of what a client has seen, with its index; no own commit stands behind this place
 pub record IsBaseAt (client : ℕ) (seen : History) (symbol : Name) (base : Base) : Type 0 where
@@ -45,6 +45,7 @@ pub record IsBaseAt (client : ℕ) (seen : History) (symbol : Name) (base : Base
   pub none_own : list_any (own_refers client symbol) later ≡ false
   pub version : Version
   pub newest : IsNewest before symbol version base.index
+  pub number_is : base.target.version ≡ version.number
   pub target : IsTargetIndex seen base.target base.index
   pub symbol_is : base.target.symbol ≡ symbol
   pub live : is_buried (state_of before symbol) base.target.version ≡ false

@@ -12,8 +12,8 @@ ghost use Rattle.store_model.specs.Law.{IsClaimed};
 ghost use Rattle.version_chain.specs.Marking.{own_refers};
 ghost use Rattle.version_chain.specs.Tips.{IsTipAt};
 ghost use Rattle.reply_model.specs.CommitAnswers.{append_answer, update_answer, outside};
-ghost use Rattle.append_update.specs.Asking.{answer_to, IsWish, IsPlanOf, IsAlone, why_missing};
-ghost use Rattle.append_update.specs.Looking.{RefusesBase, RefusesPlan};
+ghost use Rattle.append_update.specs.Asking.{answer_to, IsWish, IsPlanOf, IsAlone, why_missing, MayStandBehind, HasColumnsOf, FitsBase};
+ghost use Rattle.append_update.specs.Looking.{AnyBase, RefusesBase, RefusesPlan};
 ghost use Rattle.append_update.specs.Newest.{IsBaseAt};
 ghost use Rattle.append_update.specs.Sizes.{text_total, kept_rows};
 
@@ -53,7 +53,7 @@ pub(crate) fn plan_on<R: Wait, B: Bucket<StoreLaw>>(
     ensures looks { Looks IsClaimed (B.number bucket.old) (B.sole bucket.old) (B.seen bucket.old) (B.seen bucket.new) }
     ensures steady { IsSteady B.number B.limit B.faults B.sole bucket.old bucket.new }
     ensures plan { IfOk result (IsPlanOf (history_at (B.seen bucket.old) tip.now.place) symbol.now options.now (answer_to wish.now options.now.prune options.now.at)) }
-    ensures refused { IfErr result (RefusesPlan (B.number bucket.old) symbol.now (answer_to wish.now options.now.prune options.now.at) (history_at (B.seen bucket.old) tip.now.place) (B.faults bucket.old) (B.faults bucket.new) (B.seen bucket.old) (B.seen bucket.new)) }
+    ensures refused { IfErr result (RefusesPlan (B.number bucket.old) symbol.now (FitsBase wish.now) (answer_to wish.now options.now.prune options.now.at) (history_at (B.seen bucket.old) tip.now.place) (B.faults bucket.old) (B.faults bucket.new) (B.seen bucket.old) (B.seen bucket.new)) }
 {
     let base = base_of(rt, alloc, bucket, symbol, tip)?;
     match base {
@@ -124,7 +124,7 @@ fn plan_over<R: Wait, B: Bucket<StoreLaw>>(
     ensures looks { Looks IsClaimed (B.number bucket.old) (B.sole bucket.old) (B.seen bucket.old) (B.seen bucket.new) }
     ensures steady { IsSteady B.number B.limit B.faults B.sole bucket.old bucket.new }
     ensures plan { (b : IsBaseAt (B.number bucket.old) (B.seen bucket.old) symbol.now base.now) → IfOk result (IsPlanOf b.before symbol.now options.now (answer_to wish.now options.now.prune options.now.at)) }
-    ensures refused { (b : IsBaseAt (B.number bucket.old) (B.seen bucket.old) symbol.now base.now) → IfErr result (RefusesPlan (B.number bucket.old) symbol.now (answer_to wish.now options.now.prune options.now.at) b.before (B.faults bucket.old) (B.faults bucket.new) (B.seen bucket.old) (B.seen bucket.new)) }
+    ensures refused { (b : IsBaseAt (B.number bucket.old) (B.seen bucket.old) symbol.now base.now) → IfErr result (RefusesPlan (B.number bucket.old) symbol.now (FitsBase wish.now) (answer_to wish.now options.now.prune options.now.at) b.before (B.faults bucket.old) (B.faults bucket.new) (B.seen bucket.old) (B.seen bucket.new)) }
 {
     match *wish {
         Wish::Append(frame) => append_over(rt, alloc, bucket, symbol, base, frame, options),
@@ -155,7 +155,7 @@ fn replace_packed<R: Wait, B: Bucket<StoreLaw>>(
     ensures looks { Looks IsClaimed (B.number bucket.old) (B.sole bucket.old) (B.seen bucket.old) (B.seen bucket.new) }
     ensures steady { IsSteady B.number B.limit B.faults B.sole bucket.old bucket.new }
     ensures plan { (b : IsBaseAt (B.number bucket.old) (B.seen bucket.old) symbol.now base.now) (upsert : Bool) → IfOk result (IsPlanOf b.before symbol.now options.now (λ st. update_answer st upsert options.now.prune options.now.at (Some range) frame.now)) }
-    ensures refused { (b : IsBaseAt (B.number bucket.old) (B.seen bucket.old) symbol.now base.now) (upsert : Bool) → IfErr result (RefusesPlan (B.number bucket.old) symbol.now (λ st. update_answer st upsert options.now.prune options.now.at (Some range) frame.now) b.before (B.faults bucket.old) (B.faults bucket.new) (B.seen bucket.old) (B.seen bucket.new)) }
+    ensures refused { (b : IsBaseAt (B.number bucket.old) (B.seen bucket.old) symbol.now base.now) (upsert : Bool) → IfErr result (RefusesPlan (B.number bucket.old) symbol.now (HasColumnsOf frame.now) (λ st. update_answer st upsert options.now.prune options.now.at (Some range) frame.now) b.before (B.faults bucket.old) (B.faults bucket.new) (B.seen bucket.old) (B.seen bucket.new)) }
 {
     match base.unpacked(alloc) {
         Ok(base) => replace_over(rt, alloc, bucket, symbol, &base, frame, range, options),
@@ -178,7 +178,7 @@ fn clear_packed<R: Wait, B: Bucket<StoreLaw>>(
     ensures looks { Looks IsClaimed (B.number bucket.old) (B.sole bucket.old) (B.seen bucket.old) (B.seen bucket.new) }
     ensures steady { IsSteady B.number B.limit B.faults B.sole bucket.old bucket.new }
     ensures plan { (b : IsBaseAt (B.number bucket.old) (B.seen bucket.old) symbol.now base.now) → IfOk result (IsPlanOf b.before symbol.now options.now (λ st. update_answer st false options.now.prune options.now.at (Some range) (record b.version.frame { rows = [] }))) }
-    ensures refused { (b : IsBaseAt (B.number bucket.old) (B.seen bucket.old) symbol.now base.now) → IfErr result (RefusesPlan (B.number bucket.old) symbol.now (λ st. update_answer st false options.now.prune options.now.at (Some range) (record b.version.frame { rows = [] })) b.before (B.faults bucket.old) (B.faults bucket.new) (B.seen bucket.old) (B.seen bucket.new)) }
+    ensures refused { (b : IsBaseAt (B.number bucket.old) (B.seen bucket.old) symbol.now base.now) → IfErr result (RefusesPlan (B.number bucket.old) symbol.now AnyBase (λ st. update_answer st false options.now.prune options.now.at (Some range) (record b.version.frame { rows = [] })) b.before (B.faults bucket.old) (B.faults bucket.new) (B.seen bucket.old) (B.seen bucket.new)) }
 {
     match base.unpacked(alloc) {
         Ok(base) => clear_over(rt, alloc, bucket, symbol, &base, range, options),
@@ -201,7 +201,7 @@ fn append_over<R: Wait, B: Bucket<StoreLaw>>(
     ensures looks { Looks IsClaimed (B.number bucket.old) (B.sole bucket.old) (B.seen bucket.old) (B.seen bucket.new) }
     ensures steady { IsSteady B.number B.limit B.faults B.sole bucket.old bucket.new }
     ensures plan { (b : IsBaseAt (B.number bucket.old) (B.seen bucket.old) symbol.now base.now) → IfOk result (IsPlanOf b.before symbol.now options.now (λ st. append_answer st options.now.prune options.now.at frame.now)) }
-    ensures refused { (b : IsBaseAt (B.number bucket.old) (B.seen bucket.old) symbol.now base.now) → IfErr result (RefusesPlan (B.number bucket.old) symbol.now (λ st. append_answer st options.now.prune options.now.at frame.now) b.before (B.faults bucket.old) (B.faults bucket.new) (B.seen bucket.old) (B.seen bucket.new)) }
+    ensures refused { (b : IsBaseAt (B.number bucket.old) (B.seen bucket.old) symbol.now base.now) → IfErr result (RefusesPlan (B.number bucket.old) symbol.now (MayStandBehind frame.now) (λ st. append_answer st options.now.prune options.now.at frame.now) b.before (B.faults bucket.old) (B.faults bucket.new) (B.seen bucket.old) (B.seen bucket.new)) }
 {
     let place = base.place();
     match judge_append(base.index(), frame) {
@@ -236,7 +236,7 @@ fn clear_over<R: Wait, B: Bucket<StoreLaw>>(
     ensures looks { Looks IsClaimed (B.number bucket.old) (B.sole bucket.old) (B.seen bucket.old) (B.seen bucket.new) }
     ensures steady { IsSteady B.number B.limit B.faults B.sole bucket.old bucket.new }
     ensures plan { (b : IsBaseAt (B.number bucket.old) (B.seen bucket.old) symbol.now base.now) → IfOk result (IsPlanOf b.before symbol.now options.now (λ st. update_answer st false options.now.prune options.now.at (Some range) (record b.version.frame { rows = [] }))) }
-    ensures refused { (b : IsBaseAt (B.number bucket.old) (B.seen bucket.old) symbol.now base.now) → IfErr result (RefusesPlan (B.number bucket.old) symbol.now (λ st. update_answer st false options.now.prune options.now.at (Some range) (record b.version.frame { rows = [] })) b.before (B.faults bucket.old) (B.faults bucket.new) (B.seen bucket.old) (B.seen bucket.new)) }
+    ensures refused { (b : IsBaseAt (B.number bucket.old) (B.seen bucket.old) symbol.now base.now) → IfErr result (RefusesPlan (B.number bucket.old) symbol.now AnyBase (λ st. update_answer st false options.now.prune options.now.at (Some range) (record b.version.frame { rows = [] })) b.before (B.faults bucket.old) (B.faults bucket.new) (B.seen bucket.old) (B.seen bucket.new)) }
 {
     match no_rows(alloc, &base.index.schema) {
         Ok(frame) => replace_over(rt, alloc, bucket, symbol, base, &frame, range, options),
@@ -270,7 +270,7 @@ fn replace_over<R: Wait, B: Bucket<StoreLaw>>(
     ensures looks { Looks IsClaimed (B.number bucket.old) (B.sole bucket.old) (B.seen bucket.old) (B.seen bucket.new) }
     ensures steady { IsSteady B.number B.limit B.faults B.sole bucket.old bucket.new }
     ensures plan { (b : IsBaseAt (B.number bucket.old) (B.seen bucket.old) symbol.now base.now) (upsert : Bool) → IfOk result (IsPlanOf b.before symbol.now options.now (λ st. update_answer st upsert options.now.prune options.now.at (Some range) frame.now)) }
-    ensures refused { (b : IsBaseAt (B.number bucket.old) (B.seen bucket.old) symbol.now base.now) (upsert : Bool) → IfErr result (RefusesPlan (B.number bucket.old) symbol.now (λ st. update_answer st upsert options.now.prune options.now.at (Some range) frame.now) b.before (B.faults bucket.old) (B.faults bucket.new) (B.seen bucket.old) (B.seen bucket.new)) }
+    ensures refused { (b : IsBaseAt (B.number bucket.old) (B.seen bucket.old) symbol.now base.now) (upsert : Bool) → IfErr result (RefusesPlan (B.number bucket.old) symbol.now (HasColumnsOf frame.now) (λ st. update_answer st upsert options.now.prune options.now.at (Some range) frame.now) b.before (B.faults bucket.old) (B.faults bucket.new) (B.seen bucket.old) (B.seen bucket.new)) }
 {
     let place = base.target.place;
     if let Some(column) = first_difference(&base.index.schema, frame.schema()) {
@@ -311,7 +311,7 @@ fn append_exceeds<R: Wait, B: Bucket<StoreLaw>>(
     ensures looks { Looks IsClaimed (B.number bucket.old) (B.sole bucket.old) (B.seen bucket.old) (B.seen bucket.new) }
     ensures steady { IsSteady B.number B.limit B.faults B.sole bucket.old bucket.new }
     ensures exceeds { (b : IsBaseAt (B.number bucket.old) (B.seen bucket.old) symbol.now base.now) → IfOk result (λ exceeds. IsTrue exceeds ↔ (67108864 < text_total (kept_rows None b.version.frame.rows) + text_total frame.now.rows)) }
-    ensures refused { IfErr result (RefusesBase (B.number bucket.old) symbol.now base.now.target.place (B.faults bucket.old) (B.faults bucket.new) (B.seen bucket.old) (B.seen bucket.new)) }
+    ensures refused { IfErr result (RefusesBase (B.number bucket.old) symbol.now AnyBase base.now.target.place (B.faults bucket.old) (B.faults bucket.new) (B.seen bucket.old) (B.seen bucket.new)) }
 {
     if frame.rows() == 0 || !has_texts(base.index().schema().columns()) {
         return Ok(false);
@@ -340,7 +340,7 @@ pub(crate) fn exceeds_texts<R: Wait, B: Bucket<StoreLaw>>(
     ensures looks { Looks IsClaimed (B.number bucket.old) (B.sole bucket.old) (B.seen bucket.old) (B.seen bucket.new) }
     ensures steady { IsSteady B.number B.limit B.faults B.sole bucket.old bucket.new }
     ensures exceeds { (b : IsBaseAt (B.number bucket.old) (B.seen bucket.old) symbol.now base.now) → IfOk result (λ exceeds. IsTrue exceeds ↔ (67108864 < text_total (kept_rows range b.version.frame.rows) + text_total frame.now.rows)) }
-    ensures refused { IfErr result (RefusesBase (B.number bucket.old) symbol.now base.now.target.place (B.faults bucket.old) (B.faults bucket.new) (B.seen bucket.old) (B.seen bucket.new)) }
+    ensures refused { IfErr result (RefusesBase (B.number bucket.old) symbol.now AnyBase base.now.target.place (B.faults bucket.old) (B.faults bucket.new) (B.seen bucket.old) (B.seen bucket.new)) }
 {
     if frame.rows() == 0 || !has_texts(base.index.schema.columns()) {
         return Ok(false);

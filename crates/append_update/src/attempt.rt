@@ -4,7 +4,7 @@ ghost use Rattle.std.specs.Prelude.{◌≤◌};
 ghost use Rattle.segment_cut.specs.Cuttings.{IsCutting};
 ghost use Rattle.bucket_core.specs.Calls.{IsSteady};
 ghost use Rattle.frame_write.specs.Tries.{DidTries};
-ghost use Rattle.append_update.specs.Asking.{IsWish, IsAnswered, Declines, Wants};
+ghost use Rattle.append_update.specs.Asking.{IsWish, IsAnswered, Declines, Wants, FitsBase, Loses};
 ghost use Rattle.append_update.specs.Attempts.{DidAttempt};
 
 use crate::asking::plan_on;
@@ -30,7 +30,7 @@ pub(crate) fn try_all<R: Wait, B: Bucket<StoreLaw>>(
     requires some_tries { 1 ≤ options.now.tries }
     ensures cutting { IsCutting options.now.cutting }
     ensures steady { IsSteady B.number B.limit B.faults B.sole bucket.old bucket.new }
-    ensures did { DidTries (B.number bucket.old) (B.sole bucket.old) symbol.now (IsAnswered (B.number bucket.old) symbol.now wish.now options.now) (Declines symbol.now wish.now options.now) (Wants symbol.now wish.now options.now) options.now.tries (B.limit bucket.old) (B.faults bucket.old) (B.faults bucket.new) (B.seen bucket.old) (B.seen bucket.new) result }
+    ensures did { DidTries (B.number bucket.old) (B.sole bucket.old) symbol.now (IsAnswered (B.number bucket.old) symbol.now wish.now options.now) (Declines symbol.now wish.now options.now) (Wants symbol.now wish.now options.now) (Loses symbol.now wish.now) options.now.tries (B.limit bucket.old) (B.faults bucket.old) (B.faults bucket.new) (B.seen bucket.old) (B.seen bucket.new) result }
 {
     let _rows = options.cutting.rows();
     let mut met = 0;
@@ -61,7 +61,7 @@ fn attempt<R: Wait, B: Bucket<StoreLaw>>(
 ) -> Result<Committed, Refused>
     requires wish { IsWish wish.now }
     ensures steady { IsSteady B.number B.limit B.faults B.sole bucket.old bucket.new }
-    ensures did { DidAttempt (B.number bucket.old) (B.sole bucket.old) symbol.now (IsAnswered (B.number bucket.old) symbol.now wish.now options.now) (Declines symbol.now wish.now options.now) (Wants symbol.now wish.now options.now) (B.limit bucket.old) (B.faults bucket.old) (B.faults bucket.new) (B.seen bucket.old) (B.seen bucket.new) result }
+    ensures did { DidAttempt (B.number bucket.old) (B.sole bucket.old) symbol.now (IsAnswered (B.number bucket.old) symbol.now wish.now options.now) (Declines symbol.now wish.now options.now) (Wants symbol.now wish.now options.now) (FitsBase wish.now) (B.limit bucket.old) (B.faults bucket.old) (B.faults bucket.new) (B.seen bucket.old) (B.seen bucket.new) result }
 {
     let tip = walk_tip(rt, alloc, bucket, symbol, options.prune)?;
     let plan = plan_on(rt, alloc, bucket, symbol, &tip, wish, options)?;

@@ -11,7 +11,7 @@ ghost use Rattle.version_chain.specs.Tips.{IsTipAt};
 ghost use Rattle.frame_read.specs.Fetches.{IsTargetIndex};
 ghost use Rattle.version_chain.specs.Marking.{own_refers};
 ghost use Rattle.append_update.specs.Newest.{IsBase};
-ghost use Rattle.append_update.specs.Looking.{RefusesMet, RefusesBase};
+ghost use Rattle.append_update.specs.Looking.{RefusesMet, NoBase, RefusesBase};
 
 use crate::packed_base::PackedBase;
 use base_types::{Keep, NoMemory};
@@ -53,7 +53,7 @@ pub(crate) fn base_of<R: Wait, B: Bucket<StoreLaw>>(
     ensures symbol { IfOk result (λ base. IfSome base (λ it. it.target.symbol ≡ symbol.now)) }
     ensures place { IfOk result (λ base. IfSome base (λ it. it.target.place ≡ tip.now.place)) }
     ensures live { IfOk result (λ base. IfSome base (λ it. is_buried (state_of (history_at (B.seen bucket.old) tip.now.place) symbol.now) it.target.version ≡ false)) }
-    ensures refused { IfErr result (RefusesBase (B.number bucket.old) symbol.now tip.now.place (B.faults bucket.old) (B.faults bucket.new) (B.seen bucket.old) (B.seen bucket.new)) }
+    ensures refused { IfErr result (RefusesBase (B.number bucket.old) symbol.now NoBase tip.now.place (B.faults bucket.old) (B.faults bucket.new) (B.seen bucket.old) (B.seen bucket.new)) }
 {
     let Some(row) = &tip.newest else {
         return Ok(None);

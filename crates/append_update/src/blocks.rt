@@ -11,7 +11,7 @@ ghost use Rattle.frame_write.specs.Pieces.{IsRun, begin_of};
 ghost use Rattle.append_update.specs.Bases.{rows_of_slots};
 ghost use Rattle.append_update.specs.Blocks.{whole, moved_tile, tiles_from};
 ghost use Rattle.append_update.specs.Newest.{IsBaseAt};
-ghost use Rattle.append_update.specs.Looking.{RefusesBase};
+ghost use Rattle.append_update.specs.Looking.{AnyBase, RefusesBase};
 
 use crate::base::{Base, met_commit, out_of_memory};
 use base_types::{Items, Keep, NoMemory};
@@ -45,7 +45,7 @@ pub(crate) fn block_frame<R: Wait, B: Bucket<StoreLaw>>(
     ensures looks { Looks IsClaimed (B.number bucket.old) (B.sole bucket.old) (B.seen bucket.old) (B.seen bucket.new) }
     ensures steady { IsSteady B.number B.limit B.faults B.sole bucket.old bucket.new }
     ensures frame { (b : IsBaseAt (B.number bucket.old) (B.seen bucket.old) symbol.now base.now) → IfOk result (λ made. made ≡ record b.version.frame { rows = rows_of_slots b.version.frame (slice_range base.now.index.slots from to) }) }
-    ensures refused { IfErr result (RefusesBase (B.number bucket.old) symbol.now base.now.target.place (B.faults bucket.old) (B.faults bucket.new) (B.seen bucket.old) (B.seen bucket.new)) }
+    ensures refused { IfErr result (RefusesBase (B.number bucket.old) symbol.now AnyBase base.now.target.place (B.faults bucket.old) (B.faults bucket.new) (B.seen bucket.old) (B.seen bucket.new)) }
 {
     let slots = &base.index.slots.items()[from..to];
     match get_tiles(rt, alloc, bucket, &base.target, slots) {

@@ -8,7 +8,7 @@ ghost use Rattle.bucket_core.specs.Calls.{IsSteady};
 ghost use Rattle.store_model.specs.Law.{IsClaimed};
 ghost use Rattle.append_update.specs.Bases.{rows_of_slots, Divides};
 ghost use Rattle.append_update.specs.Newest.{IsBaseAt};
-ghost use Rattle.append_update.specs.Looking.{RefusesBase};
+ghost use Rattle.append_update.specs.Looking.{AnyBase, RefusesBase};
 ghost use Rattle.append_update.specs.Replacing.{IsLeft, AreEdges};
 
 use crate::base::{Base, out_of_memory};
@@ -39,7 +39,7 @@ pub(crate) fn edges_of<R: Wait, B: Bucket<StoreLaw>>(
     ensures looks { Looks IsClaimed (B.number bucket.old) (B.sole bucket.old) (B.seen bucket.old) (B.seen bucket.new) }
     ensures steady { IsSteady B.number B.limit B.faults B.sole bucket.old bucket.new }
     ensures edges { (b : IsBaseAt (B.number bucket.old) (B.seen bucket.old) symbol.now base.now) → IfOk result (AreEdges b.version.frame range base.now.index.slots cuts) }
-    ensures refused { IfErr result (RefusesBase (B.number bucket.old) symbol.now base.now.target.place (B.faults bucket.old) (B.faults bucket.new) (B.seen bucket.old) (B.seen bucket.new)) }
+    ensures refused { IfErr result (RefusesBase (B.number bucket.old) symbol.now AnyBase base.now.target.place (B.faults bucket.old) (B.faults bucket.new) (B.seen bucket.old) (B.seen bucket.new)) }
 {
     let below = edge_below(rt, alloc, bucket, symbol, base, range, cuts)?;
     match edge_above(rt, alloc, bucket, symbol, base, range, cuts) {
@@ -63,7 +63,7 @@ fn edge_below<R: Wait, B: Bucket<StoreLaw>>(
     ensures looks { Looks IsClaimed (B.number bucket.old) (B.sole bucket.old) (B.seen bucket.old) (B.seen bucket.new) }
     ensures steady { IsSteady B.number B.limit B.faults B.sole bucket.old bucket.new }
     ensures left { (b : IsBaseAt (B.number bucket.old) (B.seen bucket.old) symbol.now base.now) → IfOk result (IsLeft b.version.frame (rows_below range (rows_of_slots b.version.frame (slice_range base.now.index.slots cuts.below cuts.begun)))) }
-    ensures refused { IfErr result (RefusesBase (B.number bucket.old) symbol.now base.now.target.place (B.faults bucket.old) (B.faults bucket.new) (B.seen bucket.old) (B.seen bucket.new)) }
+    ensures refused { IfErr result (RefusesBase (B.number bucket.old) symbol.now AnyBase base.now.target.place (B.faults bucket.old) (B.faults bucket.new) (B.seen bucket.old) (B.seen bucket.new)) }
 {
     if cuts.below == cuts.begun {
         return Ok(None);
@@ -90,7 +90,7 @@ fn edge_above<R: Wait, B: Bucket<StoreLaw>>(
     ensures looks { Looks IsClaimed (B.number bucket.old) (B.sole bucket.old) (B.seen bucket.old) (B.seen bucket.new) }
     ensures steady { IsSteady B.number B.limit B.faults B.sole bucket.old bucket.new }
     ensures left { (b : IsBaseAt (B.number bucket.old) (B.seen bucket.old) symbol.now base.now) → IfOk result (IsLeft b.version.frame (rows_above range (rows_of_slots b.version.frame (slice_range base.now.index.slots cuts.ended cuts.reached)))) }
-    ensures refused { IfErr result (RefusesBase (B.number bucket.old) symbol.now base.now.target.place (B.faults bucket.old) (B.faults bucket.new) (B.seen bucket.old) (B.seen bucket.new)) }
+    ensures refused { IfErr result (RefusesBase (B.number bucket.old) symbol.now AnyBase base.now.target.place (B.faults bucket.old) (B.faults bucket.new) (B.seen bucket.old) (B.seen bucket.new)) }
 {
     if cuts.ended == cuts.reached {
         return Ok(None);

@@ -8,7 +8,7 @@ ghost use Rattle.bucket_core.specs.Laws.{Looks};
 ghost use Rattle.bucket_core.specs.Calls.{IsSteady};
 ghost use Rattle.store_model.specs.Law.{IsClaimed};
 ghost use Rattle.append_update.specs.Bases.{Divides};
-ghost use Rattle.append_update.specs.Looking.{RefusesBase};
+ghost use Rattle.append_update.specs.Looking.{AnyBase, RefusesBase};
 ghost use Rattle.append_update.specs.Newest.{IsBaseAt};
 ghost use Rattle.append_update.specs.Replacing.{AreEdges};
 ghost use Rattle.append_update.specs.TooLarge.{IsTooLarge};
@@ -46,7 +46,7 @@ pub(crate) fn small_edges<R: Wait, B: Bucket<StoreLaw>>(
     ensures steady { IsSteady B.number B.limit B.faults B.sole bucket.old bucket.new }
     ensures edges { (b : IsBaseAt (B.number bucket.old) (B.seen bucket.old) symbol.now base.now) → IfOk result (AreEdges b.version.frame range base.now.index.slots cuts) }
     ensures small { (b : IsBaseAt (B.number bucket.old) (B.seen bucket.old) symbol.now base.now) → IfOk result (λ _edges. frame_too_large (record frame.now { rows = replace_range range frame.now.rows b.version.frame.rows }) ≡ None) }
-    ensures refused { (b : IsBaseAt (B.number bucket.old) (B.seen bucket.old) symbol.now base.now) → IfErr result (λ refused. RefusesBase (B.number bucket.old) symbol.now base.now.target.place (B.faults bucket.old) (B.faults bucket.new) (B.seen bucket.old) (B.seen bucket.new) refused ⊎ IsTooLarge base.now.target.place (record frame.now { rows = replace_range range frame.now.rows b.version.frame.rows }) refused) }
+    ensures refused { (b : IsBaseAt (B.number bucket.old) (B.seen bucket.old) symbol.now base.now) → IfErr result (λ refused. RefusesBase (B.number bucket.old) symbol.now AnyBase base.now.target.place (B.faults bucket.old) (B.faults bucket.new) (B.seen bucket.old) (B.seen bucket.new) refused ⊎ IsTooLarge base.now.target.place (record frame.now { rows = replace_range range frame.now.rows b.version.frame.rows }) refused) }
 {
     let many = exceeds_texts(rt, alloc, bucket, symbol, base, frame, Some(range))?;
     let edges = match edges_of(rt, alloc, bucket, symbol, base, range, cuts) {

@@ -15,8 +15,8 @@ use Rattle.frame_core.specs.Columns.{cells_of}
 use Rattle.frame_core.specs.Selecting.{then_map, places_of, at_places, pick_cells, pick_columns}
 use Rattle.frame_core.proofs.SelectLemmas.{Asked, asked, all_picked}
 use Rattle.segment_cut.proofs.Wholes.{widths}
-use Rattle.reply_model.specs.ReadAnswers.{select_columns, ask}
-use Rattle.frame_read.specs.TileSets.{is_asked, no_rows, IsAskedSchema}
+use Rattle.reply_model.specs.ReadAnswers.{select_columns, ask, is_asked}
+use Rattle.frame_read.specs.TileSets.{no_rows, IsAskedSchema}
 
 pub self_text : (a : Text) → same_text a a ≡ true
 self_text [] = refl

@@ -20,10 +20,9 @@ use Rattle.frame_core.specs.Parts.{has_column}
 use Rattle.segment_cut.proofs.Lists.{count_by-yes, count_by-no}
 use Rattle.segment_cut.proofs.Orders.{Rising-from, all-permutation}
 use Rattle.segment_cut.proofs.Wholes.{IsWhole-frame, frame-whole}
-use Rattle.reply_model.specs.ReadAnswers.{ask}
+use Rattle.reply_model.specs.ReadAnswers.{ask, is_asked}
 use Rattle.frame_read.specs.declared.tiles.FetchedTile.{FetchedTile}
 use Rattle.frame_read.specs.declared.tiles.Tiles.{Tiles}
-use Rattle.frame_read.specs.TileSets.{is_asked}
 use Rattle.frame_read.specs.Wholes.{HoldsPart, AreTilesOf}
 use Rattle.frame_read.specs.Gathers.{cells_gathered, stamps_gathered, HasType, HasSegment, IsOpened}
 use Rattle.frame_read.proofs.GatherLemmas.{Covers, other_name, slice_below, stamps_all, cells_all}

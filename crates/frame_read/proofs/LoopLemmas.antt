@@ -1,7 +1,7 @@
 -- Looks one after another, and what was got stays so.
 use Rattle.std.proofs.Common.{◌≡◌, ℕ, ◌+◌, ◌<◌, ◌≤◌, Bool, true, false, List, [], ◌∷◌, ◌++◌, map, take, length, get_or, sym, ap, ◌∙◌, subst, inl, inr, arith, Option, Some, Result, Ok, Err}
 use Rattle.std.specs.Prelude.{Contains, OnOk, is_err}
-use Rattle.std.specs.List.{AllZip}
+use Rattle.std.specs.List.{AllZip, AllByRecursion}
 use Rattle.std.specs.Arc.{arc_value}
 use Rattle.std.proofs.lemmas.Bool.{true≢false}
 use Rattle.std.proofs.lemmas.List.{length-append, append_assoc}
@@ -62,25 +62,7 @@ why_wider : (before mid now : ℕ) (h : History) (symbol : Name) (version : ℕ)
 why_wider before mid now h symbol version refusals.NoMemory le is = is
 why_wider before mid now h symbol version refusals.StoreFault le is = omega (arith, le, is)
 why_wider before mid now h symbol version (refusals.VersionGone number) le is = is
-why_wider before mid now h symbol version refusals.NoSuchSymbol le is = absurd is
-why_wider before mid now h symbol version (refusals.NoSuchVersion asked) le is = absurd is
-why_wider before mid now h symbol version (refusals.Moved at) le is = absurd is
-why_wider before mid now h symbol version (refusals.Unsorted row) le is = absurd is
-why_wider before mid now h symbol version (refusals.SchemaDiffers column) le is = absurd is
-why_wider before mid now h symbol version (refusals.AppendBefore last first) le is = absurd is
-why_wider before mid now h symbol version (refusals.OutsideRange row) le is = absurd is
-why_wider before mid now h symbol version refusals.EmptyUpdate le is = absurd is
-why_wider before mid now h symbol version (refusals.NoSuchColumn clause position) le is = absurd is
-why_wider before mid now h symbol version (refusals.TypeMismatch clause) le is = absurd is
-why_wider before mid now h symbol version (refusals.Overflow clause row) le is = absurd is
-why_wider before mid now h symbol version (refusals.GroupOverflow clause group) le is = absurd is
-why_wider before mid now h symbol version (refusals.NotTimeIndexed clause) le is = absurd is
-why_wider before mid now h symbol version refusals.SnapshotExists le is = absurd is
-why_wider before mid now h symbol version refusals.NoSuchSnapshot le is = absurd is
-why_wider before mid now h symbol version refusals.NoStaged le is = absurd is
-why_wider before mid now h symbol version (refusals.StagedOverlap piece) le is = absurd is
-why_wider before mid now h symbol version (refusals.Spent count) le is = absurd is
-why_wider before mid now h symbol version (refusals.TooLarge what limit) le is = absurd is
+why_wider before mid now h symbol version why le is = absurd is
 
 -- a get that refuses refuses the whole call
 pub refuses_wider : (before mid now : ℕ) (others old between new : History) (symbol : Name) (version : ℕ) (refused : Refused) → before ≤ mid → between ≡ others ++ old
@@ -108,6 +90,14 @@ key_in [] slot there = absurd (contains_none slot there)
 key_in (s ∷ slots) slot there = elim (contains_cases slot s slots there) [
   | inl is ↦ subst (λ (x : Slot). Contains (s.key ∷ map (λ (s : Slot). s.key) slots) x.key) is (contains_first s.key (map (λ (s : Slot). s.key) slots))
   | inr later ↦ contains_later slot.key s.key (map (λ (s : Slot). s.key) slots) (key_in slots slot later)
+]
+
+-- the key of some of the slots is one of all
+pub key_of_all : (slots all : List Slot) (key : Key) → AllByRecursion (Contains all) slots → Contains (map (λ (s : Slot). s.key) slots) key → Contains (map (λ (s : Slot). s.key) all) key
+key_of_all [] all key within there = absurd (contains_none key there)
+key_of_all (s ∷ slots) all key within there = elim (contains_cases key s.key (map (λ (s : Slot). s.key) slots) there) [
+  | inl is ↦ subst (λ (k : Key). Contains (map (λ (s : Slot). s.key) all) k) is (key_in all s within.0)
+  | inr later ↦ key_of_all slots all key within.1 later
 ]
 
 -- the target's link reaches the tile of each slot

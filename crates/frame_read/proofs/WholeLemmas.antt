@@ -27,7 +27,8 @@ use Rattle.store_model.proofs.Lawful.{lawful_is_intact, lawful_as_put}
 use Rattle.store_model.proofs.Lists.{contains_first, contains_later, contains_cases, contains_none, filter_in, in_filter, passes}
 use Rattle.store_model.proofs.PlainLinks.{linked_parts}
 use Rattle.frame_read.specs.declared.tiles.FetchedTile.{FetchedTile}
-use Rattle.frame_read.specs.TileSets.{is_asked, places_asked, IsAskedSchema, IsGot}
+use Rattle.reply_model.specs.ReadAnswers.{is_asked, places_asked}
+use Rattle.frame_read.specs.TileSets.{IsAskedSchema, IsGot}
 use Rattle.frame_read.specs.Wholes.{HoldsPart, FetchedIsFrame}
 use Rattle.frame_read.proofs.StampLemmas.{IsStamped, lawful_is_stamped}
 use Rattle.frame_read.proofs.SliceLemmas.{row_shares}

@@ -1,37 +1,29 @@
 -- The tiles that a fetch gives.
---     is_asked, places_asked      whether a column is asked, and the places of those that are
 --     IsAskedSchema, RefusesColumns      the schema of the asked columns, or why there is none
 --     IsGot, IsFetched    tiles as they were put, those of a target's version
---     RefusesFetch        the refusals
-use Rattle.std.specs.Prelude.{◌≡◌, ◌⊎◌, ℕ, Bool, true, List, [], filter, Option, Some, None, Ok, Err, ⊤}
-use Rattle.std.specs.List.{list_any, AllZip}
+--     IsFetchKey, RefusesFetch    the keys that a fetch gets; its refusals
+use Rattle.std.specs.Prelude.{◌≡◌, ◌⊎◌, ℕ, List, [], map, filter, Option, Some, Ok, Err, ⊤, Contains}
+use Rattle.std.specs.List.{AllZip}
 use Rattle.std.specs.Arc.{arc_value}
 use Rattle.frame_core.specs.declared.refusal.Refusal.{Refusal}
 use Rattle.frame_core.specs.declared.refusal.Refusal.TheVariants as refusals
 use Rattle.frame_core.specs.declared.refusal.Refused.{Refused}
 use Rattle.frame_core.specs.Ranges.{Range}
-use Rattle.frame_core.specs.Texts.{Text, same_text}
-use Rattle.frame_core.specs.Schemas.{Head, Schema}
+use Rattle.frame_core.specs.Texts.{Text}
+use Rattle.frame_core.specs.Schemas.{Schema}
 use Rattle.frame_core.specs.Frames.{Frame}
 use Rattle.frame_core.specs.Selecting.{then_map}
 use Rattle.index_tree.specs.declared.index.Slot.{Slot}
 use Rattle.index_tree.specs.declared.index.Index.{Index}
-use Rattle.index_tree.specs.Covering.{covers, places_where}
+use Rattle.index_tree.specs.Covering.{covers}
+use Rattle.key_kind.specs.declared.key.Key.{Key}
 use Rattle.bucket_core.specs.History.{History, body_put}
-use Rattle.reply_model.specs.ReadAnswers.{select_columns}
+use Rattle.store_model.specs.Links.{Linked}
+use Rattle.reply_model.specs.ReadAnswers.{select_columns, places_asked}
 use Rattle.frame_read.specs.declared.target.Target.{Target}
 use Rattle.frame_read.specs.declared.tiles.FetchedTile.{FetchedTile}
 use Rattle.frame_read.specs.declared.tiles.Tiles.{Tiles}
 use Rattle.frame_read.specs.Fetches.{IsTargetIndex, RefusesGet}
-
--- whether the column of a name is asked
-abbrev pub is_asked : Option (List Text) → Text → Bool
-is_asked None name = true
-is_asked (Some names) name = list_any (same_text name) names
-
--- the places of the asked columns of an index
-abbrev pub places_asked : Option (List Text) → Index → List ℕ
-places_asked columns index = places_where (λ (head : Head). is_asked columns head.0) index.schema.columns
 
 -- ---- the columns
 
@@ -65,6 +57,12 @@ pub record IsFetched (h : History) (target : Target) (range : Range) (columns : 
   pub got : AllZip (IsGot h) (filter (covers range (places_asked columns index)) index.slots) tiles.tiles
 
 -- ---- refusals
+
+-- a key that a fetch gets: that of the index; or, where the index has the asked columns, that of a slot that the range and these columns want
+abbrev pub IsFetchKey : Range → Option (List Text) → Linked → Key → Type 0
+IsFetchKey range columns link key =
+    (key ≡ link.row.index)
+    ⊎ ((asked : Schema) × IsAskedSchema link.index.schema columns asked × Contains (map (λ (s : Slot). s.key) (filter (covers range (places_asked columns link.index)) link.index.slots)) key)
 
 -- the columns of the target's index refuse what is asked, at the target's place
 pub record LacksColumn (h : History) (target : Target) (columns : Option (List Text)) (refused : Refused) : Type 0 where

@@ -7,7 +7,8 @@ use Rattle.frame_core.specs.Schemas.{Schema}
 use Rattle.index_tree.specs.declared.index.Slot.{Slot}
 use Rattle.index_tree.specs.declared.index.Index.{Index}
 use Rattle.index_tree.specs.Covering.{covers}
-use Rattle.frame_read.specs.TileSets.{places_asked, IsAskedSchema}
+use Rattle.reply_model.specs.ReadAnswers.{places_asked}
+use Rattle.frame_read.specs.TileSets.{IsAskedSchema}
 
 -- the schema of the asked columns of an index, and its slots that the range and these columns want
 pub record IsWanted (index : Index) (range : Range) (columns : Option (List Text)) (asked : Schema) (slots : List Slot) : Type 0 where

@@ -17,7 +17,8 @@ use Rattle.store_model.specs.Law.{IsLawful}
 use Rattle.frame_read.specs.declared.target.Target.{Target}
 use Rattle.frame_read.specs.declared.tiles.FetchedTile.{FetchedTile}
 use Rattle.frame_read.specs.declared.tiles.Tiles.{Tiles}
-use Rattle.frame_read.specs.TileSets.{is_asked, IsAskedSchema, IsFetched}
+use Rattle.reply_model.specs.ReadAnswers.{is_asked}
+use Rattle.frame_read.specs.TileSets.{IsAskedSchema, IsFetched}
 
 -- the tile's segment is its part of the frame
 abbrev pub HoldsPart : Frame → FetchedTile → Type 0

@@ -11,8 +11,9 @@ ghost use Rattle.bucket_core.specs.Calls.{IsSteady};
 ghost use Rattle.store_model.specs.Law.{IsClaimed};
 ghost use Rattle.store_model.specs.Links.{links};
 ghost use Rattle.store_model.specs.Holders.{has_index};
-ghost use Rattle.frame_read.specs.Fetches.{RefusesGet, IsTargetIndex};
-ghost use Rattle.frame_read.specs.TileSets.{is_asked, places_asked, IsAskedSchema, RefusesColumns, IsGot, IsFetched, RefusesFetch};
+ghost use Rattle.frame_read.specs.Fetches.{RefusesGet, LacksKey, IsIndexKey, IsSlotKey, IsTargetIndex};
+ghost use Rattle.reply_model.specs.ReadAnswers.{is_asked, places_asked};
+ghost use Rattle.frame_read.specs.TileSets.{IsAskedSchema, RefusesColumns, IsGot, IsFetched, IsFetchKey, RefusesFetch};
 ghost use Rattle.frame_read.specs.Wanted.{IsWanted};
 
 use crate::objects::{get_reached, packed_index_of};
@@ -43,8 +44,10 @@ pub fn fetch<R: Wait, B: Bucket<StoreLaw>>(
     ensures looks { Looks IsClaimed (B.number bucket.old) (B.sole bucket.old) (B.seen bucket.old) (B.seen bucket.new) }
     ensures steady { IsSteady B.number B.limit B.faults B.sole bucket.old bucket.new }
     ensures tiles { IfOk result (IsFetched (B.seen bucket.new) target.now range (option_copied columns.entry)) }
-    // The version is gone only where it is buried and not held, and a key of it is gone.
+    // The version is gone only where it is buried and not held, and a key of it is gone that is wanted: the index's, or, where it has the
+    // asked columns, one of a tile in the range.
     ensures refused { IfErr result (RefusesFetch (B.faults bucket.old) (B.faults bucket.new) (B.seen bucket.old) (B.seen bucket.new) target.now (option_copied columns.entry)) }
+    ensures lacks { IfErr result (LacksKey (B.seen bucket.new) target.now (IsFetchKey range (option_copied columns.entry))) }
 {
     let (schema, slots) = wanted(rt, alloc, bucket, target, range, columns)?;
     match get_tiles(rt, alloc, bucket, target, slots.items()) {
@@ -72,6 +75,7 @@ fn wanted<R: Wait, B: Bucket<StoreLaw>>(
     ensures steady { IsSteady B.number B.limit B.faults B.sole bucket.old bucket.new }
     ensures wanted { IfOk result (λ both. (index : Index) × IsTargetIndex (B.seen bucket.new) target.now index × IsWanted index range (option_copied columns.entry) both.0 both.1) }
     ensures refused { IfErr result (RefusesFetch (B.faults bucket.old) (B.faults bucket.new) (B.seen bucket.old) (B.seen bucket.new) target.now (option_copied columns.entry)) }
+    ensures lacks { IfErr result (LacksKey (B.seen bucket.new) target.now IsIndexKey) }
 {
     let index = packed_index_of(rt, alloc, bucket, target)?;
     match wanted_of(alloc, &index, range, columns) {
@@ -195,6 +199,7 @@ pub fn get_tiles<R: Wait, B: Bucket<StoreLaw>>(
     ensures steady { IsSteady B.number B.limit B.faults B.sole bucket.old bucket.new }
     ensures tiles { IfOk result (AllZip (IsGot (B.seen bucket.new)) slots.now) }
     ensures refused { IfErr result (RefusesGet (B.faults bucket.old) (B.faults bucket.new) (B.seen bucket.old) (B.seen bucket.new) target.now.symbol target.now.version) }
+    ensures lacks { (index : Index) → IsTargetIndex (B.seen bucket.old) target.now index → AllByRecursion (Contains index.slots) slots.now → IfErr result (LacksKey (B.seen bucket.new) target.now (IsSlotKey index slots.now)) }
 {
     let Ok(mut tiles) = Items::with_capacity(alloc, slots.len()) else {
         return Err(out_of_memory(bucket.place()));

@@ -9,7 +9,7 @@ ghost use Rattle.bucket_core.specs.Calls.{IsSteady};
 ghost use Rattle.store_model.specs.Law.{IsClaimed};
 ghost use Rattle.store_model.specs.Links.{links};
 ghost use Rattle.store_model.specs.Holders.{has_index};
-ghost use Rattle.frame_read.specs.Fetches.{Reaches, RefusesGet, IsTargetIndex};
+ghost use Rattle.frame_read.specs.Fetches.{Reaches, RefusesGet, LacksKey, IsReached, IsIndexKey, IsTargetIndex};
 
 use crate::resolving::out_of_memory;
 use crate::target::Target;
@@ -33,8 +33,9 @@ pub fn index_of<R: Wait, B: Bucket<StoreLaw>>(
     ensures steady { IsSteady B.number B.limit B.faults B.sole bucket.old bucket.new }
     ensures index { IfOk result (IsTargetIndex (B.seen bucket.new) target.now) }
     ensures rules { IfOk result IsIndex }
-    // The version is gone only where it is buried and not held, and a key of it is gone.
+    // The version is gone only where it is buried and not held, and the key of its index is gone.
     ensures refused { IfErr result (RefusesGet (B.faults bucket.old) (B.faults bucket.new) (B.seen bucket.old) (B.seen bucket.new) target.now.symbol target.now.version) }
+    ensures lacks { IfErr result (LacksKey (B.seen bucket.new) target.now IsIndexKey) }
 {
     let body = get_reached(rt, bucket, target, &target.index)?;
     // What was put as an index is always read, so only memory can be wanting.
@@ -58,8 +59,9 @@ pub fn packed_index_of<R: Wait, B: Bucket<StoreLaw>>(
     ensures steady { IsSteady B.number B.limit B.faults B.sole bucket.old bucket.new }
     ensures index { IfOk result (IsTargetIndex (B.seen bucket.new) target.now) }
     ensures rules { IfOk result IsIndex }
-    // The version is gone only where it is buried and not held, and a key of it is gone.
+    // The version is gone only where it is buried and not held, and the key of its index is gone.
     ensures refused { IfErr result (RefusesGet (B.faults bucket.old) (B.faults bucket.new) (B.seen bucket.old) (B.seen bucket.new) target.now.symbol target.now.version) }
+    ensures lacks { IfErr result (LacksKey (B.seen bucket.new) target.now IsIndexKey) }
 {
     let body = get_reached(rt, bucket, target, &target.index)?;
     match open(alloc, &body) {
@@ -80,6 +82,7 @@ pub(crate) fn get_reached<R: Wait, B: Bucket<StoreLaw>>(
     ensures steady { IsSteady B.number B.limit B.faults B.sole bucket.old bucket.new }
     ensures body { IfOk result (λ body. body_put (B.seen bucket.new) key.now ≡ Some (arc_value body)) }
     ensures refused { IfErr result (RefusesGet (B.faults bucket.old) (B.faults bucket.new) (B.seen bucket.old) (B.seen bucket.new) target.now.symbol target.now.version) }
+    ensures lacks { (r : Reaches (B.seen bucket.old) target.now.symbol target.now.version key.now) → IfErr result (LacksKey (B.seen bucket.new) target.now (IsReached r.link key.now)) }
 {
     let place = bucket.place();
     match bucket.get(rt, key) {

@@ -1,5 +1,5 @@
 -- The commands that make a version of their symbol, try by try: their clauses are those of a turn.
-use Rattle.std.proofs.Common.{◌≡◌, ℕ, ◌≤◌, ℤ, Bool, true, false, List, [], refl, sym, subst, Option, Some, None}
+use Rattle.std.proofs.Common.{◌≡◌, ℕ, ◌≤◌, ℤ, Bool, true, false, List, [], refl, ap, sym, subst, Option, Some, None}
 use Rattle.std.specs.Prelude.{MatchBool, ⊤, unwrap_or}
 use Rattle.std.specs.List.{AllByRecursion}
 use Rattle.std.proofs.lemmas.Bool.{true≢false}
@@ -19,12 +19,15 @@ use Rattle.reply_model.specs.declared.reply.Reply.{Reply}
 use Rattle.reply_model.specs.Answering.{Session, refused}
 use Rattle.reply_model.specs.Answers.{answer}
 use Rattle.reply_model.specs.Windows.{Window, Client, library_at, is_cut, is_store_fault, symbol_of}
+use Rattle.reply_model.specs.Kinds.{kind_of, kind_symbol, kind_makes, Makes, Cause, cause_of, Told, cuts, faults, tells}
 use Rattle.reply_model.specs.Tries.{IsTurn}
-use Rattle.reply_model.specs.OwnEvents.{AnyMarks, IsOwn, IsMeantAt, AreMeant, is_end, is_last}
+use Rattle.reply_model.specs.OwnEvents.{IsOwnOf, is_last_of, AnyMarks, IsOwn, IsMeantAt, AreMeant, is_end, is_last}
 use Rattle.reply_model.specs.Rows.{IsAnswer}
 use Rattle.reply_model.specs.Left.{HasLeft, MayBeLeft}
-use Rattle.reply_model.specs.Causes.{MeetsOn, IsMoved, IsSpent, HasToMake, MarksAt}
-use Rattle.reply_model.specs.Legal.{IsListed, IsLegalRefusal, IsLegalOk}
+use Rattle.reply_model.specs.Moves.{own_between}
+use Rattle.reply_model.specs.Losses.{FindsGone}
+use Rattle.reply_model.specs.Causes.{MeetsOn, IsBeside, IsMoved, IsSpent, HasToMake, MarksAt, makes_version, MakesAt}
+use Rattle.reply_model.specs.Legal.{IsListed, IsTold, IsCaused, IsLegalRefusal, IsLegalOk}
 use Rattle.frame_write.specs.Tries.{Made}
 
 -- a command that makes a version of the symbol, in turns of its tries
@@ -34,30 +37,29 @@ pub data MakesVersion : Command → Name → Type 0 where
   of_update : {symbol : Name} {n : ℕ} {range : Option Range} {upsert : Bool} {at : Option ℤ} {prune : Bool} → MakesVersion (commands.Update symbol n range upsert at prune) symbol
   of_delete_range : {symbol : Name} {range : Range} {at : Option ℤ} {prune : Bool} → MakesVersion (commands.DeleteRange symbol range at prune) symbol
 
+pub kind_is : (c : Command) (symbol : Name) → MakesVersion c symbol → kind_of c ≡ Makes symbol
+kind_is _ symbol of_write = refl
+kind_is _ symbol of_append = refl
+kind_is _ symbol of_update = refl
+kind_is _ symbol of_delete_range = refl
+
 -- a refusal that the one-thread library may give
 abbrev pub is_answer : Refusal → Bool
-is_answer refusals.NoMemory = false
-is_answer refusals.StoreFault = false
-is_answer (refusals.Spent count) = false
-is_answer (refusals.Moved now) = false
-is_answer (refusals.VersionGone number) = false
-is_answer _ = true
+is_answer why = tells (cause_of why)
 
--- what a command asks of its commit, how the library refuses it, and where it has a change to make, as the library's answers say
-pub record IsAskedBy (s : Session) (c : Command) (symbol : Name) (Asked : Made → Type 0) (Refuses : History → Refusal → Type 0) (Wants : History → Type 0) : Type 0 where
+-- what a command asks of its commit, how the library refuses it, where it has a change to make, as the library's answers say, and what it may find lost
+pub record IsAskedBy (s : Session) (c : Command) (symbol : Name) (Asked : Made → Type 0) (Refuses : History → Refusal → Type 0) (Wants : History → Type 0) (Loses : History → ℕ → ℕ → Type 0) : Type 0 where
   pub makes : MakesVersion c symbol
   pub answers : (m : Made) → Asked m → (l : Library) (p : ℕ) → answer s l (library_of m.before) p c ≡ Some (record { outcome = outcomes.Committed (next_number (state_of m.before symbol)); marks = m.list })
   pub filled : (m : Made) → Asked m → IsFilled m.list
   pub refuses : (h : History) (why : Refusal) → Refuses h why → (is_answer why ≡ true) × ((l : Library) (p : ℕ) → answer s l (library_of h) p c ≡ Some (refused why))
   pub wants : (h : History) → Wants h → (l : Library) (p : ℕ) → MarksAt (answer s l (library_of h) p c)
+  pub loses : (h : History) (limit : ℕ) (reply : Reply) (look showed : ℕ) → Loses h look showed → FindsGone h (record { session = s; limit = limit }) c reply symbol look showed
 
 -- ---- the clauses of such a command
 
 pub own_turn : (c : Command) (symbol : Name) → MakesVersion c symbol → (h : History) (s : Session) (w : Window) (reply : Reply) (done : Bool) (es : List Event) → IsTurn h s w symbol true done AnyMarks es → IsOwn h s w c reply done es
-own_turn _ symbol of_write h s w reply done es t = t
-own_turn _ symbol of_append h s w reply done es t = t
-own_turn _ symbol of_update h s w reply done es t = t
-own_turn _ symbol of_delete_range h s w reply done es t = t
+own_turn c symbol k h s w reply done es t = subst (λ x. IsOwnOf h s w x reply done es) (sym (kind_is c symbol k)) t
 
 pub none_listed : (c : Command) (symbol : Name) → MakesVersion c symbol → (reply : Reply) (es : List Event) → reply.listed ≡ None → IsListed c reply es
 none_listed _ symbol of_write reply es e = e
@@ -75,10 +77,7 @@ none_left c symbol k h s reply w e = by c symbol k
     by _ symbol of_delete_range = record { left = e; causes = subst (AllByRecursion (MayBeLeft h s reply w)) (sym e) tt }
 
 pub last_is_end : (c : Command) (symbol : Name) → MakesVersion c symbol → (e : Event) → is_last c e ≡ is_end e
-last_is_end _ symbol of_write e = refl
-last_is_end _ symbol of_append e = refl
-last_is_end _ symbol of_update e = refl
-last_is_end _ symbol of_delete_range e = refl
+last_is_end c symbol k e = ap (λ x. is_last_of x e) (kind_is c symbol k)
 
 pub meets_on : (c : Command) (symbol : Name) → MakesVersion c symbol → (h : History) (reply : Reply) → MeetsOn h c reply symbol
 meets_on _ symbol of_write h reply = (refl, refl)
@@ -86,11 +85,22 @@ meets_on _ symbol of_append h reply = (refl, refl)
 meets_on _ symbol of_update h reply = (refl, refl)
 meets_on _ symbol of_delete_range h reply = (refl, refl)
 
+pub makes_one : (c : Command) (symbol : Name) → MakesVersion c symbol → makes_version c ≡ true
+makes_one c symbol k = ap kind_makes (kind_is c symbol k)
+
+pub makes_at : (c : Command) (symbol : Name) → MakesVersion c symbol → (h : History) (client : Client) (reply : Reply) (q : ℕ)
+    → MarksAt (answer client.session (library_at h (unwrap_or reply.listed q)) (library_at h q) q c) → MakesAt h client c reply symbol q
+makes_at _ symbol of_write h client reply q m = m
+makes_at _ symbol of_append h client reply q m = m
+makes_at _ symbol of_update h client reply q m = m
+makes_at _ symbol of_delete_range h client reply q m = m
+
+pub beside_tries : (c : Command) (symbol : Name) → MakesVersion c symbol → (h : History) (client : ℕ) (reply : Reply) (w : Window) (start stop : ℕ) → own_between h client w.start start ≡ [] → own_between h client stop w.stop ≡ []
+    → IsBeside h client (kind_of c) reply symbol w start stop
+beside_tries c symbol k h client reply w start stop before behind = subst (λ x. IsBeside h client x reply symbol w start stop) (sym (kind_is c symbol k)) (before, behind)
+
 pub of_symbol : (c : Command) (symbol : Name) → MakesVersion c symbol → symbol_of c ≡ Some symbol
-of_symbol _ symbol of_write = refl
-of_symbol _ symbol of_append = refl
-of_symbol _ symbol of_update = refl
-of_symbol _ symbol of_delete_range = refl
+of_symbol c symbol k = ap kind_symbol (kind_is c symbol k)
 
 pub are_meant : (c : Command) (symbol : Name) → MakesVersion c symbol → (h : History) (s : Session) (reply : Reply) (places : List ℕ) → MatchBool (is_store_fault reply.outcome) (AllByRecursion (IsMeantAt h s c reply) places) ⊤
     → AreMeant h s c reply places
@@ -124,7 +134,7 @@ ok_is_legal _ symbol of_append h client reply w version a = a
 ok_is_legal _ symbol of_update h client reply w version a = a
 ok_is_legal _ symbol of_delete_range h client reply w version a = a
 
-pub moved_refusal : (c : Command) (symbol : Name) → MakesVersion c symbol → (h : History) (client : Client) (reply : Reply) (w : Window) (now : ℕ) → IsMoved h client.session symbol now reply.place w → IsLegalRefusal h client c reply w (refusals.Moved now)
+pub moved_refusal : (c : Command) (symbol : Name) → MakesVersion c symbol → (h : History) (client : Client) (reply : Reply) (w : Window) (now : ℕ) → IsMoved h client c reply symbol now w → IsLegalRefusal h client c reply w (refusals.Moved now)
 moved_refusal _ symbol of_write h client reply w now m = (symbol, (refl, refl), m)
 moved_refusal _ symbol of_append h client reply w now m = (symbol, (refl, refl), m)
 moved_refusal _ symbol of_update h client reply w now m = (symbol, (refl, refl), m)
@@ -150,139 +160,22 @@ spent_refusal _ symbol of_delete_range h client reply w count x = x
 
 -- a refusal that the library gives
 pub answer_refusal : (c : Command) (symbol : Name) → MakesVersion c symbol → (h : History) (client : Client) (reply : Reply) (w : Window) (why : Refusal) → is_answer why ≡ true → IsAnswer h client c reply → IsLegalRefusal h client c reply w why
-answer_refusal _ symbol of_write h client reply w refusals.NoSuchSymbol e a = a
-answer_refusal _ symbol of_write h client reply w (refusals.NoSuchVersion asked) e a = a
-answer_refusal _ symbol of_write h client reply w (refusals.VersionGone version) e a = absurd (true≢false (sym e))
-answer_refusal _ symbol of_write h client reply w (refusals.Moved now) e a = absurd (true≢false (sym e))
-answer_refusal _ symbol of_write h client reply w (refusals.Unsorted row) e a = a
-answer_refusal _ symbol of_write h client reply w (refusals.SchemaDiffers column) e a = a
-answer_refusal _ symbol of_write h client reply w (refusals.AppendBefore last first) e a = a
-answer_refusal _ symbol of_write h client reply w (refusals.OutsideRange row) e a = a
-answer_refusal _ symbol of_write h client reply w refusals.EmptyUpdate e a = a
-answer_refusal _ symbol of_write h client reply w (refusals.NoSuchColumn clause position) e a = a
-answer_refusal _ symbol of_write h client reply w (refusals.TypeMismatch clause) e a = a
-answer_refusal _ symbol of_write h client reply w (refusals.Overflow clause row) e a = a
-answer_refusal _ symbol of_write h client reply w (refusals.GroupOverflow clause group) e a = a
-answer_refusal _ symbol of_write h client reply w (refusals.NotTimeIndexed clause) e a = a
-answer_refusal _ symbol of_write h client reply w refusals.SnapshotExists e a = a
-answer_refusal _ symbol of_write h client reply w refusals.NoSuchSnapshot e a = a
-answer_refusal _ symbol of_write h client reply w refusals.NoStaged e a = a
-answer_refusal _ symbol of_write h client reply w (refusals.StagedOverlap piece) e a = a
-answer_refusal _ symbol of_write h client reply w (refusals.TooLarge what most) e a = a
-answer_refusal _ symbol of_write h client reply w refusals.NoMemory e a = absurd (true≢false (sym e))
-answer_refusal _ symbol of_write h client reply w refusals.StoreFault e a = absurd (true≢false (sym e))
-answer_refusal _ symbol of_write h client reply w (refusals.Spent count) e a = absurd (true≢false (sym e))
-answer_refusal _ symbol of_append h client reply w refusals.NoSuchSymbol e a = a
-answer_refusal _ symbol of_append h client reply w (refusals.NoSuchVersion asked) e a = a
-answer_refusal _ symbol of_append h client reply w (refusals.VersionGone version) e a = absurd (true≢false (sym e))
-answer_refusal _ symbol of_append h client reply w (refusals.Moved now) e a = absurd (true≢false (sym e))
-answer_refusal _ symbol of_append h client reply w (refusals.Unsorted row) e a = a
-answer_refusal _ symbol of_append h client reply w (refusals.SchemaDiffers column) e a = a
-answer_refusal _ symbol of_append h client reply w (refusals.AppendBefore last first) e a = a
-answer_refusal _ symbol of_append h client reply w (refusals.OutsideRange row) e a = a
-answer_refusal _ symbol of_append h client reply w refusals.EmptyUpdate e a = a
-answer_refusal _ symbol of_append h client reply w (refusals.NoSuchColumn clause position) e a = a
-answer_refusal _ symbol of_append h client reply w (refusals.TypeMismatch clause) e a = a
-answer_refusal _ symbol of_append h client reply w (refusals.Overflow clause row) e a = a
-answer_refusal _ symbol of_append h client reply w (refusals.GroupOverflow clause group) e a = a
-answer_refusal _ symbol of_append h client reply w (refusals.NotTimeIndexed clause) e a = a
-answer_refusal _ symbol of_append h client reply w refusals.SnapshotExists e a = a
-answer_refusal _ symbol of_append h client reply w refusals.NoSuchSnapshot e a = a
-answer_refusal _ symbol of_append h client reply w refusals.NoStaged e a = a
-answer_refusal _ symbol of_append h client reply w (refusals.StagedOverlap piece) e a = a
-answer_refusal _ symbol of_append h client reply w (refusals.TooLarge what most) e a = a
-answer_refusal _ symbol of_append h client reply w refusals.NoMemory e a = absurd (true≢false (sym e))
-answer_refusal _ symbol of_append h client reply w refusals.StoreFault e a = absurd (true≢false (sym e))
-answer_refusal _ symbol of_append h client reply w (refusals.Spent count) e a = absurd (true≢false (sym e))
-answer_refusal _ symbol of_update h client reply w refusals.NoSuchSymbol e a = a
-answer_refusal _ symbol of_update h client reply w (refusals.NoSuchVersion asked) e a = a
-answer_refusal _ symbol of_update h client reply w (refusals.VersionGone version) e a = absurd (true≢false (sym e))
-answer_refusal _ symbol of_update h client reply w (refusals.Moved now) e a = absurd (true≢false (sym e))
-answer_refusal _ symbol of_update h client reply w (refusals.Unsorted row) e a = a
-answer_refusal _ symbol of_update h client reply w (refusals.SchemaDiffers column) e a = a
-answer_refusal _ symbol of_update h client reply w (refusals.AppendBefore last first) e a = a
-answer_refusal _ symbol of_update h client reply w (refusals.OutsideRange row) e a = a
-answer_refusal _ symbol of_update h client reply w refusals.EmptyUpdate e a = a
-answer_refusal _ symbol of_update h client reply w (refusals.NoSuchColumn clause position) e a = a
-answer_refusal _ symbol of_update h client reply w (refusals.TypeMismatch clause) e a = a
-answer_refusal _ symbol of_update h client reply w (refusals.Overflow clause row) e a = a
-answer_refusal _ symbol of_update h client reply w (refusals.GroupOverflow clause group) e a = a
-answer_refusal _ symbol of_update h client reply w (refusals.NotTimeIndexed clause) e a = a
-answer_refusal _ symbol of_update h client reply w refusals.SnapshotExists e a = a
-answer_refusal _ symbol of_update h client reply w refusals.NoSuchSnapshot e a = a
-answer_refusal _ symbol of_update h client reply w refusals.NoStaged e a = a
-answer_refusal _ symbol of_update h client reply w (refusals.StagedOverlap piece) e a = a
-answer_refusal _ symbol of_update h client reply w (refusals.TooLarge what most) e a = a
-answer_refusal _ symbol of_update h client reply w refusals.NoMemory e a = absurd (true≢false (sym e))
-answer_refusal _ symbol of_update h client reply w refusals.StoreFault e a = absurd (true≢false (sym e))
-answer_refusal _ symbol of_update h client reply w (refusals.Spent count) e a = absurd (true≢false (sym e))
-answer_refusal _ symbol of_delete_range h client reply w refusals.NoSuchSymbol e a = a
-answer_refusal _ symbol of_delete_range h client reply w (refusals.NoSuchVersion asked) e a = a
-answer_refusal _ symbol of_delete_range h client reply w (refusals.VersionGone version) e a = absurd (true≢false (sym e))
-answer_refusal _ symbol of_delete_range h client reply w (refusals.Moved now) e a = absurd (true≢false (sym e))
-answer_refusal _ symbol of_delete_range h client reply w (refusals.Unsorted row) e a = a
-answer_refusal _ symbol of_delete_range h client reply w (refusals.SchemaDiffers column) e a = a
-answer_refusal _ symbol of_delete_range h client reply w (refusals.AppendBefore last first) e a = a
-answer_refusal _ symbol of_delete_range h client reply w (refusals.OutsideRange row) e a = a
-answer_refusal _ symbol of_delete_range h client reply w refusals.EmptyUpdate e a = a
-answer_refusal _ symbol of_delete_range h client reply w (refusals.NoSuchColumn clause position) e a = a
-answer_refusal _ symbol of_delete_range h client reply w (refusals.TypeMismatch clause) e a = a
-answer_refusal _ symbol of_delete_range h client reply w (refusals.Overflow clause row) e a = a
-answer_refusal _ symbol of_delete_range h client reply w (refusals.GroupOverflow clause group) e a = a
-answer_refusal _ symbol of_delete_range h client reply w (refusals.NotTimeIndexed clause) e a = a
-answer_refusal _ symbol of_delete_range h client reply w refusals.SnapshotExists e a = a
-answer_refusal _ symbol of_delete_range h client reply w refusals.NoSuchSnapshot e a = a
-answer_refusal _ symbol of_delete_range h client reply w refusals.NoStaged e a = a
-answer_refusal _ symbol of_delete_range h client reply w (refusals.StagedOverlap piece) e a = a
-answer_refusal _ symbol of_delete_range h client reply w (refusals.TooLarge what most) e a = a
-answer_refusal _ symbol of_delete_range h client reply w refusals.NoMemory e a = absurd (true≢false (sym e))
-answer_refusal _ symbol of_delete_range h client reply w refusals.StoreFault e a = absurd (true≢false (sym e))
-answer_refusal _ symbol of_delete_range h client reply w (refusals.Spent count) e a = absurd (true≢false (sym e))
+answer_refusal c symbol k h client reply w why e a = by (cause_of why) e
+  where
+    by : (x : Cause) → tells x ≡ true → IsCaused h client c reply w why x
+    by Told e = subst (IsTold h client c reply why) (sym (kind_is c symbol k)) a
+    by x e = absurd (true≢false (sym e))
 
 pub answer_not_cut : (why : Refusal) → is_answer why ≡ true → is_cut (outcomes.Refused why) ≡ false
-answer_not_cut refusals.NoSuchSymbol e = refl
-answer_not_cut (refusals.NoSuchVersion asked) e = refl
-answer_not_cut (refusals.VersionGone version) e = refl
-answer_not_cut (refusals.Moved now) e = refl
-answer_not_cut (refusals.Unsorted row) e = refl
-answer_not_cut (refusals.SchemaDiffers column) e = refl
-answer_not_cut (refusals.AppendBefore last first) e = refl
-answer_not_cut (refusals.OutsideRange row) e = refl
-answer_not_cut refusals.EmptyUpdate e = refl
-answer_not_cut (refusals.NoSuchColumn clause position) e = refl
-answer_not_cut (refusals.TypeMismatch clause) e = refl
-answer_not_cut (refusals.Overflow clause row) e = refl
-answer_not_cut (refusals.GroupOverflow clause group) e = refl
-answer_not_cut (refusals.NotTimeIndexed clause) e = refl
-answer_not_cut refusals.SnapshotExists e = refl
-answer_not_cut refusals.NoSuchSnapshot e = refl
-answer_not_cut refusals.NoStaged e = refl
-answer_not_cut (refusals.StagedOverlap piece) e = refl
-answer_not_cut (refusals.TooLarge what most) e = refl
-answer_not_cut refusals.NoMemory e = absurd (true≢false (sym e))
-answer_not_cut refusals.StoreFault e = absurd (true≢false (sym e))
-answer_not_cut (refusals.Spent count) e = absurd (true≢false (sym e))
+answer_not_cut why e = by (cause_of why) e
+  where
+    by : (x : Cause) → tells x ≡ true → cuts x ≡ false
+    by Told e = refl
+    by x e = absurd (true≢false (sym e))
 
 pub answer_no_fault : (why : Refusal) → is_answer why ≡ true → is_store_fault (outcomes.Refused why) ≡ false
-answer_no_fault refusals.NoSuchSymbol e = refl
-answer_no_fault (refusals.NoSuchVersion asked) e = refl
-answer_no_fault (refusals.VersionGone version) e = refl
-answer_no_fault (refusals.Moved now) e = refl
-answer_no_fault (refusals.Unsorted row) e = refl
-answer_no_fault (refusals.SchemaDiffers column) e = refl
-answer_no_fault (refusals.AppendBefore last first) e = refl
-answer_no_fault (refusals.OutsideRange row) e = refl
-answer_no_fault refusals.EmptyUpdate e = refl
-answer_no_fault (refusals.NoSuchColumn clause position) e = refl
-answer_no_fault (refusals.TypeMismatch clause) e = refl
-answer_no_fault (refusals.Overflow clause row) e = refl
-answer_no_fault (refusals.GroupOverflow clause group) e = refl
-answer_no_fault (refusals.NotTimeIndexed clause) e = refl
-answer_no_fault refusals.SnapshotExists e = refl
-answer_no_fault refusals.NoSuchSnapshot e = refl
-answer_no_fault refusals.NoStaged e = refl
-answer_no_fault (refusals.StagedOverlap piece) e = refl
-answer_no_fault (refusals.TooLarge what most) e = refl
-answer_no_fault refusals.NoMemory e = refl
-answer_no_fault refusals.StoreFault e = absurd (true≢false (sym e))
-answer_no_fault (refusals.Spent count) e = refl
+answer_no_fault why e = by (cause_of why) e
+  where
+    by : (x : Cause) → tells x ≡ true → faults x ≡ false
+    by Told e = refl
+    by x e = absurd (true≢false (sym e))

@@ -46,26 +46,7 @@ append_none (x ∷ xs) = ap (λ l. x ∷ l) (append_none xs)
 look_cause : (limit before now : ℕ) (new : History) (refused : Refused) (why : Refusal) → IsLookRefusal before now why → HasCause limit before now new refused why
 look_cause limit before now new refused refusals.NoMemory c = tt
 look_cause limit before now new refused refusals.StoreFault c = c
-look_cause limit before now new refused (refusals.Spent count) c = absurd c
-look_cause limit before now new refused refusals.NoSuchSymbol c = absurd c
-look_cause limit before now new refused (refusals.NoSuchVersion asked) c = absurd c
-look_cause limit before now new refused (refusals.VersionGone version) c = absurd c
-look_cause limit before now new refused (refusals.Moved at) c = absurd c
-look_cause limit before now new refused (refusals.Unsorted row) c = absurd c
-look_cause limit before now new refused (refusals.SchemaDiffers column) c = absurd c
-look_cause limit before now new refused (refusals.AppendBefore last first) c = absurd c
-look_cause limit before now new refused (refusals.OutsideRange row) c = absurd c
-look_cause limit before now new refused refusals.EmptyUpdate c = absurd c
-look_cause limit before now new refused (refusals.NoSuchColumn clause position) c = absurd c
-look_cause limit before now new refused (refusals.TypeMismatch clause) c = absurd c
-look_cause limit before now new refused (refusals.Overflow clause row) c = absurd c
-look_cause limit before now new refused (refusals.GroupOverflow clause group) c = absurd c
-look_cause limit before now new refused (refusals.NotTimeIndexed clause) c = absurd c
-look_cause limit before now new refused refusals.SnapshotExists c = absurd c
-look_cause limit before now new refused refusals.NoSuchSnapshot c = absurd c
-look_cause limit before now new refused refusals.NoStaged c = absurd c
-look_cause limit before now new refused (refusals.StagedOverlap piece) c = absurd c
-look_cause limit before now new refused (refusals.TooLarge what most) c = absurd c
+look_cause limit before now new refused why c = absurd c
 
 pub walk_stops : (client : ℕ) (sole : Bool) (symbol : Name) (limit before now from : ℕ) (old new : History) (refused : Refused) → Looks IsClaimed client sole old new → RefusesWalk before now old new refused
     → DidStop client sole symbol limit before now from old new refused
@@ -275,9 +256,13 @@ module _ (client : ℕ) (sole : Bool) (symbol : Name) (limit faults_before : ℕ
     -- the keys were dropped again
     pub try_met : (last : History) → Went client sole new last (map (drop_of client) planned) → DidMeet client sole symbol (length p.before) old last (record { place = now; why = refusals.Moved now })
     try_met last a = record {
-      own = map (put_of client) planned ++ map (drop_of client) planned;
-      is_refused = (planned, plan.entry, p.is_plan.is_try, refl);
-      went = went_then client sole old new last (map (put_of client) planned) (map (drop_of client) planned) went_new a;
+      puts = planned;
+      entry = plan.entry;
+      is_try = p.is_plan.is_try;
+      showed = new;
+      put = went_new;
+      shown = sym moved.1;
+      dropped = a;
       met = is_met last (map (drop_of client) planned) a;
       why = refl;
     }

@@ -22,18 +22,22 @@ use Rattle.reply_model.specs.Answers.{answer}
 use Rattle.reply_model.specs.Windows.{Window, Client, library_at, own_events, refer_places, refers_by_others, is_cut, is_store_fault, AreCommits, IsReferAt}
 use Rattle.reply_model.specs.Tries.{put_of, one_if, IsTry, IsRefused, IsTurn}
 use Rattle.reply_model.specs.OwnEvents.{AnyMarks, IsBeginning, IsOwn, AreMeant, is_last, is_done}
+use Rattle.reply_model.specs.Moves.{AreMetTries}
+use Rattle.reply_model.specs.Losses.{FindsGone}
+use Rattle.reply_model.specs.Causes.{MakesAt}
 use Rattle.reply_model.specs.Rows.{IsAnswer}
 use Rattle.reply_model.specs.Legal.{IsLegalRefusal, IsLegalSeen}
 use Rattle.reply_model.proofs.Places.{history_at_end}
+use Rattle.reply_model.proofs.Moves.{own_nowhere, tries_later}
 use Rattle.reply_model.proofs.Later.{history_at_later}
 use Rattle.reply_model.proofs.Covering.{event_at_end}
 use Rattle.version_chain.specs.Traces.{own_of, met_in}
 use Rattle.version_chain.specs.Stops.{is_fault, StopsAt}
-use Rattle.frame_write.specs.Tries.{Made, IsMet}
+use Rattle.frame_write.specs.Tries.{Made, IsMet, MetTries}
 use Rattle.frame_write.specs.Writes.{reply_to}
 use Rattle.frame_write.proofs.LegalLemmas.{own_in_window, met_in_window, one_place}
 use Rattle.frame_write.proofs.TurnLemmas.{done_turn, open_turn}
-use Rattle.frame_write.proofs.CommandLemmas.{IsAskedBy, own_turn, none_listed, none_left, are_meant, of_symbol, ok_is_legal, moved_refusal, answer_refusal, answer_not_cut, answer_no_fault}
+use Rattle.frame_write.proofs.CommandLemmas.{IsAskedBy, makes_one, beside_tries, makes_at, own_turn, none_listed, none_left, are_meant, of_symbol, ok_is_legal, moved_refusal, answer_refusal, answer_not_cut, answer_no_fault}
 
 on_true : {A : Type 0} (B : Type 0) (b : Bool) → b ≡ true → A → MatchBool b A B
 on_true {A} B b is a = subst (λ x. MatchBool x A B) (sym is) a
@@ -49,8 +53,8 @@ some_first : (list : List Change) → IsFilled list → (first : Change) × (res
 some_first [] f = absurd f
 some_first (c ∷ cs) f = (c, cs, refl)
 
-module _ (s : Session) (limit : ℕ) (asks : Command) (symbol : Name) (Asked : Made → Type 0) (Refuses : History → Refusal → Type 0) (Wants : History → Type 0)
-    (k : IsAskedBy s asks symbol Asked Refuses Wants) (old new : History) (faulted : Bool) where
+module _ (s : Session) (limit : ℕ) (asks : Command) (symbol : Name) (Asked : Made → Type 0) (Refuses : History → Refusal → Type 0) (Wants : History → Type 0) (Loses : History → ℕ → ℕ → Type 0)
+    (k : IsAskedBy s asks symbol Asked Refuses Wants Loses) (old new : History) (faulted : Bool) where
   abbrev client : Client
   client = record { session = s; limit = limit }
 
@@ -153,9 +157,9 @@ module _ (s : Session) (limit : ℕ) (asks : Command) (symbol : Name) (Asked : M
 
   -- each try was met
   pub moved_legal : (place : ℕ) (more : History) (tries : List (List Event)) → AllByRecursion (IsRefused s.client symbol true) tries → length tries ≤ s.tries → new ≡ more ++ old → s.tries ≤ met_in s.client symbol more
-      → own_of s.client more ≡ flat_map (λ t. t) tries → IsMet s.client symbol (length old) new place → refer_places s.client (length old) new ≡ []
+      → own_of s.client more ≡ flat_map (λ t. t) tries → IsMet s.client symbol (length old) new place → MetTries s.client symbol Wants Loses s.tries old new place → refer_places s.client (length old) new ≡ []
       → IsLegalSeen new client asks (reply_to (Err (record { place = place; why = refusals.Moved place }))) window
-  moved_legal place more tries refused all is met own_are m none =
+  moved_legal place more tries refused all is met own_are m each none =
       let seen_own : own_events new s.client window ≡ flat_map (λ t. t) tries = own_in_window s.client old new more faulted is ∙ own_are in
       let enough : s.tries ≤ refers_by_others new s.client symbol window = subst (λ n. s.tries ≤ n) (sym (met_in_window s.client symbol old new more faulted is)) met in
       let reply : Reply = reply_to (Err (record { place = place; why = refusals.Moved place })) in
@@ -181,6 +185,16 @@ module _ (s : Session) (limit : ℕ) (asks : Command) (symbol : Name) (Asked : M
           refers = m.refers;
           others = m.others;
           enough = enough;
+          start = length old;
+          from = omega arith;
+          listed = omega arith;
+          stop = length new;
+          to = omega arith;
+          beside = beside_tries asks symbol k.makes new s.client reply window (length old) (length new) (own_nowhere new s.client (length old)) (own_nowhere new s.client (length new));
+          tries = subst (λ b. AreMetTries new s.client symbol b (MakesAt new client asks reply symbol) (FindsGone new client asks reply symbol) s.tries (length old) (length new) place) (sym (makes_one asks symbol k.makes))
+              (tries_later s.client symbol true new [] (λ q. Wants (history_at new q)) (MakesAt new client asks reply symbol) (Loses new) (FindsGone new client asks reply symbol)
+              (λ q le w. makes_at asks symbol k.makes new client reply q (k.wants (history_at new q) w (library_at new q) q)) (λ q z a b l. k.loses new limit reply q z l)
+              s.tries (length old) (length new) place (omega arith) each);
         });
       }
 

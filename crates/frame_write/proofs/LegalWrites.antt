@@ -39,8 +39,8 @@ use Rattle.frame_write.specs.declared.options.Committed.{Committed}
 use Rattle.frame_write.specs.declared.options.Options.{Options}
 use Rattle.version_chain.specs.Traces.{met_in, Went}
 use Rattle.version_chain.specs.Stops.{StopsAt}
-use Rattle.frame_write.specs.Tries.{Made, DidCommit, DidTries, DidRefuse, DidRefused, DidStop, IsBusy, IsMet, IsPart, no_event, some_puts, some_drops}
-use Rattle.frame_write.specs.Writes.{reply_to, IsLegalCall, IsLegalWrite, IsWritten, Never, Always}
+use Rattle.frame_write.specs.Tries.{Made, DidCommit, DidTries, DidRefuse, DidRefused, DidStop, IsBusy, IsMet, MetTries, IsPart, no_event, some_puts, some_drops}
+use Rattle.frame_write.specs.Writes.{reply_to, IsLegalCall, IsLegalWrite, IsWritten, Never, Always, Whole}
 use Rattle.frame_write.proofs.ListLemmas.{map_append}
 use Rattle.version_chain.proofs.TraceLemmas.{went_then, went_as, went_longer, same_front, append_assoc, met_in-append}
 use Rattle.frame_write.proofs.MeetLemmas.{met_once}
@@ -115,8 +115,8 @@ met_sum client sole symbol old mid new first second whole a b w =
     let is : new ≡ (b.more ++ a.more) ++ old = b.is ∙ (ap (λ h. b.more ++ h) a.is ∙ sym (append_assoc b.more a.more old)) in
     ap (met_in client symbol) (same_front w.more (b.more ++ a.more) old (sym w.is ∙ is)) ∙ met_in-append client symbol b.more a.more
 
-module _ (s : Session) (limit : ℕ) (asks : Command) (sole : Bool) (symbol : Name) (Asked : Made → Type 0) (Refuses : History → Refusal → Type 0) (Wants : History → Type 0)
-    (k : IsAskedBy s asks symbol Asked Refuses Wants) (old new : History) (faulted : Bool) where
+module _ (s : Session) (limit : ℕ) (asks : Command) (sole : Bool) (symbol : Name) (Asked : Made → Type 0) (Refuses : History → Refusal → Type 0) (Wants : History → Type 0) (Loses : History → ℕ → ℕ → Type 0)
+    (k : IsAskedBy s asks symbol Asked Refuses Wants Loses) (old new : History) (faulted : Bool) where
   -- the reply to a result is legal
   abbrev IsLegalResult : Result Committed Refused → Type 0
   IsLegalResult r = IsLegalSeen new (record { session = s; limit = limit }) asks (reply_to r) (record { start = length old; stop = length new; faulted = faulted })
@@ -149,7 +149,7 @@ module _ (s : Session) (limit : ℕ) (asks : Command) (sole : Bool) (symbol : Na
         (none_both all_tries (map (put_of s.client) c.made.puts) (tries_no_refer s.client symbol r.tries r.refused) (puts_no_refer s.client c.made.puts))
 
     pub commit_is_legal : count < s.tries → IsLegalResult (Ok (record { version = done.version; place = done.place }))
-    commit_is_legal few = done_legal s limit asks symbol Asked Refuses Wants k old new faulted done.version done.place whole_went.more c.made c.asked c.was c.entry r.tries r.refused (omega (arith, r.counted, few)) whole_went.is
+    commit_is_legal few = done_legal s limit asks symbol Asked Refuses Wants Loses k old new faulted done.version done.place whole_went.more c.made c.asked c.was c.entry r.tries r.refused (omega (arith, r.counted, few)) whole_went.is
         counted whole_went.own_are c.is_try c.newest longer none_before c.version c.place
 
     -- the store failed, and the commit stands
@@ -161,7 +161,7 @@ module _ (s : Session) (limit : ℕ) (asks : Command) (sole : Bool) (symbol : Na
         let places : refer_places s.client (length old) new ≡ suc (length c.made.before) ∷ [] =
         ap (refer_places s.client (length old)) c.newest ∙ one_place s.client old c.made.before symbol c.was c.entry c.made.list longer none_before in
         let reply : Reply = reply_to (Err (record { place = place; why = refusals.StoreFault })) in
-        cut_legal s limit asks symbol Asked Refuses Wants k old new faulted place refusals.StoreFault whole_went.more (all_tries ++ last_try) whole_went.is whole_went.own_are
+        cut_legal s limit asks symbol Asked Refuses Wants Loses k old new faulted place refusals.StoreFault whole_went.more (all_tries ++ last_try) whole_went.is whole_went.own_are
         (inl (record {
           more = [];
           whole = subst (IsTurn new s (record { start = length old; stop = length new; faulted = faulted }) symbol true true AnyMarks) (sym (append_none (all_tries ++ last_try)))
@@ -175,16 +175,16 @@ module _ (s : Session) (limit : ℕ) (asks : Command) (sole : Bool) (symbol : Na
             list = c.made.list;
             outcome = outcomes.Committed (next_number (state_of c.made.before symbol));
             symbol_is = of_symbol asks symbol k.makes;
-            event = referred s limit asks symbol Asked Refuses Wants k old new faulted c.made c.was c.entry c.newest (suc (length c.made.before)) refl;
-            answered = answered s limit asks symbol Asked Refuses Wants k old new faulted c.made c.asked c.was c.entry c.newest (suc (length c.made.before)) (suc (length c.made.before)) refl;
+            event = referred s limit asks symbol Asked Refuses Wants Loses k old new faulted c.made c.was c.entry c.newest (suc (length c.made.before)) refl;
+            answered = answered s limit asks symbol Asked Refuses Wants Loses k old new faulted c.made c.asked c.was c.entry c.newest (suc (length c.made.before)) (suc (length c.made.before)) refl;
           },
           tt,
         )))
         (fault_refusal asks symbol k.makes new (record { session = s; limit = limit }) reply (record { start = length old; stop = length new; faulted = faulted }) (rises rose))
 
-  pub moved_is_legal : (place : ℕ) (r : DidRefused s.client sole symbol old new s.tries) → IsMet s.client symbol (length old) new place → IsLegalResult (Err (record { place = place; why = refusals.Moved place }))
-  moved_is_legal place r m =
-      moved_legal s limit asks symbol Asked Refuses Wants k old new faulted place r.went.more r.tries r.refused r.counted r.went.is r.met r.went.own_are m
+  pub moved_is_legal : (place : ℕ) (r : DidRefused s.client sole symbol old new s.tries) → IsMet s.client symbol (length old) new place → MetTries s.client symbol Wants Loses s.tries old new place → IsLegalResult (Err (record { place = place; why = refusals.Moved place }))
+  moved_is_legal place r m each =
+      moved_legal s limit asks symbol Asked Refuses Wants Loses k old new faulted place r.went.more r.tries r.refused r.counted r.went.is r.met r.went.own_are m each
       (places_none s.client sole old new (flat_map (λ t. t) r.tries) r.went (tries_no_refer s.client symbol r.tries r.refused))
 
   -- the library refuses behind refused tries
@@ -195,7 +195,7 @@ module _ (s : Session) (limit : ℕ) (asks : Command) (sole : Bool) (symbol : Na
       let w = went_as s.client sole old new (tried ++ []) tried (append_none tried) (went_then s.client sole old mid new tried [] r.went d.went) in
       let sum = met_sum s.client sole symbol old mid new tried [] tried r.went d.went w in
       let early : length old ≤ length mid = went_longer s.client sole old mid tried r.went in
-      refused_legal s limit asks symbol Asked Refuses Wants k old new faulted place why w.more r.tries r.refused (omega (arith, r.counted, few)) w.is (omega (arith, r.counted, r.met, sum)) w.own_are
+      refused_legal s limit asks symbol Asked Refuses Wants Loses k old new faulted place why w.more r.tries r.refused (omega (arith, r.counted, few)) w.is (omega (arith, r.counted, r.met, sum)) w.own_are
       (omega (arith, early, d.place.from)) d.place.to d.refuses (places_none s.client sole old new tried w (tries_no_refer s.client symbol r.tries r.refused))
 
   -- a call failed behind refused tries
@@ -234,7 +234,7 @@ module _ (s : Session) (limit : ℕ) (asks : Command) (sole : Bool) (symbol : Na
     no_memory_is_legal d =
         let w = stop_went before now rises count mid few r place refusals.NoMemory d in
         let reply : Reply = reply_to (Err (record { place = place; why = refusals.NoMemory })) in
-        cut_legal s limit asks symbol Asked Refuses Wants k old new faulted place refusals.NoMemory w.more (flat_map (λ t. t) r.tries ++ d.own) w.is w.own_are
+        cut_legal s limit asks symbol Asked Refuses Wants Loses k old new faulted place refusals.NoMemory w.more (flat_map (λ t. t) r.tries ++ d.own) w.is w.own_are
         (stop_turn before now rises count mid few r place refusals.NoMemory d) (stop_at before now rises count mid few r place refusals.NoMemory d) refl refl
         (sym (stop_places before now rises count mid few r place refusals.NoMemory d)) (λ f. stop_no_end before now rises count mid few r place refusals.NoMemory d)
         (are_meant asks symbol k.makes new s reply (refer_places s.client (length old) new) tt) (memory_refusal asks symbol k.makes new (record { session = s; limit = limit }) reply (record { start = length old; stop = length new; faulted = faulted }))
@@ -244,7 +244,7 @@ module _ (s : Session) (limit : ℕ) (asks : Command) (sole : Bool) (symbol : Na
         let w = stop_went before now rises count mid few r place refusals.StoreFault d in
         let none = stop_places before now rises count mid few r place refusals.StoreFault d in
         let reply : Reply = reply_to (Err (record { place = place; why = refusals.StoreFault })) in
-        cut_legal s limit asks symbol Asked Refuses Wants k old new faulted place refusals.StoreFault w.more (flat_map (λ t. t) r.tries ++ d.own) w.is w.own_are
+        cut_legal s limit asks symbol Asked Refuses Wants Loses k old new faulted place refusals.StoreFault w.more (flat_map (λ t. t) r.tries ++ d.own) w.is w.own_are
         (stop_turn before now rises count mid few r place refusals.StoreFault d) (stop_at before now rises count mid few r place refusals.StoreFault d) refl refl
         (inl (sym none)) (λ f. absurd (true≢false f))
         (are_meant asks symbol k.makes new s reply (refer_places s.client (length old) new) (subst (AllByRecursion (IsMeantAt new s asks reply)) (sym none) tt))
@@ -257,7 +257,7 @@ module _ (s : Session) (limit : ℕ) (asks : Command) (sole : Bool) (symbol : Na
         let at = stop_at before now rises count mid few r place (refusals.Spent full) d in
         let early : length old ≤ length mid = went_longer s.client sole old mid (flat_map (λ t. t) r.tries) r.went in
         let reply : Reply = reply_to (Err (record { place = place; why = refusals.Spent full })) in
-        cut_legal s limit asks symbol Asked Refuses Wants k old new faulted place (refusals.Spent full) w.more (flat_map (λ t. t) r.tries ++ d.own) w.is w.own_are
+        cut_legal s limit asks symbol Asked Refuses Wants Loses k old new faulted place (refusals.Spent full) w.more (flat_map (λ t. t) r.tries ++ d.own) w.is w.own_are
         (stop_turn before now rises count mid few r place (refusals.Spent full) d) at refl refl
         (sym (stop_places before now rises count mid few r place (refusals.Spent full) d)) (λ f. stop_no_end before now rises count mid few r place (refusals.Spent full) d)
         (are_meant asks symbol k.makes new s reply (refer_places s.client (length old) new) tt)
@@ -272,49 +272,31 @@ module _ (s : Session) (limit : ℕ) (asks : Command) (sole : Bool) (symbol : Na
     stop_is_legal refusals.NoMemory d busy = no_memory_is_legal d
     stop_is_legal refusals.StoreFault d busy = fault_is_legal d
     stop_is_legal (refusals.Spent full) d busy = spent_is_legal full d busy
-    stop_is_legal refusals.NoSuchSymbol d busy = absurd d.cause
-    stop_is_legal (refusals.NoSuchVersion asked) d busy = absurd d.cause
-    stop_is_legal (refusals.VersionGone version) d busy = absurd d.cause
-    stop_is_legal (refusals.Moved at) d busy = absurd d.cause
-    stop_is_legal (refusals.Unsorted row) d busy = absurd d.cause
-    stop_is_legal (refusals.SchemaDiffers column) d busy = absurd d.cause
-    stop_is_legal (refusals.AppendBefore last first) d busy = absurd d.cause
-    stop_is_legal (refusals.OutsideRange row) d busy = absurd d.cause
-    stop_is_legal refusals.EmptyUpdate d busy = absurd d.cause
-    stop_is_legal (refusals.NoSuchColumn clause position) d busy = absurd d.cause
-    stop_is_legal (refusals.TypeMismatch clause) d busy = absurd d.cause
-    stop_is_legal (refusals.Overflow clause row) d busy = absurd d.cause
-    stop_is_legal (refusals.GroupOverflow clause group) d busy = absurd d.cause
-    stop_is_legal (refusals.NotTimeIndexed clause) d busy = absurd d.cause
-    stop_is_legal refusals.SnapshotExists d busy = absurd d.cause
-    stop_is_legal refusals.NoSuchSnapshot d busy = absurd d.cause
-    stop_is_legal refusals.NoStaged d busy = absurd d.cause
-    stop_is_legal (refusals.StagedOverlap piece) d busy = absurd d.cause
-    stop_is_legal (refusals.TooLarge what most) d busy = absurd d.cause
+    stop_is_legal why d busy = absurd d.cause
 
 -- ---- all tries
 
-module _ (s : Session) (limit : ℕ) (asks : Command) (sole : Bool) (symbol : Name) (Asked : Made → Type 0) (Refuses : History → Refusal → Type 0) (Wants : History → Type 0)
-    (k : IsAskedBy s asks symbol Asked Refuses Wants) (before now : ℕ) (old new : History) where
-  seen_is_legal : (faulted : Bool) → (Rose before now → faulted ≡ true) → (result : Result Committed Refused) → DidTries s.client sole symbol Asked Refuses Wants s.tries limit before now old new result
+module _ (s : Session) (limit : ℕ) (asks : Command) (sole : Bool) (symbol : Name) (Asked : Made → Type 0) (Refuses : History → Refusal → Type 0) (Wants : History → Type 0) (Loses : History → ℕ → ℕ → Type 0)
+    (k : IsAskedBy s asks symbol Asked Refuses Wants Loses) (before now : ℕ) (old new : History) where
+  seen_is_legal : (faulted : Bool) → (Rose before now → faulted ≡ true) → (result : Result Committed Refused) → DidTries s.client sole symbol Asked Refuses Wants Loses s.tries limit before now old new result
       → IsLegalSeen new (record { session = s; limit = limit }) asks (reply_to result) (record { start = length old; stop = length new; faulted = faulted })
-  seen_is_legal faulted rises (Ok done) d = commit_is_legal s limit asks sole symbol Asked Refuses Wants k old new faulted d.count d.mid done d.refused d.last d.few
+  seen_is_legal faulted rises (Ok done) d = commit_is_legal s limit asks sole symbol Asked Refuses Wants Loses k old new faulted d.count d.mid done d.refused d.last d.few
   seen_is_legal faulted rises (Err refused) d = elim d [
     | inl all ↦ subst (λ y. IsLegalSeen new (record { session = s; limit = limit }) asks (reply_to (Err (record { place = refused.place; why = y }))) (record { start = length old; stop = length new; faulted = faulted })) (sym all.why)
-        (moved_is_legal s limit asks sole symbol Asked Refuses Wants k old new faulted refused.place all.all all.met)
+        (moved_is_legal s limit asks sole symbol Asked Refuses Wants Loses k old new faulted refused.place all.all all.met all.each)
     | inr t ↦ elim t.last [
       | inl failed ↦ elim failed.0 [
-        | inl stop ↦ stop_is_legal s limit asks sole symbol Asked Refuses Wants k old new faulted before now rises t.count t.mid t.few t.refused refused.place refused.why stop failed.1
+        | inl stop ↦ stop_is_legal s limit asks sole symbol Asked Refuses Wants Loses k old new faulted before now rises t.count t.mid t.few t.refused refused.place refused.why stop failed.1
         | inr f ↦ subst (λ y. IsLegalSeen new (record { session = s; limit = limit }) asks (reply_to (Err (record { place = refused.place; why = y }))) (record { start = length old; stop = length new; faulted = faulted })) (sym f.why)
-            (faulted_is_legal s limit asks sole symbol Asked Refuses Wants k old new faulted t.count t.mid f.done t.refused f.commit t.few before now rises refused.place
+            (faulted_is_legal s limit asks sole symbol Asked Refuses Wants Loses k old new faulted t.count t.mid f.done t.refused f.commit t.few before now rises refused.place
             (subst (λ y. StopsAt s.client t.mid new (record { place = refused.place; why = y })) f.why f.stops) f.rose)
       ]
-      | inr e ↦ refusal_is_legal s limit asks sole symbol Asked Refuses Wants k old new faulted t.count t.mid t.few t.refused refused.place refused.why e
+      | inr e ↦ refusal_is_legal s limit asks sole symbol Asked Refuses Wants Loses k old new faulted t.count t.mid t.few t.refused refused.place refused.why e
     ]
   ]
 
   -- the reply to the command is legal
-  pub tries_are_legal : (result : Result Committed Refused) → DidTries s.client sole symbol Asked Refuses Wants s.tries limit before now old new result → IsLegalCall s asks limit before now old new result
+  pub tries_are_legal : (result : Result Committed Refused) → DidTries s.client sole symbol Asked Refuses Wants Loses s.tries limit before now old new result → IsLegalCall s asks limit before now old new result
   tries_are_legal result d = λ faulted rises. (
     omega arith,
     subst (λ h. IsLegalSeen h (record { session = s; limit = limit }) asks (reply_to result) (record { start = length old; stop = length new; faulted = faulted })) (sym (history_at_end new))
@@ -325,13 +307,14 @@ module _ (s : Session) (limit : ℕ) (asks : Command) (sole : Bool) (symbol : Na
 
 -- a session that brings the frame asks for it
 write_asks : (s : Session) (symbol : Name) (frame : Frame) (options : Options) (n : ℕ) (asked : Option ℤ) → frame_of s n ≡ Some (Ok frame) → stamp_of s asked ≡ options.at
-    → IsAskedBy s (commands.Write symbol n asked options.prune) symbol (IsWritten symbol frame options) Never Always
+    → IsAskedBy s (commands.Write symbol n asked options.prune) symbol (IsWritten symbol frame options) Never Always Whole
 write_asks s symbol frame options n asked frame_is stamp_is = record {
   makes = of_write;
   answers = λ m w l p. answer_is (library_of m.before).state ∙ (λ i. Some (record { outcome = outcomes.Committed (next_number (state_of m.before symbol)); marks = sym w.list i }));
   filled = λ m w. subst IsFilled (sym w.list) tt;
   refuses = λ h why r. absurd r;
   wants = λ h w l p. subst MarksAt (sym (answer_is (library_of h).state)) (inl (λ e. absurd cc));
+  loses = λ h limit reply q z l. absurd l;
 }
   where
     answer_is : (state : Name → State) → option_map (λ f. answer_of (f then (λ g. Ok (committed (state symbol) options.prune (changes.Wrote g (stamp_of s asked)))))) (frame_of s n) ≡ Some (committed (state symbol) options.prune (changes.Wrote frame options.at))
@@ -339,8 +322,8 @@ write_asks s symbol frame options n asked frame_is stamp_is = record {
         ∙ ap (λ at. Some (committed (state symbol) options.prune (changes.Wrote frame at))) stamp_is
 
 pub write_is_legal : (client : ℕ) (sole : Bool) (symbol : Name) (frame : Frame) (options : Options) (limit before now : ℕ) (old new : History) (result : Result Committed Refused)
-    → DidTries client sole symbol (IsWritten symbol frame options) Never Always options.tries limit before now old new result → IsLegalWrite limit client options.tries symbol frame options.at options.prune before now old new result
+    → DidTries client sole symbol (IsWritten symbol frame options) Never Always Whole options.tries limit before now old new result → IsLegalWrite limit client options.tries symbol frame options.at options.prune before now old new result
 write_is_legal client sole symbol frame options limit before now old new result d = λ s n asked b.
-    tries_are_legal s limit (commands.Write symbol n asked options.prune) sole symbol (IsWritten symbol frame options) Never Always (write_asks s symbol frame options n asked b.frame_is b.stamp_is) before now old new result
-    (subst (λ c. DidTries c sole symbol (IsWritten symbol frame options) Never Always s.tries limit before now old new result) (sym b.client_is)
-    (subst (λ t. DidTries client sole symbol (IsWritten symbol frame options) Never Always t limit before now old new result) (sym b.tries_are) d))
+    tries_are_legal s limit (commands.Write symbol n asked options.prune) sole symbol (IsWritten symbol frame options) Never Always Whole (write_asks s symbol frame options n asked b.frame_is b.stamp_is) before now old new result
+    (subst (λ c. DidTries c sole symbol (IsWritten symbol frame options) Never Always Whole s.tries limit before now old new result) (sym b.client_is)
+    (subst (λ t. DidTries client sole symbol (IsWritten symbol frame options) Never Always Whole t limit before now old new result) (sym b.tries_are) d))

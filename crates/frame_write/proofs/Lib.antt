@@ -11,6 +11,7 @@ pub mod PlanLemmas
 pub mod LoopLemmas
 pub mod SteadyLemmas
 pub mod MeetLemmas
+pub mod MetTries
 pub mod CommitLemmas
 pub mod TriesLemmas
 pub mod TurnLemmas

@@ -11,13 +11,14 @@ use Rattle.bucket_core.specs.declared.event.Event.{Event}
 use Rattle.bucket_core.specs.declared.event.Event.TheVariants as events
 use Rattle.bucket_core.specs.History.{History, Bytes, author, event_at, referred_at, AllByOthers}
 use Rattle.bucket_core.specs.Laws.{refers}
-use Rattle.reply_model.specs.Tries.{put_of}
+use Rattle.reply_model.specs.Tries.{put_of, drop_of}
 use Rattle.reply_model.proofs.Covering.{event_at_later, event_at_end}
 use Rattle.reply_model.proofs.Places.{none_of_reversed, none_of_filtered}
-use Rattle.version_chain.specs.Traces.{own_of, met_in}
+use Rattle.version_chain.specs.Traces.{own_of, met_in, Went}
 use Rattle.version_chain.specs.Marking.{own_refers}
-use Rattle.frame_write.specs.Tries.{IsMet}
-use Rattle.version_chain.proofs.TraceLemmas.{split_more, others_first}
+use Rattle.frame_core.specs.declared.refusal.Refused.{Refused}
+use Rattle.frame_write.specs.Tries.{IsMet, DidMeet}
+use Rattle.version_chain.proofs.TraceLemmas.{split_more, others_first, went_then}
 
 pub others_refer_not : (client : ℕ) (symbol : Name) (more : History) → AllByOthers client more → list_any (own_refers client symbol) more ≡ false
 others_refer_not client symbol [] others = refl
@@ -115,3 +116,7 @@ pub later_not_own : (client : ℕ) (symbol : Name) (old new later before : Histo
 later_not_own client symbol old new later before split others is by_others longer =
     let parts = split_more later before others old (split ∙ is) longer in
     others_refer_not client symbol later (others_first client later parts.0 (subst (AllByOthers client) parts.2 by_others))
+
+-- the own events of a met try
+pub met_went : (client : ℕ) (sole : Bool) (symbol : Name) (from : ℕ) (old new : History) (refused : Refused) → (m : DidMeet client sole symbol from old new refused) → Went client sole old new (map (put_of client) m.puts ++ map (drop_of client) m.puts)
+met_went client sole symbol from old new refused m = went_then client sole old m.showed new (map (put_of client) m.puts) (map (drop_of client) m.puts) m.put m.dropped

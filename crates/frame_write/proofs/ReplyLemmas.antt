@@ -19,6 +19,7 @@ use Rattle.frame_write.specs.Tries.{Made, DidCommit, DidTry, DidTries, DidRefuse
 use Rattle.version_chain.specs.Traces.{GoesOn}
 use Rattle.frame_write.specs.Writes.{StandsAlone}
 use Rattle.reply_model.specs.Standing.{GrowsAlone}
+use Rattle.frame_write.proofs.MeetLemmas.{met_went}
 use Rattle.version_chain.proofs.TraceLemmas.{append_assoc, own_of-append, own_of-one, went_then, same_front}
 
 -- ---- how the history went on
@@ -57,7 +58,7 @@ pub try_goes_on : (client : ℕ) (sole : Bool) (symbol : Name) (Asked : Made →
     → DidTry client sole symbol Asked limit before now from old new r → GoesOn client sole old new
 try_goes_on client sole symbol Asked limit before now from old new (Ok done) d = went_goes_on client sole old new _ (commit_went client sole symbol Asked old new done d)
 try_goes_on client sole symbol Asked limit before now from old new (Err refused) d = elim d [
-  | inl m ↦ went_goes_on client sole old new m.own m.went
+  | inl m ↦ went_goes_on client sole old new _ (met_went client sole symbol from old new refused m)
   | inr f ↦ elim f [
     | inl s ↦ went_goes_on client sole old new s.own s.went
     | inr s ↦ went_goes_on client sole old new _ (commit_went client sole symbol Asked old new s.done s.commit)
@@ -65,11 +66,11 @@ try_goes_on client sole symbol Asked limit before now from old new (Err refused)
 ]
 
 -- all tries
-pub goes_on : (client : ℕ) (sole : Bool) (symbol : Name) (Asked : Made → Type 0) (Refuses : History → Refusal → Type 0) (Wants : History → Type 0) (most limit before now : ℕ) (old new : History) (r : Result Committed Refused)
-    → DidTries client sole symbol Asked Refuses Wants most limit before now old new r → GoesOn client sole old new
-goes_on client sole symbol Asked Refuses Wants most limit before now old new (Ok done) d =
+pub goes_on : (client : ℕ) (sole : Bool) (symbol : Name) (Asked : Made → Type 0) (Refuses : History → Refusal → Type 0) (Wants : History → Type 0) (Loses : History → ℕ → ℕ → Type 0) (most limit before now : ℕ) (old new : History) (r : Result Committed Refused)
+    → DidTries client sole symbol Asked Refuses Wants Loses most limit before now old new r → GoesOn client sole old new
+goes_on client sole symbol Asked Refuses Wants Loses most limit before now old new (Ok done) d =
     went_goes_on client sole old new _ (went_then client sole old d.mid new _ _ d.refused.went (commit_went client sole symbol Asked d.mid new done d.last))
-goes_on client sole symbol Asked Refuses Wants most limit before now old new (Err refused) d = elim d [
+goes_on client sole symbol Asked Refuses Wants Loses most limit before now old new (Err refused) d = elim d [
   | inl all ↦ went_goes_on client sole old new _ all.all.went
   | inr t ↦ elim t.last [
     | inl failed ↦ elim failed.0 [
@@ -111,9 +112,9 @@ own_not_met client symbol (e ∷ more) own =
     and_false false = refl
 
 -- none of the tries is met, so that a commit stands right behind its puts
-pub stands_alone : (client : ℕ) (sole : Bool) (symbol : Name) (Asked : Made → Type 0) (most limit before now : ℕ) (Refuses : History → Refusal → Type 0) (Wants : History → Type 0) (old new : History) (done : Committed) (tiles : ℕ)
-    → ((m : Made) → Asked m → length m.puts ≡ tiles + 2) → GrowsAlone client old new → DidTries client sole symbol Asked Refuses Wants most limit before now old new (Ok done) → StandsAlone tiles old done
-stands_alone client sole symbol Asked most limit before now Refuses Wants old new done tiles counts grows d =
+pub stands_alone : (client : ℕ) (sole : Bool) (symbol : Name) (Asked : Made → Type 0) (most limit before now : ℕ) (Refuses : History → Refusal → Type 0) (Wants : History → Type 0) (Loses : History → ℕ → ℕ → Type 0) (old new : History) (done : Committed) (tiles : ℕ)
+    → ((m : Made) → Asked m → length m.puts ≡ tiles + 2) → GrowsAlone client old new → DidTries client sole symbol Asked Refuses Wants Loses most limit before now old new (Ok done) → StandsAlone tiles old done
+stands_alone client sole symbol Asked most limit before now Refuses Wants Loses old new done tiles counts grows d =
     let c = d.last in
     let refer : Event = events.Refer client symbol c.was c.entry c.made.list in
     let whole : new ≡ ((refer ∷ c.went.more) ++ d.refused.went.more) ++ old = c.newest ∙ ap (λ h. refer ∷ h) (c.went.is ∙ (ap (λ h. c.went.more ++ h) d.refused.went.is ∙ sym (append_assoc c.went.more d.refused.went.more old))) in

@@ -1,5 +1,6 @@
 -- Several tries, one after another.
 use Rattle.std.proofs.Common.{◌≡◌, ℕ, ◌+◌, ◌≤◌, Bool, true, List, [], ◌∷◌, ◌++◌, length, refl, ap, sym, ◌∙◌, subst, inl, inr, arith, Result, Ok, Err, length-append}
+use Rattle.std.specs.Prelude.{map}
 use Rattle.std.specs.List.{flat_map}
 use Rattle.frame_core.specs.declared.refusal.Refusal.{Refusal}
 use Rattle.frame_core.specs.declared.refusal.Refusal.TheVariants as refusals
@@ -8,7 +9,7 @@ use Rattle.key_kind.specs.Names.{Name}
 use Rattle.bucket_core.specs.declared.event.Event.{Event}
 use Rattle.bucket_core.specs.History.{History}
 use Rattle.bucket_core.specs.Calls.{IsSteady}
-use Rattle.reply_model.specs.Tries.{IsRefused}
+use Rattle.reply_model.specs.Tries.{put_of, drop_of, IsRefused}
 use Rattle.frame_write.specs.declared.options.Committed.{Committed}
 use Rattle.version_chain.specs.Traces.{met_in, Went}
 use Rattle.version_chain.specs.Stops.{HasCause, StopsAt}
@@ -16,7 +17,7 @@ use Rattle.frame_write.specs.Writes.{Always}
 use Rattle.frame_write.specs.Tries.{Made, DidCommit, DidMeet, DidFail, DidTry, DidRefused, IsBusy, IsMet, IsPart, no_event, some_puts, some_drops}
 use Rattle.frame_write.proofs.ListLemmas.{all_last}
 use Rattle.version_chain.proofs.TraceLemmas.{append_assoc, went_none, went_then, went_as, went_longer, same_front, met_in-append}
-use Rattle.frame_write.proofs.MeetLemmas.{met_sooner, met_once}
+use Rattle.frame_write.proofs.MeetLemmas.{met_sooner, met_once, met_went}
 use Rattle.frame_write.proofs.CommitLemmas.{later_stop}
 use Rattle.version_chain.proofs.SteadyLemmas.{cause_sooner, rose_sooner}
 
@@ -34,16 +35,18 @@ tries_none client sole symbol old = record { tries = []; refused = tt; counted =
 -- one refused try more, which was met behind the place where it began
 pub tries_more : (client : ℕ) (sole : Bool) (symbol : Name) (old mid new : History) (n : ℕ) (refused : Refused) → DidRefused client sole symbol old mid n → DidMeet client sole symbol (length mid) mid new refused → DidRefused client sole symbol old new (n + 1)
 tries_more client sole symbol old mid new n refused a b =
-    let w : Went client sole old new (flat_map (λ t. t) (a.tries ++ b.own ∷ [])) =
-    went_as client sole old new (flat_map (λ t. t) a.tries ++ b.own) (flat_map (λ t. t) (a.tries ++ b.own ∷ [])) (sym (flat_last a.tries b.own)) (went_then client sole old mid new (flat_map (λ t. t) a.tries) b.own a.went b.went) in
-    let is : new ≡ (b.went.more ++ a.went.more) ++ old = b.went.is ∙ (ap (λ h. b.went.more ++ h) a.went.is ∙ sym (append_assoc b.went.more a.went.more old)) in
-    let same : w.more ≡ b.went.more ++ a.went.more = same_front w.more (b.went.more ++ a.went.more) old (sym w.is ∙ is) in
-    let count : met_in client symbol w.more ≡ met_in client symbol b.went.more + met_in client symbol a.went.more = ap (met_in client symbol) same ∙ met_in-append client symbol b.went.more a.went.more in
-    let size : length (a.tries ++ b.own ∷ []) ≡ length a.tries + 1 = length-append a.tries (b.own ∷ []) in
-    let some : 1 ≤ met_in client symbol b.went.more = met_once client symbol mid b.went.more refused.place (subst (λ h. IsMet client symbol (length mid) h refused.place) b.went.is b.met) in
+    let own : List Event = map (put_of client) b.puts ++ map (drop_of client) b.puts in
+    let last : Went client sole mid new own = met_went client sole symbol (length mid) mid new refused b in
+    let w : Went client sole old new (flat_map (λ t. t) (a.tries ++ own ∷ [])) =
+    went_as client sole old new (flat_map (λ t. t) a.tries ++ own) (flat_map (λ t. t) (a.tries ++ own ∷ [])) (sym (flat_last a.tries own)) (went_then client sole old mid new (flat_map (λ t. t) a.tries) own a.went last) in
+    let is : new ≡ (last.more ++ a.went.more) ++ old = last.is ∙ (ap (λ h. last.more ++ h) a.went.is ∙ sym (append_assoc last.more a.went.more old)) in
+    let same : w.more ≡ last.more ++ a.went.more = same_front w.more (last.more ++ a.went.more) old (sym w.is ∙ is) in
+    let count : met_in client symbol w.more ≡ met_in client symbol last.more + met_in client symbol a.went.more = ap (met_in client symbol) same ∙ met_in-append client symbol last.more a.went.more in
+    let size : length (a.tries ++ own ∷ []) ≡ length a.tries + 1 = length-append a.tries (own ∷ []) in
+    let some : 1 ≤ met_in client symbol last.more = met_once client symbol mid last.more refused.place (subst (λ h. IsMet client symbol (length mid) h refused.place) last.is b.met) in
     record {
-      tries = a.tries ++ b.own ∷ [];
-      refused = all_last (IsRefused client symbol true) a.tries b.own a.refused b.is_refused;
+      tries = a.tries ++ own ∷ [];
+      refused = all_last (IsRefused client symbol true) a.tries own a.refused (b.puts, b.entry, b.is_try, refl);
       counted = omega (arith, size, a.counted);
       went = w;
       met = omega (arith, count, a.met, some);
@@ -115,9 +118,13 @@ module _ {B : Type 0} (number limit faults : B → ℕ) (sole : B → Bool) (a b
       weaker (Ok done) d = commit done d
       weaker (Err refused) d = elim d [
         | inl m ↦ inl (record {
-          own = m.own;
-          is_refused = m.is_refused;
-          went = record { more = m.went.more; is = m.went.is; own_are = m.went.own_are; alone = λ t. m.went.alone (steady.stays_sole t); lawful = m.went.lawful };
+          puts = m.puts;
+          entry = m.entry;
+          is_try = m.is_try;
+          showed = m.showed;
+          put = went x m.showed _ m.put;
+          shown = m.shown;
+          dropped = went m.showed y _ m.dropped;
           met = m.met;
           why = m.why;
         })
@@ -166,6 +173,19 @@ module _ (client : ℕ) (sole : Bool) (symbol : Name) (Asked Other : Made → Ty
 
 -- ---- a try that began with looks
 
+pub met_from : (client : ℕ) (sole : Bool) (symbol : Name) (from earlier : ℕ) (old mid new : History) → earlier ≤ from → Went client sole old mid [] → (refused : Refused) → DidMeet client sole symbol from mid new refused → DidMeet client sole symbol earlier old new refused
+met_from client sole symbol from earlier old mid new sooner looks refused m = record {
+  puts = m.puts;
+  entry = m.entry;
+  is_try = m.is_try;
+  showed = m.showed;
+  put = went_then client sole old mid m.showed [] _ looks m.put;
+  shown = m.shown;
+  dropped = m.dropped;
+  met = met_sooner client symbol from earlier new refused.place sooner m.met;
+  why = m.why;
+}
+
 module _ (client : ℕ) (sole : Bool) (symbol : Name) (Asked : Made → Type 0) (limit before now from earlier : ℕ) (old mid new : History) (sooner : earlier ≤ from) (looks : Went client sole old mid []) where
   commit_from : (done : Committed) → DidCommit client sole symbol Asked mid new done → DidCommit client sole symbol Asked old new done
   commit_from done d = record {
@@ -187,7 +207,7 @@ module _ (client : ℕ) (sole : Bool) (symbol : Name) (Asked : Made → Type 0) 
   part_from _ (some_puts n puts entry t) = some_puts n puts entry t
   part_from _ (some_drops n puts entry t at m) = some_drops n puts entry t at (met_sooner client symbol from earlier new at sooner m)
 
-  fail_from : (refused : Refused) → DidFail client sole symbol Asked limit before now from mid new refused → DidFail client sole symbol Asked limit before now earlier old new refused
+  pub fail_from : (refused : Refused) → DidFail client sole symbol Asked limit before now from mid new refused → DidFail client sole symbol Asked limit before now earlier old new refused
   fail_from refused d = elim d [
     | inl s ↦ inl (record {
       own = s.own;
@@ -209,13 +229,7 @@ module _ (client : ℕ) (sole : Bool) (symbol : Name) (Asked : Made → Type 0) 
   pub try_from : (r : Result Committed Refused) → DidTry client sole symbol Asked limit before now from mid new r → DidTry client sole symbol Asked limit before now earlier old new r
   try_from (Ok done) d = commit_from done d
   try_from (Err refused) d = elim d [
-    | inl m ↦ inl (record {
-      own = m.own;
-      is_refused = m.is_refused;
-      went = went_then client sole old mid new [] m.own looks m.went;
-      met = met_sooner client symbol from earlier new refused.place sooner m.met;
-      why = m.why;
-    })
+    | inl m ↦ inl (met_from client sole symbol from earlier old mid new sooner looks refused m)
     | inr f ↦ inr (fail_from refused f)
   ]
 
@@ -232,24 +246,4 @@ busy_always client sole symbol Asked limit before now from old new refused d apa
 
     busy : (why : Refusal) → length old ≤ refused.place → IsBusy Always old new refused.place why
     busy (refusals.Spent count) le = (length old, omega arith, le, tt)
-    busy refusals.NoMemory le = tt
-    busy refusals.StoreFault le = tt
-    busy refusals.NoSuchSymbol le = tt
-    busy (refusals.NoSuchVersion asked) le = tt
-    busy (refusals.VersionGone version) le = tt
-    busy (refusals.Moved at) le = tt
-    busy (refusals.Unsorted row) le = tt
-    busy (refusals.SchemaDiffers column) le = tt
-    busy (refusals.AppendBefore last first) le = tt
-    busy (refusals.OutsideRange row) le = tt
-    busy refusals.EmptyUpdate le = tt
-    busy (refusals.NoSuchColumn clause position) le = tt
-    busy (refusals.TypeMismatch clause) le = tt
-    busy (refusals.Overflow clause row) le = tt
-    busy (refusals.GroupOverflow clause group) le = tt
-    busy (refusals.NotTimeIndexed clause) le = tt
-    busy refusals.SnapshotExists le = tt
-    busy refusals.NoSuchSnapshot le = tt
-    busy refusals.NoStaged le = tt
-    busy (refusals.StagedOverlap piece) le = tt
-    busy (refusals.TooLarge what most) le = tt
+    busy why le = tt

@@ -4,6 +4,7 @@
 --     DidCommit           the tries' last event is the Refer of the new version
 --     IsMet               another's Refer of the symbol stands behind a place
 --     DidMeet             a try that was refused: its puts, and the drops of the same keys
+--     MetTries            so many tries were met, the last by the Refer of this place
 --     IsPart, DidStop     a try of which a call failed
 --     DidTry              what one try did
 --     DidRefuse           a try that made no event, since the one-thread library refuses the command
@@ -22,12 +23,13 @@ use Rattle.key_kind.specs.Names.{Name}
 use Rattle.bucket_core.specs.declared.event.Change.{Change}
 use Rattle.bucket_core.specs.declared.event.Event.{Event}
 use Rattle.bucket_core.specs.declared.event.Event.TheVariants as events
-use Rattle.bucket_core.specs.History.{History, Bytes, author, event_at, history_at}
+use Rattle.bucket_core.specs.History.{History, Bytes, author, event_at, history_at, referred_at}
 use Rattle.bucket_core.specs.Laws.{refers}
 use Rattle.store_model.specs.Library.{state_of, next_number}
 use Rattle.store_model.specs.Law.{IsLawful}
 use Rattle.version_chain.specs.States.{IsWithin}
 use Rattle.reply_model.specs.Tries.{put_of, drop_of, IsTry, IsRefused}
+use Rattle.reply_model.specs.Moves.{AreMetTries}
 use Rattle.frame_write.specs.declared.options.Committed.{Committed}
 use Rattle.version_chain.specs.Traces.{Went, met_in}
 use Rattle.version_chain.specs.Stops.{StopsAt, HasCause}
@@ -71,11 +73,15 @@ pub record IsMet (client : ℕ) (symbol : Name) (from : ℕ) (h : History) (n : 
   pub refers : refers symbol event ≡ true
   pub others : author event ≢ client
 
--- a refused try: its puts and the drops of the same keys, since another's Refer stands behind the place at which the try began
+-- a refused try: its puts, then a call that showed another's Refer behind the place at which the try began, and the drops of the same keys
 pub record DidMeet (client : ℕ) (sole : Bool) (symbol : Name) (from : ℕ) (old new : History) (refused : Refused) : Type 0 where
-  pub own : List Event
-  pub is_refused : IsRefused client symbol true own
-  pub went : Went client sole old new own
+  pub puts : List (Key × Bytes)
+  pub entry : Key
+  pub is_try : IsTry symbol true puts entry
+  pub showed : History
+  pub put : Went client sole old showed (map (put_of client) puts)
+  pub shown : referred_at showed symbol ≡ refused.place
+  pub dropped : Went client sole showed new (map (drop_of client) puts)
   pub met : IsMet client symbol from new refused.place
   pub why : refused.why ≡ refusals.Moved refused.place
 
@@ -137,9 +143,14 @@ pub record Then (client : ℕ) (sole : Bool) (symbol : Name) (most : ℕ) (old n
   pub refused : DidRefused client sole symbol old mid count
   pub last : Last mid
 
+-- so many tries were met, each where there was a change to make or where something was lost, the last by the Refer of this place
+abbrev pub MetTries : ℕ → Name → (History → Type 0) → (History → ℕ → ℕ → Type 0) → ℕ → History → History → ℕ → Type 0
+MetTries client symbol Wants Loses count old new now = AreMetTries new client symbol true (λ q. Wants (history_at new q)) (Loses new) count (length old) (length new) now
+
 -- each try was refused; the last met the Refer of this place
-pub record DidMeetAll (client : ℕ) (sole : Bool) (symbol : Name) (most : ℕ) (old new : History) (refused : Refused) : Type 0 where
+pub record DidMeetAll (client : ℕ) (sole : Bool) (symbol : Name) (Wants : History → Type 0) (Loses : History → ℕ → ℕ → Type 0) (most : ℕ) (old new : History) (refused : Refused) : Type 0 where
   pub all : DidRefused client sole symbol old new most
+  pub each : MetTries client symbol Wants Loses most old new refused.place
   pub met : IsMet client symbol (length old) new refused.place
   pub why : refused.why ≡ refusals.Moved refused.place
 
@@ -154,9 +165,9 @@ DidEnd client sole symbol Asked Refuses Wants limit before now old new refused =
     (DidFail client sole symbol Asked limit before now (length old) old new refused × IsBusy Wants old new refused.place refused.why)
     ⊎ DidRefuse client sole Refuses old new refused
 
--- what all tries did of a command that asks for this, that the library refuses so, and that has a change to make in these histories
-abbrev pub DidTries : ℕ → Bool → Name → (Made → Type 0) → (History → Refusal → Type 0) → (History → Type 0) → ℕ → ℕ → ℕ → ℕ → History → History → Result Committed Refused → Type 0
-DidTries client sole symbol Asked Refuses Wants most limit before now old new (Ok done) =
+-- what all tries did of a command that asks for this, that the library refuses so, that has a change to make in these histories, and that may find so much lost
+abbrev pub DidTries : ℕ → Bool → Name → (Made → Type 0) → (History → Refusal → Type 0) → (History → Type 0) → (History → ℕ → ℕ → Type 0) → ℕ → ℕ → ℕ → ℕ → History → History → Result Committed Refused → Type 0
+DidTries client sole symbol Asked Refuses Wants Loses most limit before now old new (Ok done) =
     Then client sole symbol most old new (λ mid. DidCommit client sole symbol Asked mid new done)
-DidTries client sole symbol Asked Refuses Wants most limit before now old new (Err refused) =
-    DidMeetAll client sole symbol most old new refused ⊎ Then client sole symbol most old new (λ mid. DidEnd client sole symbol Asked Refuses Wants limit before now mid new refused)
+DidTries client sole symbol Asked Refuses Wants Loses most limit before now old new (Err refused) =
+    DidMeetAll client sole symbol Wants Loses most old new refused ⊎ Then client sole symbol most old new (λ mid. DidEnd client sole symbol Asked Refuses Wants limit before now mid new refused)

@@ -2,7 +2,7 @@
 --     Brings              a session that brings the frame of a write, with its client, tries and stamp
 --     reply_to            the result as a reply
 --     IsLegalWrite        the reply to a write is legal for each such session
---     IsWritten, Never, Always      what a write asks of its commit; no library refuses it, and it has a change to make always
+--     IsWritten, Never, Always, Whole      what a write asks of its commit; no library refuses it, it has a change to make always, and finds nothing lost
 --     StandsAlone         the place of a commit where nobody else makes events
 --     newest_index, IsGridLinked      the index of a symbol's newest link; it is that of a frame's grid
 use Rattle.std.specs.Prelude.{◌≡◌, ℕ, ◌+◌, ℤ, Bool, true, [], ◌∷◌, length, map, Option, Some, None, option_map, Result, Ok, Err, ⊤}
@@ -67,6 +67,10 @@ Never h why = ⊥
 -- a write has a change to make in every history
 abbrev pub Always : History → Type 0
 Always h = ⊤
+
+-- a write reads nothing that may be lost
+abbrev pub Whole : History → ℕ → ℕ → Type 0
+Whole h look showed = ⊥
 
 -- where nobody else makes events, a commit stands behind its puts: so many tiles, the index and the element
 abbrev pub StandsAlone : ℕ → History → Committed → Type 0

@@ -6,7 +6,7 @@ ghost use Rattle.frame_write.specs.Placing.{AreTilesOf};
 ghost use Rattle.frame_write.specs.Tries.{DidTries};
 ghost use Rattle.version_chain.specs.Traces.{GoesOn};
 ghost use Rattle.reply_model.specs.Standing.{GrowsAlone};
-ghost use Rattle.frame_write.specs.Writes.{IsLegalWrite, IsWritten, Never, Always, StandsAlone, IsGridLinked};
+ghost use Rattle.frame_write.specs.Writes.{IsLegalWrite, IsWritten, Never, Always, Whole, StandsAlone, IsGridLinked};
 
 use crate::attempt::attempt;
 use crate::options::{Committed, Options};
@@ -32,7 +32,7 @@ fn try_all<R: Wait, B: Bucket<StoreLaw>>(
     requires tiles { AreTilesOf frame.now options.now.cutting tiles.now }
     requires some_tries { 1 ≤ options.now.tries }
     ensures steady { IsSteady B.number B.limit B.faults B.sole bucket.old bucket.new }
-    ensures did { DidTries (B.number bucket.old) (B.sole bucket.old) symbol.now (IsWritten symbol.now frame.now options.now) Never Always options.now.tries (B.limit bucket.old) (B.faults bucket.old) (B.faults bucket.new) (B.seen bucket.old) (B.seen bucket.new) result }
+    ensures did { DidTries (B.number bucket.old) (B.sole bucket.old) symbol.now (IsWritten symbol.now frame.now options.now) Never Always Whole options.now.tries (B.limit bucket.old) (B.faults bucket.old) (B.faults bucket.new) (B.seen bucket.old) (B.seen bucket.new) result }
 {
     let mut met = 0;
     for _ in 0..options.tries {

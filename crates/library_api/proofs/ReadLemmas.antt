@@ -92,23 +92,7 @@ module _ (symbol : Name) (as_of : AsOf) (range : Range) (columns : Option (List 
     resolve_legal_by place refusals.NoSuchSymbol within e = read_legal place (outcomes.Refused refusals.NoSuchSymbol) within (λ client faulted own rose. inl (ap from_version e, refl))
     resolve_legal_by place (refusals.NoSuchVersion asked) within e = read_legal place (outcomes.Refused (refusals.NoSuchVersion asked)) within (λ client faulted own rose. inl (ap from_version e, refl))
     resolve_legal_by place refusals.NoSuchSnapshot within e = read_legal place (outcomes.Refused refusals.NoSuchSnapshot) within (λ client faulted own rose. inl (ap from_version e, refl))
-    resolve_legal_by place (refusals.VersionGone version) within e = absurd e
-    resolve_legal_by place (refusals.Moved at) within e = absurd e
-    resolve_legal_by place (refusals.Unsorted row) within e = absurd e
-    resolve_legal_by place (refusals.SchemaDiffers column) within e = absurd e
-    resolve_legal_by place (refusals.AppendBefore last first) within e = absurd e
-    resolve_legal_by place (refusals.OutsideRange row) within e = absurd e
-    resolve_legal_by place refusals.EmptyUpdate within e = absurd e
-    resolve_legal_by place (refusals.NoSuchColumn clause position) within e = absurd e
-    resolve_legal_by place (refusals.TypeMismatch clause) within e = absurd e
-    resolve_legal_by place (refusals.Overflow clause row) within e = absurd e
-    resolve_legal_by place (refusals.GroupOverflow clause group) within e = absurd e
-    resolve_legal_by place (refusals.NotTimeIndexed clause) within e = absurd e
-    resolve_legal_by place refusals.SnapshotExists within e = absurd e
-    resolve_legal_by place refusals.NoStaged within e = absurd e
-    resolve_legal_by place (refusals.StagedOverlap piece) within e = absurd e
-    resolve_legal_by place (refusals.Spent count) within e = absurd e
-    resolve_legal_by place (refusals.TooLarge what limit) within e = absurd e
+    resolve_legal_by place why within e = absurd e
 
     pub resolve_refused_legal : (refused : Refused) → RefusesResolve before now old new symbol as_of refused → IsLegalForAll number before now old new asks (refusal_reply refused)
     resolve_refused_legal refused r = resolve_legal_by refused.place refused.why r.place r.why
@@ -251,25 +235,7 @@ module _ (symbol : Name) (as_of : AsOf) (range : Range) (columns : Option (List 
     get_legal_by place refusals.NoMemory within e = no_memory_legal number sole before now old new looks place (record { from = omega (arith, longer, within.from); to = within.to })
     get_legal_by place refusals.StoreFault within e = fault_legal number sole before now old new looks place (record { from = omega (arith, longer, within.from); to = within.to }) (omega (arith, less, e))
     get_legal_by place (refusals.VersionGone version) within e = gone_legal place version within e.0 e.1
-    get_legal_by place refusals.NoSuchSymbol within e = absurd e
-    get_legal_by place (refusals.NoSuchVersion asked) within e = absurd e
-    get_legal_by place (refusals.Moved at) within e = absurd e
-    get_legal_by place (refusals.Unsorted row) within e = absurd e
-    get_legal_by place (refusals.SchemaDiffers column) within e = absurd e
-    get_legal_by place (refusals.AppendBefore last first) within e = absurd e
-    get_legal_by place (refusals.OutsideRange row) within e = absurd e
-    get_legal_by place refusals.EmptyUpdate within e = absurd e
-    get_legal_by place (refusals.NoSuchColumn clause position) within e = absurd e
-    get_legal_by place (refusals.TypeMismatch clause) within e = absurd e
-    get_legal_by place (refusals.Overflow clause row) within e = absurd e
-    get_legal_by place (refusals.GroupOverflow clause group) within e = absurd e
-    get_legal_by place (refusals.NotTimeIndexed clause) within e = absurd e
-    get_legal_by place refusals.SnapshotExists within e = absurd e
-    get_legal_by place refusals.NoSuchSnapshot within e = absurd e
-    get_legal_by place refusals.NoStaged within e = absurd e
-    get_legal_by place (refusals.StagedOverlap piece) within e = absurd e
-    get_legal_by place (refusals.Spent count) within e = absurd e
-    get_legal_by place (refusals.TooLarge what limit) within e = absurd e
+    get_legal_by place why within e = absurd e
 
     pub fetch_refused_legal : (refused : Refused) → RefusesFetch between now mid new target columns refused → IsLegalForAll number before now old new asks (refusal_reply refused)
     fetch_refused_legal refused r = elim r [

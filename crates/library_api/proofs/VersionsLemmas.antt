@@ -39,25 +39,7 @@ module _ (number : ℕ) (sole : Bool) (before now : ℕ) (old new : History) (lo
   refused_by place refusals.NoMemory within e = legal_where place (outcomes.Refused refusals.NoMemory) within (λ client faulted rose. tt)
   refused_by place refusals.StoreFault within e = legal_where place (outcomes.Refused refusals.StoreFault) within (λ client faulted rose. rose e)
   refused_by place refusals.NoSuchSymbol within e = legal_where place (outcomes.Refused refusals.NoSuchSymbol) within (λ client faulted rose. inl (ap from_answer e, refl))
-  refused_by place (refusals.NoSuchVersion asked) within e = absurd e
-  refused_by place (refusals.VersionGone version) within e = absurd e
-  refused_by place (refusals.Moved at) within e = absurd e
-  refused_by place (refusals.Unsorted row) within e = absurd e
-  refused_by place (refusals.SchemaDiffers column) within e = absurd e
-  refused_by place (refusals.AppendBefore last first) within e = absurd e
-  refused_by place (refusals.OutsideRange row) within e = absurd e
-  refused_by place refusals.EmptyUpdate within e = absurd e
-  refused_by place (refusals.NoSuchColumn clause position) within e = absurd e
-  refused_by place (refusals.TypeMismatch clause) within e = absurd e
-  refused_by place (refusals.Overflow clause row) within e = absurd e
-  refused_by place (refusals.GroupOverflow clause group) within e = absurd e
-  refused_by place (refusals.NotTimeIndexed clause) within e = absurd e
-  refused_by place refusals.SnapshotExists within e = absurd e
-  refused_by place refusals.NoSuchSnapshot within e = absurd e
-  refused_by place refusals.NoStaged within e = absurd e
-  refused_by place (refusals.StagedOverlap piece) within e = absurd e
-  refused_by place (refusals.Spent count) within e = absurd e
-  refused_by place (refusals.TooLarge what limit) within e = absurd e
+  refused_by place why within e = absurd e
 
   pub versions_refused_legal : (refused : Refused) → RefusesVersions before now old new symbol refused → IsLegalForAll number before now old new (commands.Versions symbol) (refusal_reply refused)
   versions_refused_legal refused r = refused_by refused.place refused.why r.place r.why

@@ -344,5 +344,44 @@ moved_snapshot_is_legal = record {
     late = tt;
   };
   left = record { left = refl; causes = tt };
-  outcome = (X, (1, record { symbol = X; version = Some 0 }, lit< tt, refl, refl), record { here = refl; inside = lit< tt; event = _; at = refl; refers = refl; others = λ e. absurd cc; enough = lit≤ tt });
+  outcome = (
+    X,
+    (1, record { symbol = X; version = Some 0 }, lit< tt, refl, refl),
+    record {
+      here = refl;
+      inside = lit< tt;
+      event = _;
+      at = refl;
+      refers = refl;
+      others = λ e. absurd cc;
+      enough = lit≤ tt;
+      start = 7;
+      from = lit≤ tt;
+      listed = lit≤ tt;
+      stop = 10;
+      to = lit≤ tt;
+      beside = record {
+        looked = 5;
+        from = lit≤ tt;
+        to = lit≤ tt;
+        free = refl;
+        held = (λ e. record { place = 7; after = lit< tt; before = lit≤ tt; version = 0; event = (Some (w.key kinds.Version 2), w.key kinds.Version 3, refl) }, (λ e. absurd cc, tt));
+        never = refl;
+      };
+      tries = (
+        7,
+        0,
+        refl,
+        record {
+          look = 7;
+          showed = 9;
+          begins = lit≤ tt;
+          between = lit< tt;
+          shown = refl;
+          ends = lit≤ tt;
+          own = inl (record { puts = puts (x_key 1 4) (x_key 2 0) (marks.Hold kept.holder 0); entry = x_key 1 4; is_try = hold_X; put = refl; dropped = refl }, refl);
+        },
+      );
+    },
+  );
 }

@@ -250,7 +250,39 @@ second_append_is_moved = record {
     late = tt;
   };
   left = record { left = refl; causes = tt };
-  outcome = (S, (refl, refl), record { here = refl; inside = lit< tt; event = _; at = refl; refers = refl; others = λ e. absurd cc; enough = lit≤ tt });
+  outcome = (
+    S,
+    (refl, refl),
+    record {
+      here = refl;
+      inside = lit< tt;
+      event = _;
+      at = refl;
+      refers = refl;
+      others = λ e. absurd cc;
+      enough = lit≤ tt;
+      start = 4;
+      from = lit≤ tt;
+      listed = lit≤ tt;
+      stop = 14;
+      to = lit≤ tt;
+      beside = (refl, refl);
+      tries = (
+        4,
+        0,
+        refl,
+        record {
+          look = 4;
+          showed = 11;
+          begins = lit≤ tt;
+          between = lit< tt;
+          shown = refl;
+          ends = lit≤ tt;
+          own = inl (record { puts = append_puts 3; entry = shared.element_key 3 2; is_try = is_append_3; put = refl; dropped = refl }, inl (λ e. absurd cc));
+        },
+      );
+    },
+  );
 }
 
 -- with two tries it appends behind the other

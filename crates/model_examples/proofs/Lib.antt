@@ -19,3 +19,4 @@ pub mod HonestTurns
 pub mod HonestChanges
 pub mod HonestRuns
 pub mod RefusedReplies
+pub mod MovedRefused

@@ -44,26 +44,7 @@ use Rattle.prune_rule.proofs.BuryLemmas.{bury_fits, bury_staging}
 look_cause : (limit before now : ℕ) (new : History) (refused : Refused) (why : Refusal) → IsLookRefusal before now why → HasCause limit before now new refused why
 look_cause limit before now new refused refusals.NoMemory c = tt
 look_cause limit before now new refused refusals.StoreFault c = c
-look_cause limit before now new refused (refusals.Spent count) c = absurd c
-look_cause limit before now new refused refusals.NoSuchSymbol c = absurd c
-look_cause limit before now new refused (refusals.NoSuchVersion asked) c = absurd c
-look_cause limit before now new refused (refusals.VersionGone version) c = absurd c
-look_cause limit before now new refused (refusals.Moved at) c = absurd c
-look_cause limit before now new refused (refusals.Unsorted row) c = absurd c
-look_cause limit before now new refused (refusals.SchemaDiffers column) c = absurd c
-look_cause limit before now new refused (refusals.AppendBefore last first) c = absurd c
-look_cause limit before now new refused (refusals.OutsideRange row) c = absurd c
-look_cause limit before now new refused refusals.EmptyUpdate c = absurd c
-look_cause limit before now new refused (refusals.NoSuchColumn clause position) c = absurd c
-look_cause limit before now new refused (refusals.TypeMismatch clause) c = absurd c
-look_cause limit before now new refused (refusals.Overflow clause row) c = absurd c
-look_cause limit before now new refused (refusals.GroupOverflow clause group) c = absurd c
-look_cause limit before now new refused (refusals.NotTimeIndexed clause) c = absurd c
-look_cause limit before now new refused refusals.SnapshotExists c = absurd c
-look_cause limit before now new refused refusals.NoSuchSnapshot c = absurd c
-look_cause limit before now new refused refusals.NoStaged c = absurd c
-look_cause limit before now new refused (refusals.StagedOverlap piece) c = absurd c
-look_cause limit before now new refused (refusals.TooLarge what most) c = absurd c
+look_cause limit before now new refused why c = absurd c
 
 -- a place among what others added
 look_stops : (client : ℕ) (sole : Bool) (old new : History) (refused : Refused) → Looks IsClaimed client sole old new → IsWithin old new refused.place → StopsAt client old new refused
@@ -196,16 +177,38 @@ module _ (client : ℕ) (sole : Bool) (symbol : Name) (wish : Wish) (limit befor
         same : (more : List Piece) × (state_of ((m.went.more ++ seen.later) ++ seen.before) symbol ≡ staging more (state_of seen.before symbol))
         same = quiet_state seen.before (m.went.more ++ seen.later) symbol state.place seen.place (subst (λ h. refers_after h symbol state.place ≡ false) before_is m.quiet)
 
-    pub mark_meets : (new : History) (refused : Refused) → MarkMet client sole symbol state.place change walked new refused → (now : ℕ) → refused.why ≡ refusals.Moved now → DidMeet client sole symbol old new now
+    pub mark_meets : (new : History) (refused : Refused) → MarkMet client sole symbol state.place change walked new refused → (now : ℕ) → refused.why ≡ refusals.Moved now → DidMeet client sole symbol wish old new now
     mark_meets new refused m now is = record {
-      own = events.Put client m.entry m.body ∷ events.Drop client m.entry ∷ [];
-      refused = ((m.entry, m.body) ∷ [], m.entry, try_of m.was m.entry m.body m.is_entry, refl);
-      went = went_then client sole old walked new [] (events.Put client m.entry m.body ∷ events.Drop client m.entry ∷ []) went_walked m.went;
-      met = met_sooner client symbol state.place (length old) new now place.from (subst (IsMet client symbol state.place new) (same m.now now (sym (ap (λ (r : Refused). r.why) m.refused_is) ∙ is)) m.met);
+      entry = m.entry;
+      body = m.body;
+      is_try = try_of m.was m.entry m.body m.is_entry;
+      showed = m.showed;
+      put = went_then client sole old walked m.showed [] (events.Put client m.entry m.body ∷ []) went_walked m.put;
+      shown = m.shown ∙ moved;
+      dropped = m.dropped;
+      busy = record {
+        place = state.place;
+        within = record { from = place.from; to = omega (arith, place.to, longer) };
+        before = omega (arith, m.met.added, moved);
+        numbers = numbers;
+        filled = filled;
+        answered = ap (λ h. bury_answer wish (state_of (history_at h state.place) symbol)) whole.is ∙ (ap (λ h. bury_answer wish (state_of h symbol)) (then_is whole.more) ∙ chosen);
+      };
+      between = omega (arith, m.met.added, moved);
+      met = met_sooner client symbol state.place (length old) new now place.from (subst (IsMet client symbol state.place new) moved m.met);
     }
       where
         same : (a b : ℕ) → refusals.Moved a ≡ refusals.Moved b → a ≡ b
         same a b e = cc
+
+        moved : m.now ≡ now
+        moved = same m.now now (sym (ap (λ (r : Refused). r.why) m.refused_is) ∙ is)
+
+        whole : Went client sole walked new (events.Put client m.entry m.body ∷ events.Drop client m.entry ∷ [])
+        whole = went_then client sole walked m.showed new (events.Put client m.entry m.body ∷ []) (events.Drop client m.entry ∷ []) m.put m.dropped
+
+        longer : length walked ≤ length new
+        longer = went_longer client sole walked new (events.Put client m.entry m.body ∷ events.Drop client m.entry ∷ []) whole
 
     pub mark_stops : (now : ℕ) (new : History) (refused : Refused) → MarkStopped client sole symbol state.place change limit before now walked new refused → DidStop client sole symbol wish limit before now old new refused
     mark_stops now new refused m = record {
@@ -245,7 +248,7 @@ module _ (client : ℕ) (sole : Bool) (symbol : Name) (wish : Wish) (limit befor
       ]
     ]
 
-    pub mark_moved : (now : ℕ) (new : History) (refused : Refused) → DidMark client sole symbol state.place change limit before now walked new (Err refused) → (moved : ℕ) → refused.why ≡ refusals.Moved moved → DidMeet client sole symbol old new moved
+    pub mark_moved : (now : ℕ) (new : History) (refused : Refused) → DidMark client sole symbol state.place change limit before now walked new (Err refused) → (moved : ℕ) → refused.why ≡ refusals.Moved moved → DidMeet client sole symbol wish old new moved
     mark_moved now new refused d moved is = elim d [
       | inl m ↦ mark_meets new refused m moved is
       | inr rest ↦ elim rest [
@@ -299,7 +302,10 @@ module _ {B : Type 0} (number limit faults : B → ℕ) (sole : B → Bool) (a b
       entry = m.entry;
       body = m.body;
       is_entry = m.is_entry;
-      went = went x y (events.Put (number b) m.entry m.body ∷ events.Drop (number b) m.entry ∷ []) m.went;
+      showed = m.showed;
+      put = went x m.showed (events.Put (number b) m.entry m.body ∷ []) m.put;
+      shown = m.shown;
+      dropped = went m.showed y (events.Drop (number b) m.entry ∷ []) m.dropped;
       met = m.met;
     })
     | inr rest ↦ elim rest [

@@ -1,11 +1,20 @@
 -- How the tries of a reclaim end.
-use Rattle.std.proofs.Common.{◌≡◌, ℕ, ◌≤◌, Bool, false, length, refl, ap, sym, ◌∙◌, subst, arith}
-use Rattle.std.specs.Prelude.{is_some}
+use Rattle.std.proofs.Common.{◌≡◌, ℕ, ◌≤◌, Bool, true, false, ◌++◌, length, refl, ap, sym, ◌∙◌, subst, inr, arith}
+use Rattle.std.specs.Prelude.{is_some, Contains}
 use Rattle.frame_core.specs.declared.refusal.Refusal.{Refusal}
 use Rattle.frame_core.specs.declared.refusal.Refusal.TheVariants as refusals
 use Rattle.frame_core.specs.declared.refusal.Refused.{Refused}
 use Rattle.key_kind.specs.Names.{Name}
-use Rattle.bucket_core.specs.History.{History, history_at}
+use Rattle.bucket_core.specs.History.{History, history_at, stored, referred_at}
+use Rattle.bucket_core.specs.Laws.{Looks}
+use Rattle.store_model.specs.Law.{IsClaimed}
+use Rattle.store_model.specs.Links.{links, is_needed}
+use Rattle.reply_model.specs.Losses.{LosesIndex}
+use Rattle.reply_model.specs.Moves.{IsMetTry}
+use Rattle.reply_model.proofs.Later.{history_at_later}
+use Rattle.reply_model.proofs.Places.{history_at_end}
+use Rattle.version_chain.proofs.TraceLemmas.{went_looks}
+use Rattle.prune_rule.proofs.WindowLemmas.{own_in_window}
 use Rattle.store_model.specs.Library.{state_of}
 use Rattle.version_chain.specs.declared.state.SymbolState.{SymbolState}
 use Rattle.version_chain.specs.States.{IsStateAt, IsWithin, IsLookRefusal, RefusesWalk}
@@ -14,7 +23,7 @@ use Rattle.version_chain.proofs.SteadyLemmas.{rose_sooner}
 use Rattle.version_chain.proofs.Walked.{looks_length}
 use Rattle.prune_rule.specs.declared.finding.Dead.{Dead}
 use Rattle.prune_rule.specs.DeadKeys.{FoundDead}
-use Rattle.prune_rule.specs.Finding.{IsFindRefusal, RefusesFinding, MetAll}
+use Rattle.prune_rule.specs.Finding.{IsFindRefusal, RefusesFinding, MetAll, MetLooks, LooksLost}
 use Rattle.frame_read.proofs.ChoosingLemmas.{has_reference_told}
 use Rattle.prune_rule.proofs.LegalReclaims.{at_beginning}
 use Rattle.prune_rule.proofs.ReachLemmas.{MetSoFar}
@@ -38,26 +47,7 @@ found_sooner client sole symbol count old cur new dead s f = record {
 walk_cases : (before mid now : ℕ) (h : History) (symbol : Name) (why : Refusal) → before ≤ mid → IsLookRefusal mid now why → IsFindRefusal before now h symbol why
 walk_cases before mid now h symbol refusals.NoMemory le r = tt
 walk_cases before mid now h symbol refusals.StoreFault le r = rose_sooner before mid now le r
-walk_cases before mid now h symbol (refusals.Spent count) le r = absurd r
-walk_cases before mid now h symbol refusals.NoSuchSymbol le r = absurd r
-walk_cases before mid now h symbol (refusals.NoSuchVersion asked) le r = absurd r
-walk_cases before mid now h symbol (refusals.VersionGone version) le r = absurd r
-walk_cases before mid now h symbol (refusals.Moved at) le r = absurd r
-walk_cases before mid now h symbol (refusals.Unsorted row) le r = absurd r
-walk_cases before mid now h symbol (refusals.SchemaDiffers column) le r = absurd r
-walk_cases before mid now h symbol (refusals.AppendBefore last first) le r = absurd r
-walk_cases before mid now h symbol (refusals.OutsideRange row) le r = absurd r
-walk_cases before mid now h symbol refusals.EmptyUpdate le r = absurd r
-walk_cases before mid now h symbol (refusals.NoSuchColumn clause position) le r = absurd r
-walk_cases before mid now h symbol (refusals.TypeMismatch clause) le r = absurd r
-walk_cases before mid now h symbol (refusals.Overflow clause row) le r = absurd r
-walk_cases before mid now h symbol (refusals.GroupOverflow clause group) le r = absurd r
-walk_cases before mid now h symbol (refusals.NotTimeIndexed clause) le r = absurd r
-walk_cases before mid now h symbol refusals.SnapshotExists le r = absurd r
-walk_cases before mid now h symbol refusals.NoSuchSnapshot le r = absurd r
-walk_cases before mid now h symbol refusals.NoStaged le r = absurd r
-walk_cases before mid now h symbol (refusals.StagedOverlap piece) le r = absurd r
-walk_cases before mid now h symbol (refusals.TooLarge what most) le r = absurd r
+walk_cases before mid now h symbol why le r = absurd r
 
 pub walk_finds : (before mid now : ℕ) (old cur new : History) (symbol : Name) (refused : Refused) → before ≤ mid → length old ≤ length cur → RefusesWalk mid now cur new refused → RefusesFinding before now old new symbol refused
 walk_finds before mid now old cur new symbol refused le long r = record {
@@ -69,26 +59,8 @@ walk_finds before mid now old cur new symbol refused le long r = record {
 find_cases : (before mid now : ℕ) (h : History) (symbol : Name) (why : Refusal) → before ≤ mid → IsFindRefusal mid now h symbol why → IsFindRefusal before now h symbol why
 find_cases before mid now h symbol refusals.NoMemory le r = tt
 find_cases before mid now h symbol refusals.StoreFault le r = rose_sooner before mid now le r
-find_cases before mid now h symbol (refusals.Spent count) le r = absurd r
 find_cases before mid now h symbol refusals.NoSuchSymbol le r = r
-find_cases before mid now h symbol (refusals.NoSuchVersion asked) le r = absurd r
-find_cases before mid now h symbol (refusals.VersionGone version) le r = absurd r
-find_cases before mid now h symbol (refusals.Moved at) le r = absurd r
-find_cases before mid now h symbol (refusals.Unsorted row) le r = absurd r
-find_cases before mid now h symbol (refusals.SchemaDiffers column) le r = absurd r
-find_cases before mid now h symbol (refusals.AppendBefore last first) le r = absurd r
-find_cases before mid now h symbol (refusals.OutsideRange row) le r = absurd r
-find_cases before mid now h symbol refusals.EmptyUpdate le r = absurd r
-find_cases before mid now h symbol (refusals.NoSuchColumn clause position) le r = absurd r
-find_cases before mid now h symbol (refusals.TypeMismatch clause) le r = absurd r
-find_cases before mid now h symbol (refusals.Overflow clause row) le r = absurd r
-find_cases before mid now h symbol (refusals.GroupOverflow clause group) le r = absurd r
-find_cases before mid now h symbol (refusals.NotTimeIndexed clause) le r = absurd r
-find_cases before mid now h symbol refusals.SnapshotExists le r = absurd r
-find_cases before mid now h symbol refusals.NoSuchSnapshot le r = absurd r
-find_cases before mid now h symbol refusals.NoStaged le r = absurd r
-find_cases before mid now h symbol (refusals.StagedOverlap piece) le r = absurd r
-find_cases before mid now h symbol (refusals.TooLarge what most) le r = absurd r
+find_cases before mid now h symbol why le r = absurd r
 
 pub refused_sooner : (before mid now : ℕ) (old cur new : History) (symbol : Name) (refused : Refused) → before ≤ mid → length old ≤ length cur → RefusesFinding mid now cur new symbol refused → RefusesFinding before now old new symbol refused
 refused_sooner before mid now old cur new symbol refused le long r = record {
@@ -109,6 +81,33 @@ unknown_of before now old new symbol state at w none = record {
 }
 
 -- all tries were met
-pub all_met_at : (client : ℕ) (sole : Bool) (symbol : Name) (count tries : ℕ) (old cur : History) (place : ℕ) → MetSoFar client sole symbol count old cur → tries ≤ count → IsMet client symbol (length old) cur place
+pub all_met_at : (client : ℕ) (sole : Bool) (symbol : Name) (count tries : ℕ) (old cur : History) (place : ℕ) → MetSoFar client sole symbol count old cur → tries ≤ count → IsMet client symbol (length old) cur place → MetLooks client symbol tries old cur place
     → MetAll client sole symbol tries old cur (record { place = place; why = refusals.Moved place })
-all_met_at client sole symbol count tries old cur place s enough m = record { looks = s.looks; enough = omega (arith, enough, s.enough); why = refl; met = m }
+all_met_at client sole symbol count tries old cur place s enough m each = record { looks = s.looks; enough = omega (arith, enough, s.enough); each = each; why = refl; met = m }
+
+-- an index that is lost stays so
+pub lost_later : (symbol : Name) (h more : History) (q z : ℕ) → q ≤ length h → z ≤ length h → LosesIndex h symbol q z → LosesIndex (more ++ h) symbol q z
+lost_later symbol h more q z first last l = record {
+  link = l.link;
+  link_is = subst (λ g. Contains (links g symbol) l.link) (sym (history_at_later h more q first)) l.link_is;
+  needed = ap (λ g. is_needed (state_of g symbol) l.link) (history_at_later h more q first) ∙ l.needed;
+  place = l.place;
+  behind = l.behind;
+  before = l.before;
+  gone = ap (λ g. stored g l.link.row.index) (history_at_later h more l.place (omega (arith, l.before, last))) ∙ l.gone;
+}
+
+-- a try that was met, as the reader of the history sees it
+pub look_seen : (client : ℕ) (sole : Bool) (symbol : Name) (old new : History) (place : ℕ) → Looks IsClaimed client sole old new → LooksLost symbol old new place
+    → IsMetTry new client symbol false (λ q. ⊥) (LosesIndex new symbol) (length old) (length new) place
+look_seen client sole symbol old new place looks l =
+    let w = went_looks client sole old new looks in
+    record {
+      look = l.look;
+      showed = length new;
+      begins = l.begins;
+      between = l.between;
+      shown = ap (λ h. referred_at h symbol) (history_at_end new) ∙ l.shown;
+      ends = omega arith;
+      own = inr (own_in_window client old new w.more true w.is ∙ w.own_are, l.lost);
+    }

@@ -1,5 +1,5 @@
 -- What the looks of a reclaim find is dead, and all of it; and that a try was met.
-use Rattle.std.proofs.Common.{◌≡◌, ℕ, ◌≤◌, Bool, true, false, ◌||◌, ◌&&◌, not, List, [], ◌∷◌, ◌++◌, map, length, reverse, refl, ap, sym, ◌∙◌, subst, inl, inr, arith, cond, nat_eq, Option, Some, None}
+use Rattle.std.proofs.Common.{◌≡◌, ℕ, ◌≤◌, Bool, true, false, ◌||◌, ◌&&◌, not, List, [], ◌∷◌, ◌++◌, map, length, reverse, refl, ap, sym, ◌∙◌, subst, inl, inr, arith, cond, nat_eq, Option, Some, None, length-append}
 use Rattle.std.specs.Prelude.{◌⊎◌, Contains, find, is_some}
 use Rattle.std.specs.List.{list_any, AllByRecursion}
 use Rattle.std.specs.BTreeSet.{BTreeSet}
@@ -16,7 +16,7 @@ use Rattle.key_kind.specs.declared.key.Key.{Key}
 use Rattle.key_kind.specs.Names.{Name, same_name}
 use Rattle.key_kind.specs.Keys.{is_put, same_kind}
 use Rattle.key_kind.proofs.KeyTests.{same_kind_is, same_name_is, same_name_self}
-use Rattle.bucket_core.specs.History.{History, Bytes, stored, body_put, referred_at, AllByOthers}
+use Rattle.bucket_core.specs.History.{History, Bytes, stored, body_put, referred_at, AllByOthers, history_at}
 use Rattle.bucket_core.specs.Laws.{refers}
 use Rattle.store_model.specs.declared.chain.LinkRow.{LinkRow}
 use Rattle.store_model.specs.declared.hold.HoldRow.{HoldRow}
@@ -41,6 +41,9 @@ use Rattle.version_chain.proofs.Walked.{others_append}
 use Rattle.version_chain.proofs.TraceLemmas.{append_assoc, split_more, others_first}
 use Rattle.frame_read.proofs.ChoosingLemmas.{has_reference_told}
 use Rattle.reply_model.specs.Drops.{IsDeadIndex, IsDeadPiece}
+use Rattle.reply_model.proofs.Later.{history_at_later}
+use Rattle.reply_model.proofs.Places.{history_at_end}
+use Rattle.prune_rule.specs.Finding.{LooksLost}
 use Rattle.prune_rule.specs.declared.parting.Rows.{Rows}
 use Rattle.prune_rule.specs.declared.reaching.Reached.{Reached}
 use Rattle.prune_rule.specs.DeadKeys.{has_key, IsDeadKey, reached_keys, IsIndexPut, Reaches, keeps, AreParted, NotesStaged, FoundDead}
@@ -310,6 +313,13 @@ module _ (h0 h1 h2 h3 h4 : History) (symbol : Name) (state : SymbolState) (o2 o3
               none_and_some (stored ((o2 ++ at.later) ++ before) l.0.row.index) stands.body missing stands.stands))
         ] refl
 
+    -- which a needed link has
+    pub index_lost : kept.gone ≡ true → (l : Linked) × Contains (links before symbol) l × (is_needed (state_of before symbol) l ≡ true) × (stored h2 l.row.index ≡ None)
+    index_lost gone =
+        let r = reached2.gone gone in
+        let l = row_kept before symbol state lawful told rows parted r.0 r.1 in
+        (l.0, l.1, l.3, ap (λ (x : LinkRow). stored h2 x.index) l.2 ∙ r.2)
+
     module _ (there : kept.gone ≡ false) (dead : Reached) (reached3 : Reaches h2 h3 rows.dead kept.keys dead) (keys : BTreeSet Key) (noted : NotesStaged h4 symbol state.consumed dead.keys keys) where
       has_more : (key : Key) → has_key dead.keys key ≡ true → has_key keys key ≡ true
       has_more key has = noted key ∙ or_left (has_key dead.keys key) ((is_some (stored h4 key) && (same_kind key.kind kinds.Staged && same_name key.name symbol)) && list_any (same_piece (record { client = key.client; serial = key.serial })) state.consumed) has
@@ -389,9 +399,9 @@ module _ (h0 h1 h2 h3 h4 : History) (symbol : Name) (state : SymbolState) (o2 o3
 
 -- ---- a try that was met
 
-pub met_now : (client : ℕ) (symbol : Name) (h0 h1 h2 h5 : History) (state : SymbolState) (place : ℕ) (at : IsStateAt h1 symbol state) → length h0 ≤ state.place → (walked middle front : History) → h1 ≡ walked ++ h0 → AllByOthers client walked
-    → h2 ≡ middle ++ h1 → AllByOthers client middle → h5 ≡ front ++ h2 → AllByOthers client front → list_any (refers symbol) (middle ++ at.later) ≡ true → place ≡ referred_at h5 symbol → IsMet client symbol (length h0) h5 place
-met_now client symbol h0 h1 h2 h5 state place at from walked middle front is1 by1 is2 by2 is5 by5 referred place_is =
+pub met_behind : (client : ℕ) (symbol : Name) (h0 h1 h2 h5 : History) (state : SymbolState) (place : ℕ) (at : IsStateAt h1 symbol state) → length h0 ≤ state.place → (walked middle front : History) → h1 ≡ walked ++ h0 → AllByOthers client walked
+    → h2 ≡ middle ++ h1 → AllByOthers client middle → h5 ≡ front ++ h2 → AllByOthers client front → list_any (refers symbol) (middle ++ at.later) ≡ true → place ≡ referred_at h5 symbol → IsMet client symbol (length at.before) h5 place
+met_behind client symbol h0 h1 h2 h5 state place at from walked middle front is1 by1 is2 by2 is5 by5 referred place_is =
     let long : length h0 ≤ length at.before = omega (arith, from, at.place) in
     let parts = split_more at.later at.before walked h0 (sym at.split ∙ is1) long in
     let later : AllByOthers client at.later = others_first client at.later parts.0 (subst (AllByOthers client) parts.2 by1) in
@@ -400,5 +410,35 @@ met_now client symbol h0 h1 h2 h5 state place at from walked middle front is1 by
     let none = others_refer_not client symbol (front ++ (middle ++ at.later)) (others_append client front (middle ++ at.later) by5 (others_append client middle at.later by2 later)) in
     let among : list_any (refers symbol) (front ++ (middle ++ at.later)) ≡ true =
     list_any-append (refers symbol) front (middle ++ at.later) ∙ or_right (list_any (refers symbol) front) (list_any (refers symbol) (middle ++ at.later)) referred in
-    subst (IsMet client symbol (length h0) h5) (sym place_is) (subst (λ h. IsMet client symbol (length h0) h (referred_at h symbol)) (sym whole)
-    (met_sooner client symbol (length at.before) (length h0) _ _ long (met_here client symbol at.before (front ++ (middle ++ at.later)) none among)))
+    subst (IsMet client symbol (length at.before) h5) (sym place_is) (subst (λ h. IsMet client symbol (length at.before) h (referred_at h symbol)) (sym whole)
+    (met_here client symbol at.before (front ++ (middle ++ at.later)) none among))
+
+-- what it had lost
+pub look_met : (client : ℕ) (symbol : Name) (h0 h1 h2 h5 : History) (state : SymbolState) (place : ℕ) (at : IsStateAt h1 symbol state) → length h0 ≤ state.place → (walked middle front : History) → h1 ≡ walked ++ h0 → AllByOthers client walked
+    → h2 ≡ middle ++ h1 → AllByOthers client middle → h5 ≡ front ++ h2 → AllByOthers client front → list_any (refers symbol) (middle ++ at.later) ≡ true → place ≡ referred_at h5 symbol
+    → (l : Linked) × Contains (links at.before symbol) l × (is_needed (state_of at.before symbol) l ≡ true) × (stored h2 l.row.index ≡ None) → IsMet client symbol (length h0) h5 place × LooksLost symbol h0 h5 place
+look_met client symbol h0 h1 h2 h5 state place at from walked middle front is1 by1 is2 by2 is5 by5 referred place_is l =
+    let m = met_behind client symbol h0 h1 h2 h5 state place at from walked middle front is1 by1 is2 by2 is5 by5 referred place_is in
+    let long : length h0 ≤ length at.before = omega (arith, from, at.place) in
+    let whole : h5 ≡ (front ++ (middle ++ at.later)) ++ at.before =
+    is5 ∙ (ap (λ h. front ++ h) (is2 ∙ (ap (λ h. middle ++ h) at.split ∙ sym (append_assoc middle at.later at.before))) ∙ sym (append_assoc front (middle ++ at.later) at.before)) in
+    let here : history_at h5 (length at.before) ≡ at.before =
+    ap (λ h. history_at h (length at.before)) whole ∙ (history_at_later at.before (front ++ (middle ++ at.later)) (length at.before) (omega arith) ∙ history_at_end at.before) in
+    let there : history_at h5 (length h2) ≡ h2 = ap (λ h. history_at h (length h2)) is5 ∙ (history_at_later h2 front (length h2) (omega arith) ∙ history_at_end h2) in (
+      met_sooner client symbol (length at.before) (length h0) h5 place long m,
+      record {
+        look = length at.before;
+        begins = long;
+        between = m.added;
+        shown = sym place_is;
+        lost = record {
+          link = l.0;
+          link_is = subst (λ h. Contains (links h symbol) l.0) (sym here) l.1;
+          needed = ap (λ h. is_needed (state_of h symbol) l.0) here ∙ l.2;
+          place = length h2;
+          behind = omega (arith, ap length is2, length-append middle h1, ap length at.split, length-append at.later at.before);
+          before = omega (arith, ap length is5, length-append front h2);
+          gone = ap (λ h. stored h l.0.row.index) there ∙ l.3;
+        };
+      },
+    )

@@ -35,7 +35,11 @@ use Rattle.reply_model.specs.declared.reply.Reply.{Reply}
 use Rattle.reply_model.specs.Answering.{Session, Answer, answered, ◌then◌, refuse_if, removed}
 use Rattle.reply_model.specs.Answers.{answer}
 use Rattle.reply_model.specs.CommitAnswers.{first_absent, ascending}
-use Rattle.reply_model.specs.Causes.{MarksAt, IsMoved, IsSpent, HasToMake}
+use Rattle.reply_model.specs.Kinds.{kind_of}
+use Rattle.reply_model.specs.Losses.{FindsGone}
+use Rattle.reply_model.specs.Causes.{MarksAt, IsBeside, IsMoved, IsSpent, HasToMake, makes_version, MakesAt}
+use Rattle.reply_model.specs.Moves.{AreMetTries}
+use Rattle.reply_model.proofs.Moves.{own_nowhere, tries_later}
 use Rattle.reply_model.specs.Windows.{Window, Client, library_at, own_events, symbol_of, refer_places, refers_by_others, is_cut, is_store_fault, AreCommits}
 use Rattle.reply_model.specs.Tries.{put_of, drop_of, one_if, IsTry, IsRefused, IsTurn}
 use Rattle.reply_model.specs.OwnEvents.{AnyMarks, IsBeginning, IsMeantAt, is_end, is_done}
@@ -49,7 +53,7 @@ use Rattle.prune_rule.specs.declared.choosing.Wish.{Wish}
 use Rattle.prune_rule.specs.declared.choosing.Wish.TheVariants as wishes
 use Rattle.prune_rule.specs.declared.burying.Buried.{Buried}
 use Rattle.prune_rule.specs.Burials.{to_bury, bury_answer, command_of, outcome_of}
-use Rattle.prune_rule.specs.Tries.{DidBury, DidNothing, DidRefuse, DidStop, DidRefused, DidTries, IsPart, no_event, one_put, one_drop}
+use Rattle.prune_rule.specs.Tries.{DidBury, DidNothing, DidRefuse, DidStop, DidRefused, DidTries, MetTries, Buries, Whole, IsPart, no_event, one_put, one_drop}
 use Rattle.prune_rule.specs.Replies.{commits_of, reply_to, IsLegalBurial}
 use Rattle.prune_rule.proofs.WindowLemmas.{is_refer, own_in_window, met_in_window, no_places, no_own_refer, one_place}
 use Rattle.prune_rule.proofs.TurnLemmas.{done_turn, open_turn, cut_turn, append_none}
@@ -501,29 +505,14 @@ module _ (s : Session) (limit : ℕ) (sole : Bool) (symbol : Name) (wish : Wish)
             full = d.cause.0.1;
             busy = inr (to_make wish (plain place [] (outcomes.Refused (refusals.Spent full))) refl busy.place (omega (arith, early, busy.within.from)) busy.before busy.numbers busy.filled busy.answered);
           })) refl tt
-      stop_is_legal refusals.NoSuchSymbol d = absurd d.cause
-      stop_is_legal (refusals.NoSuchVersion asked) d = absurd d.cause
-      stop_is_legal (refusals.VersionGone version) d = absurd d.cause
-      stop_is_legal (refusals.Moved at) d = absurd d.cause
-      stop_is_legal (refusals.Unsorted row) d = absurd d.cause
-      stop_is_legal (refusals.SchemaDiffers column) d = absurd d.cause
-      stop_is_legal (refusals.AppendBefore last first) d = absurd d.cause
-      stop_is_legal (refusals.OutsideRange row) d = absurd d.cause
-      stop_is_legal refusals.EmptyUpdate d = absurd d.cause
-      stop_is_legal (refusals.NoSuchColumn clause position) d = absurd d.cause
-      stop_is_legal (refusals.TypeMismatch clause) d = absurd d.cause
-      stop_is_legal (refusals.Overflow clause row) d = absurd d.cause
-      stop_is_legal (refusals.GroupOverflow clause group) d = absurd d.cause
-      stop_is_legal (refusals.NotTimeIndexed clause) d = absurd d.cause
-      stop_is_legal refusals.SnapshotExists d = absurd d.cause
-      stop_is_legal refusals.NoSuchSnapshot d = absurd d.cause
-      stop_is_legal refusals.NoStaged d = absurd d.cause
-      stop_is_legal (refusals.StagedOverlap piece) d = absurd d.cause
-      stop_is_legal (refusals.TooLarge what most) d = absurd d.cause
+      stop_is_legal why d = absurd d.cause
+
+  abbrev moved_reply : ℕ → Reply
+  moved_reply p = plain p [] (outcomes.Refused (refusals.Moved p))
 
   -- each try was met
-  pub moved_is_legal : (place : ℕ) (r : DidRefused s.client sole symbol old new s.tries) → IsMet s.client symbol (length old) new place → legal (plain place [] (outcomes.Refused (refusals.Moved place)))
-  moved_is_legal place r m =
+  pub moved_is_legal : (place : ℕ) (r : DidRefused s.client sole symbol old new s.tries) → IsMet s.client symbol (length old) new place → MetTries s.client symbol wish s.tries old new place → legal (plain place [] (outcomes.Refused (refusals.Moved place)))
+  moved_is_legal place r m each =
       let seen_own : own_events new s.client window ≡ flat_map (λ t. t) r.tries = own_in_window s.client old new r.went.more faulted r.went.is ∙ r.went.own_are in
       let here = met_in_window s.client symbol old new r.went.more faulted r.went.is in
       let met_all : length r.tries ≤ refers_by_others new s.client symbol window = omega (arith, r.counted, r.met, here) in
@@ -537,10 +526,49 @@ module _ (s : Session) (limit : ℕ) (sole : Bool) (symbol : Name) (wish : Wish)
         short = λ c f. absurd (true≢false (sym c));
         meant = tt;
         late = tt;
-        outcome = moved_outcome wish (record { here = refl; inside = m.added; event = m.event; at = m.at; refers = m.refers; others = m.others; enough = subst (λ k. k ≤ refers_by_others new s.client symbol window) r.counted met_all });
+        outcome = moved_outcome wish (record {
+          here = refl;
+          inside = m.added;
+          event = m.event;
+          at = m.at;
+          refers = m.refers;
+          others = m.others;
+          enough = subst (λ k. k ≤ refers_by_others new s.client symbol window) r.counted met_all;
+          start = length old;
+          from = omega arith;
+          listed = omega arith;
+          stop = length new;
+          to = omega arith;
+          beside = beside wish;
+          tries = subst (λ b. AreMetTries new s.client symbol b (MakesAt new client (command_of symbol wish) (moved_reply place) symbol) (FindsGone new client (command_of symbol wish) (moved_reply place) symbol) s.tries (length old) (length new) place) (sym (makes_none wish))
+              (tries_later s.client symbol false new [] (λ q. Buries symbol wish (history_at new q)) (MakesAt new client (command_of symbol wish) (moved_reply place) symbol) (Whole new) (FindsGone new client (command_of symbol wish) (moved_reply place) symbol)
+              (λ q le b. makes wish place q b) (λ q z a b l. absurd l) s.tries (length old) (length new) place (omega arith) each);
+        });
       })
     where
-      moved_outcome : (v : Wish) → IsMoved new s symbol place place window → IsLegalOutcome new client (command_of symbol v) (plain place [] (outcomes.Refused (refusals.Moved place))) window (outcomes.Refused (refusals.Moved place))
+      beside : (v : Wish) → IsBeside new s.client (kind_of (command_of symbol v)) (moved_reply place) symbol window (length old) (length new)
+      beside wishes.All = (own_nowhere new s.client (length old), own_nowhere new s.client (length new))
+      beside (wishes.These numbers) = (own_nowhere new s.client (length old), own_nowhere new s.client (length new))
+      beside wishes.ButNewest = (own_nowhere new s.client (length old), own_nowhere new s.client (length new))
+
+      makes_none : (v : Wish) → makes_version (command_of symbol v) ≡ false
+      makes_none wishes.All = refl
+      makes_none (wishes.These numbers) = refl
+      makes_none wishes.ButNewest = refl
+
+      some_marks : (ns : List ℕ) → IsFilled ns → removed ns ≡ [] → ⊥
+      some_marks [] f x = absurd f
+      some_marks (n ∷ ns) f x = cc
+
+      makes : (v : Wish) (p q : ℕ) → Buries symbol v (history_at new q) → MakesAt new client (command_of symbol v) (moved_reply p) symbol q
+      makes v p q b = by v (subst MarksAt (sym (answer_is s (library_at new q) (library_at new q) q symbol v ∙ ap (answer_from v) b.2)) (inl (some_marks b.0 b.1)))
+        where
+          by : (v : Wish) → MarksAt (answer s (library_at new q) (library_at new q) q (command_of symbol v)) → MakesAt new client (command_of symbol v) (moved_reply p) symbol q
+          by wishes.All x = x
+          by (wishes.These numbers) x = x
+          by wishes.ButNewest x = x
+
+      moved_outcome : (v : Wish) → IsMoved new client (command_of symbol v) (moved_reply place) symbol place window → IsLegalOutcome new client (command_of symbol v) (plain place [] (outcomes.Refused (refusals.Moved place))) window (outcomes.Refused (refusals.Moved place))
       moved_outcome wishes.All f = (symbol, (refl, refl), f)
       moved_outcome (wishes.These numbers) f = (symbol, (refl, refl), f)
       moved_outcome wishes.ButNewest f = (symbol, (refl, refl), f)
@@ -556,7 +584,7 @@ burial_is_legal s limit sole symbol wish before now old new faulted rises (Ok do
 ]
 burial_is_legal s limit sole symbol wish before now old new faulted rises (Err refused) d = elim d [
   | inl all ↦ subst (λ y. IsLegalSeen new (record { session = s; limit = limit }) (command_of symbol wish) (reply_to (outcome_of wish) (Err (record { place = refused.place; why = y }))) (record { start = length old; stop = length new; faulted = faulted })) (sym all.why)
-      (moved_is_legal s limit sole symbol wish old new faulted refused.place all.all all.met)
+      (moved_is_legal s limit sole symbol wish old new faulted refused.place all.all all.met all.each)
   | inr t ↦ elim t.last [
     | inl r ↦ refuse_is_legal s limit sole symbol wish old new faulted t.count t.mid t.few t.refused refused.place refused.why r
     | inr rest ↦ elim rest [

@@ -45,6 +45,8 @@ use Rattle.prune_rule.specs.declared.finding.Dead.{Dead}
 use Rattle.prune_rule.specs.declared.reclaiming.Freed.{Freed}
 use Rattle.prune_rule.specs.DeadKeys.{IsDeadKey, FoundDead}
 use Rattle.prune_rule.specs.DropCalls.{IsPartOf, Dropped, StoppedDrops}
+use Rattle.reply_model.specs.Losses.{LosesIndex}
+use Rattle.reply_model.proofs.Moves.{own_nowhere, tries_later}
 use Rattle.prune_rule.specs.Finding.{IsFindRefusal, RefusesFinding, MetAll}
 use Rattle.prune_rule.specs.Reclaims.{keys_of_kind, reply_of}
 use Rattle.prune_rule.proofs.KeySets.{has_is_among, among_is_had, rise_of, of_kind, split_kinds, IsDropKind}
@@ -251,25 +253,7 @@ find_cases : (before now : ℕ) (h : History) (symbol : Name) (why : Refusal) �
 find_cases before now h symbol refusals.NoSuchSymbol f = inl (refl, f)
 find_cases before now h symbol refusals.StoreFault f = inr (inl (refl, f))
 find_cases before now h symbol refusals.NoMemory f = inr (inr refl)
-find_cases before now h symbol (refusals.Spent count) f = absurd f
-find_cases before now h symbol (refusals.NoSuchVersion asked) f = absurd f
-find_cases before now h symbol (refusals.VersionGone version) f = absurd f
-find_cases before now h symbol (refusals.Moved at) f = absurd f
-find_cases before now h symbol (refusals.Unsorted row) f = absurd f
-find_cases before now h symbol (refusals.SchemaDiffers column) f = absurd f
-find_cases before now h symbol (refusals.AppendBefore last first) f = absurd f
-find_cases before now h symbol (refusals.OutsideRange row) f = absurd f
-find_cases before now h symbol refusals.EmptyUpdate f = absurd f
-find_cases before now h symbol (refusals.NoSuchColumn clause position) f = absurd f
-find_cases before now h symbol (refusals.TypeMismatch clause) f = absurd f
-find_cases before now h symbol (refusals.Overflow clause row) f = absurd f
-find_cases before now h symbol (refusals.GroupOverflow clause group) f = absurd f
-find_cases before now h symbol (refusals.NotTimeIndexed clause) f = absurd f
-find_cases before now h symbol refusals.SnapshotExists f = absurd f
-find_cases before now h symbol refusals.NoSuchSnapshot f = absurd f
-find_cases before now h symbol refusals.NoStaged f = absurd f
-find_cases before now h symbol (refusals.StagedOverlap piece) f = absurd f
-find_cases before now h symbol (refusals.TooLarge what most) f = absurd f
+find_cases before now h symbol why f = absurd f
 
 -- the refusals of a drop
 cause_cases : (limit before now : ℕ) (h : History) (refused : Refused) (why : Refusal) → HasCause limit before now h refused why
@@ -277,25 +261,7 @@ cause_cases : (limit before now : ℕ) (h : History) (refused : Refused) (why : 
 cause_cases limit before now h refused refusals.NoMemory c = inl refl
 cause_cases limit before now h refused refusals.StoreFault c = inr (inl (refl, c))
 cause_cases limit before now h refused (refusals.Spent count) c = inr (inr (count, refl, c.0, c.1))
-cause_cases limit before now h refused refusals.NoSuchSymbol c = absurd c
-cause_cases limit before now h refused (refusals.NoSuchVersion asked) c = absurd c
-cause_cases limit before now h refused (refusals.VersionGone version) c = absurd c
-cause_cases limit before now h refused (refusals.Moved at) c = absurd c
-cause_cases limit before now h refused (refusals.Unsorted row) c = absurd c
-cause_cases limit before now h refused (refusals.SchemaDiffers column) c = absurd c
-cause_cases limit before now h refused (refusals.AppendBefore last first) c = absurd c
-cause_cases limit before now h refused (refusals.OutsideRange row) c = absurd c
-cause_cases limit before now h refused refusals.EmptyUpdate c = absurd c
-cause_cases limit before now h refused (refusals.NoSuchColumn clause position) c = absurd c
-cause_cases limit before now h refused (refusals.TypeMismatch clause) c = absurd c
-cause_cases limit before now h refused (refusals.Overflow clause row) c = absurd c
-cause_cases limit before now h refused (refusals.GroupOverflow clause group) c = absurd c
-cause_cases limit before now h refused (refusals.NotTimeIndexed clause) c = absurd c
-cause_cases limit before now h refused refusals.SnapshotExists c = absurd c
-cause_cases limit before now h refused refusals.NoSuchSnapshot c = absurd c
-cause_cases limit before now h refused refusals.NoStaged c = absurd c
-cause_cases limit before now h refused (refusals.StagedOverlap piece) c = absurd c
-cause_cases limit before now h refused (refusals.TooLarge what most) c = absurd c
+cause_cases limit before now h refused why c = absurd c
 
 -- ---- a refused reply
 
@@ -350,6 +316,13 @@ module _ (s : Session) (limit : ℕ) (sole : Bool) (symbol : Name) (before now :
             refers = m.met.refers;
             others = m.met.others;
             enough = subst (λ n. s.tries ≤ n) (sym (met_in_window s.client symbol old new m.looks.others faulted m.looks.is)) m.enough;
+            start = length old;
+            from = omega arith;
+            listed = omega arith;
+            stop = length new;
+            to = omega arith;
+            beside = (own_nowhere new s.client (length old), own_nowhere new s.client (length new));
+            tries = tries_later s.client symbol false new [] (λ q. ⊥) _ (LosesIndex new symbol) _ (λ q le b. absurd b) (λ q z a b l. l) s.tries (length old) (length new) refused.place (omega arith) m.each;
           },
         );
       }))

@@ -4,7 +4,10 @@ use Rattle.std.specs.List.{flat_map, AllByRecursion}
 use Rattle.frame_core.specs.declared.refusal.Refused.{Refused}
 use Rattle.key_kind.specs.Names.{Name}
 use Rattle.bucket_core.specs.declared.event.Event.{Event}
-use Rattle.bucket_core.specs.History.{History}
+use Rattle.bucket_core.specs.declared.event.Event.TheVariants as events
+use Rattle.bucket_core.specs.History.{History, history_at}
+use Rattle.reply_model.specs.Moves.{IsMetTry}
+use Rattle.reply_model.proofs.MetTries as tries
 use Rattle.bucket_core.specs.Calls.{IsSteady}
 use Rattle.version_chain.specs.Traces.{met_in, Went}
 use Rattle.version_chain.specs.Marking.{IsMet}
@@ -14,7 +17,7 @@ use Rattle.version_chain.proofs.SteadyLemmas.{cause_sooner, rose_sooner}
 use Rattle.reply_model.specs.Tries.{IsRefused}
 use Rattle.prune_rule.specs.declared.choosing.Wish.{Wish}
 use Rattle.prune_rule.specs.declared.burying.Buried.{Buried}
-use Rattle.prune_rule.specs.Tries.{DidBury, DidMeet, DidEnd, DidRefused}
+use Rattle.prune_rule.specs.Tries.{DidBury, DidMeet, DidEnd, DidRefused, Buries, Whole}
 
 pub all_last : {X : Type 0} (P : X → Type 0) (xs : List X) (x : X) → AllByRecursion P xs → P x → AllByRecursion P (xs ++ x ∷ [])
 all_last P [] x all p = (p, tt)
@@ -31,24 +34,37 @@ flat_last (u ∷ ts) t = ap (λ l. u ++ l) (flat_last ts t) ∙ sym (append_asso
 pub tries_none : (client : ℕ) (sole : Bool) (symbol : Name) (old : History) → DidRefused client sole symbol old old 0
 tries_none client sole symbol old = record { tries = []; refused = tt; counted = refl; went = went_none client sole old; met = omega arith }
 
-pub tries_more : (client : ℕ) (sole : Bool) (symbol : Name) (old mid new : History) (n now : ℕ) → DidRefused client sole symbol old mid n → DidMeet client sole symbol mid new now → DidRefused client sole symbol old new (n + 1)
-tries_more client sole symbol old mid new n now a b =
-    let w : Went client sole old new (flat_map (λ t. t) (a.tries ++ b.own ∷ [])) =
-    went_as client sole old new (flat_map (λ t. t) a.tries ++ b.own) (flat_map (λ t. t) (a.tries ++ b.own ∷ [])) (sym (flat_last a.tries b.own)) (went_then client sole old mid new (flat_map (λ t. t) a.tries) b.own a.went b.went) in
-    let is : new ≡ (b.went.more ++ a.went.more) ++ old = b.went.is ∙ (ap (λ h. b.went.more ++ h) a.went.is ∙ sym (append_assoc b.went.more a.went.more old)) in
-    let same : w.more ≡ b.went.more ++ a.went.more = same_front w.more (b.went.more ++ a.went.more) old (sym w.is ∙ is) in
-    let count : met_in client symbol w.more ≡ met_in client symbol b.went.more + met_in client symbol a.went.more = ap (met_in client symbol) same ∙ met_in-append client symbol b.went.more a.went.more in
-    let size : length (a.tries ++ b.own ∷ []) ≡ length a.tries + 1 = length-append a.tries (b.own ∷ []) in
+-- the own events of a met try
+pub met_went : (client : ℕ) (sole : Bool) (symbol : Name) (wish : Wish) (old new : History) (now : ℕ) → (m : DidMeet client sole symbol wish old new now)
+    → Went client sole old new (events.Put client m.entry m.body ∷ events.Drop client m.entry ∷ [])
+met_went client sole symbol wish old new now m = went_then client sole old m.showed new (events.Put client m.entry m.body ∷ []) (events.Drop client m.entry ∷ []) m.put m.dropped
+
+-- as the reader of the history sees it
+pub met_one : (client : ℕ) (sole : Bool) (symbol : Name) (wish : Wish) (old new : History) (now : ℕ) → DidMeet client sole symbol wish old new now
+    → IsMetTry new client symbol false (λ q. Buries symbol wish (history_at new q)) (Whole new) (length old) (length new) now
+met_one client sole symbol wish old new now m =
+    tries.met_one client symbol false (Buries symbol wish) Whole m.busy.place now old m.showed new m.put.more m.dropped.more ((m.entry, m.body) ∷ []) m.entry m.busy.within.from m.between m.is_try m.put.is m.put.own_are m.shown m.dropped.is m.dropped.own_are (m.busy.numbers, m.busy.filled, m.busy.answered)
+
+pub tries_more : (client : ℕ) (sole : Bool) (symbol : Name) (wish : Wish) (old mid new : History) (n now : ℕ) → DidRefused client sole symbol old mid n → DidMeet client sole symbol wish mid new now → DidRefused client sole symbol old new (n + 1)
+tries_more client sole symbol wish old mid new n now a b =
+    let own : List Event = events.Put client b.entry b.body ∷ events.Drop client b.entry ∷ [] in
+    let last : Went client sole mid new own = met_went client sole symbol wish mid new now b in
+    let w : Went client sole old new (flat_map (λ t. t) (a.tries ++ own ∷ [])) =
+    went_as client sole old new (flat_map (λ t. t) a.tries ++ own) (flat_map (λ t. t) (a.tries ++ own ∷ [])) (sym (flat_last a.tries own)) (went_then client sole old mid new (flat_map (λ t. t) a.tries) own a.went last) in
+    let is : new ≡ (last.more ++ a.went.more) ++ old = last.is ∙ (ap (λ h. last.more ++ h) a.went.is ∙ sym (append_assoc last.more a.went.more old)) in
+    let same : w.more ≡ last.more ++ a.went.more = same_front w.more (last.more ++ a.went.more) old (sym w.is ∙ is) in
+    let count : met_in client symbol w.more ≡ met_in client symbol last.more + met_in client symbol a.went.more = ap (met_in client symbol) same ∙ met_in-append client symbol last.more a.went.more in
+    let size : length (a.tries ++ own ∷ []) ≡ length a.tries + 1 = length-append a.tries (own ∷ []) in
     record {
-      tries = a.tries ++ b.own ∷ [];
-      refused = all_last (IsRefused client symbol false) a.tries b.own a.refused b.refused;
+      tries = a.tries ++ own ∷ [];
+      refused = all_last (IsRefused client symbol false) a.tries own a.refused ((b.entry, b.body) ∷ [], b.entry, b.is_try, refl);
       counted = omega (arith, size, a.counted);
       went = w;
-      met = let some : 1 ≤ met_in client symbol b.went.more = met_counts client symbol (length mid) mid b.went.more now (omega arith) (subst (λ h. IsMet client symbol (length mid) h now) b.went.is b.met) in omega (arith, count, a.met, some);
+      met = let some : 1 ≤ met_in client symbol last.more = met_counts client symbol (length mid) mid last.more now (omega arith) (subst (λ h. IsMet client symbol (length mid) h now) last.is b.met) in omega (arith, count, a.met, some);
     }
 
-pub last_met : (client : ℕ) (sole : Bool) (symbol : Name) (old mid new : History) (n now : ℕ) → DidRefused client sole symbol old mid n → DidMeet client sole symbol mid new now → IsMet client symbol (length old) new now
-last_met client sole symbol old mid new n now a b = met_sooner client symbol (length mid) (length old) new now (went_longer client sole old mid (flat_map (λ t. t) a.tries) a.went) b.met
+pub last_met : (client : ℕ) (sole : Bool) (symbol : Name) (wish : Wish) (old mid new : History) (n now : ℕ) → DidRefused client sole symbol old mid n → DidMeet client sole symbol wish mid new now → IsMet client symbol (length old) new now
+last_met client sole symbol wish old mid new n now a b = met_sooner client symbol (length mid) (length old) new now (went_longer client sole old mid (flat_map (λ t. t) a.tries) a.went) b.met
 
 -- what a try did, of the bucket as it was before earlier calls
 module _ {B : Type 0} (number limit faults : B → ℕ) (sole : B → Bool) (a b : B) (steady : IsSteady number limit faults sole a b) (symbol : Name) (wish : Wish) (now : ℕ) (x y : History) where
@@ -98,5 +114,16 @@ module _ {B : Type 0} (number limit faults : B → ℕ) (sole : B → Bool) (a b
       subst (λ n. DidEnd n (sole a) symbol wish (limit a) (faults a) now x y r) steady.same_number
       (subst (λ l. DidEnd (number b) (sole a) symbol wish l (faults a) now x y r) steady.same_limit (ends r d))
 
-  pub meet_steady : (place : ℕ) → DidMeet (number b) (sole b) symbol x y place → DidMeet (number a) (sole a) symbol x y place
-  meet_steady place d = subst (λ n. DidMeet n (sole a) symbol x y place) steady.same_number (record { own = d.own; refused = d.refused; went = went x y d.own d.went; met = d.met })
+  pub meet_steady : (place : ℕ) → DidMeet (number b) (sole b) symbol wish x y place → DidMeet (number a) (sole a) symbol wish x y place
+  meet_steady place d = subst (λ n. DidMeet n (sole a) symbol wish x y place) steady.same_number (record {
+    entry = d.entry;
+    body = d.body;
+    is_try = d.is_try;
+    showed = d.showed;
+    put = went x d.showed _ d.put;
+    shown = d.shown;
+    dropped = went d.showed y _ d.dropped;
+    met = d.met;
+    busy = d.busy;
+    between = d.between;
+  })

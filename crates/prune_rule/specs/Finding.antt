@@ -2,13 +2,15 @@
 --     IsFindRefusal, RefusesFinding      the refusals of one try
 --     DidLook             what one try found
 --     RefusesDead         the refusals of all tries
-use Rattle.std.specs.Prelude.{◌≡◌, ◌⊎◌, ℕ, ◌≤◌, Bool, false, length, ⊤, Result, Ok, Err}
+use Rattle.std.specs.Prelude.{◌≡◌, ◌⊎◌, ℕ, ◌≤◌, Bool, false, length, ⊤, Result, Ok, Err, ◌<◌}
 use Rattle.base_types.specs.Faults.{Rose}
 use Rattle.frame_core.specs.declared.refusal.Refusal.{Refusal}
 use Rattle.frame_core.specs.declared.refusal.Refusal.TheVariants as refusals
 use Rattle.frame_core.specs.declared.refusal.Refused.{Refused}
 use Rattle.key_kind.specs.Names.{Name}
-use Rattle.bucket_core.specs.History.{History, history_at}
+use Rattle.bucket_core.specs.History.{History, history_at, referred_at}
+use Rattle.reply_model.specs.Moves.{AreMetTries}
+use Rattle.reply_model.specs.Losses.{LosesIndex}
 use Rattle.bucket_core.specs.Laws.{Looks}
 use Rattle.store_model.specs.Law.{IsClaimed}
 use Rattle.store_model.specs.Library.{state_of}
@@ -31,16 +33,29 @@ pub record RefusesFinding (before now : ℕ) (old new : History) (symbol : Name)
   pub place : IsWithin old new refused.place
   pub why : IsFindRefusal before now (history_at new refused.place) symbol refused.why
 
+-- the walk was at a place, behind which the reference was set, and since when an index of a live or held version is lost
+pub record LooksLost (symbol : Name) (old new : History) (now : ℕ) : Type 0 where
+  pub look : ℕ
+  pub begins : length old ≤ look
+  pub between : look < now
+  pub shown : referred_at new symbol ≡ now
+  pub lost : LosesIndex new symbol look (length new)
+
+-- so many tries were met, the last by the Refer of this place
+abbrev pub MetLooks : ℕ → Name → ℕ → History → History → ℕ → Type 0
+MetLooks client symbol count old new now = AreMetTries new client symbol false (λ q. ⊥) (LosesIndex new symbol) count (length old) (length new) now
+
 -- one try found the dead keys, or met another's commit
 abbrev pub DidLook : ℕ → Name → ℕ → ℕ → History → History → Result Looked Refused → Type 0
 DidLook client symbol before now old new (Ok (looks.Found dead)) = FoundDead old new symbol dead
-DidLook client symbol before now old new (Ok (looks.Met place)) = IsMet client symbol (length old) new place
+DidLook client symbol before now old new (Ok (looks.Met place)) = IsMet client symbol (length old) new place × LooksLost symbol old new place
 DidLook client symbol before now old new (Err refused) = RefusesFinding before now old new symbol refused
 
 -- each of so many tries met another's commit, the last the one at the refusal's place
 pub record MetAll (client : ℕ) (sole : Bool) (symbol : Name) (tries : ℕ) (old new : History) (refused : Refused) : Type 0 where
   pub looks : Looks IsClaimed client sole old new
   pub enough : tries ≤ met_in client symbol looks.others
+  pub each : MetLooks client symbol tries old new refused.place
   pub why : refused.why ≡ refusals.Moved refused.place
   pub met : IsMet client symbol (length old) new refused.place
 

@@ -16,7 +16,7 @@ use Rattle.key_kind.specs.Names.{Name}
 use Rattle.bucket_core.specs.declared.event.Change.TheVariants as changes
 use Rattle.bucket_core.specs.declared.event.Event.{Event}
 use Rattle.bucket_core.specs.declared.event.Event.TheVariants as events
-use Rattle.bucket_core.specs.History.{History, Bytes, history_at}
+use Rattle.bucket_core.specs.History.{History, Bytes, history_at, referred_at}
 use Rattle.store_model.specs.Library.{state_of}
 use Rattle.store_model.specs.Commits.{IsFilled}
 use Rattle.store_model.specs.Law.{IsLawful}
@@ -25,6 +25,7 @@ use Rattle.version_chain.specs.Traces.{Went, met_in}
 use Rattle.version_chain.specs.Stops.{StopsAt, HasCause}
 use Rattle.version_chain.specs.Marking.{IsMet}
 use Rattle.reply_model.specs.Tries.{IsTry, IsRefused}
+use Rattle.reply_model.specs.Moves.{AreMetTries}
 use Rattle.prune_rule.specs.declared.choosing.Wish.{Wish}
 use Rattle.prune_rule.specs.declared.burying.Buried.{Buried}
 use Rattle.prune_rule.specs.declared.burying.Tried.{Tried}
@@ -62,13 +63,6 @@ pub record DidRefuse (client : ℕ) (sole : Bool) (symbol : Name) (wish : Wish) 
   pub place : IsWithin old new refused.place
   pub answered : bury_answer wish (state_of (history_at new refused.place) symbol) ≡ Err refused.why
 
--- a refused try: its Put, and the Drop of the same key
-pub record DidMeet (client : ℕ) (sole : Bool) (symbol : Name) (old new : History) (now : ℕ) : Type 0 where
-  pub own : List Event
-  pub refused : IsRefused client symbol false own
-  pub went : Went client sole old new own
-  pub met : IsMet client symbol (length old) new now
-
 -- the own events of a try that stopped: none; the Put of its element; or its Drop too, where the try was met
 pub data IsPart (client : ℕ) (symbol : Name) (met : ℕ) : List Event → Type 0 where
   no_event : IsPart client symbol met []
@@ -83,6 +77,19 @@ pub record HasToBury (symbol : Name) (wish : Wish) (old new : History) (upto : �
   pub numbers : List ℕ
   pub filled : IsFilled numbers
   pub answered : bury_answer wish (state_of (history_at new place) symbol) ≡ Ok numbers
+
+-- a refused try: its Put, then a call that showed the Refer of this place, and the Drop of the same key; where it looked there was something to bury
+pub record DidMeet (client : ℕ) (sole : Bool) (symbol : Name) (wish : Wish) (old new : History) (now : ℕ) : Type 0 where
+  pub entry : Key
+  pub body : Bytes
+  pub is_try : IsTry symbol false ((entry, body) ∷ []) entry
+  pub showed : History
+  pub put : Went client sole old showed (events.Put client entry body ∷ [])
+  pub shown : referred_at showed symbol ≡ now
+  pub dropped : Went client sole showed new (events.Drop client entry ∷ [])
+  pub met : IsMet client symbol (length old) new now
+  pub busy : HasToBury symbol wish old new now
+  pub between : busy.place < now
 
 -- a call of a try failed; the store was full only where there was something to bury
 pub record DidStop (client : ℕ) (sole : Bool) (symbol : Name) (wish : Wish) (limit before now : ℕ) (old new : History) (refused : Refused) : Type 0 where
@@ -119,7 +126,7 @@ IsMetBy refused (Err same) = (same ≡ refused) × ((now : ℕ) → refused.why 
 -- what one try did
 abbrev pub DidAttempt : ℕ → Bool → Name → Wish → ℕ → ℕ → ℕ → History → History → Result Tried Refused → Type 0
 DidAttempt client sole symbol wish limit before now old new (Ok (tried.Done done)) = DidEnd client sole symbol wish limit before now old new (Ok done)
-DidAttempt client sole symbol wish limit before now old new (Ok (tried.Met place)) = DidMeet client sole symbol old new place
+DidAttempt client sole symbol wish limit before now old new (Ok (tried.Met place)) = DidMeet client sole symbol wish old new place
 DidAttempt client sole symbol wish limit before now old new (Err refused) = DidEnd client sole symbol wish limit before now old new (Err refused)
 
 -- so many refused tries
@@ -138,9 +145,22 @@ pub record Then (client : ℕ) (sole : Bool) (symbol : Name) (most : ℕ) (old n
   pub refused : DidRefused client sole symbol old mid count
   pub last : Last mid
 
+-- in this history there is something to bury
+abbrev pub Buries : Name → Wish → History → Type 0
+Buries symbol wish h = (numbers : List ℕ) × IsFilled numbers × (bury_answer wish (state_of h symbol) ≡ Ok numbers)
+
+-- a burial reads nothing that may be lost
+abbrev pub Whole : History → ℕ → ℕ → Type 0
+Whole h look showed = ⊥
+
+-- so many tries were met, each where there was something to bury, the last by the Refer of this place
+abbrev pub MetTries : ℕ → Name → Wish → ℕ → History → History → ℕ → Type 0
+MetTries client symbol wish count old new now = AreMetTries new client symbol false (λ q. Buries symbol wish (history_at new q)) (Whole new) count (length old) (length new) now
+
 -- each try was met; the last by the Refer of this place
-pub record DidMeetAll (client : ℕ) (sole : Bool) (symbol : Name) (most : ℕ) (old new : History) (refused : Refused) : Type 0 where
+pub record DidMeetAll (client : ℕ) (sole : Bool) (symbol : Name) (wish : Wish) (most : ℕ) (old new : History) (refused : Refused) : Type 0 where
   pub all : DidRefused client sole symbol old new most
+  pub each : MetTries client symbol wish most old new refused.place
   pub met : IsMet client symbol (length old) new refused.place
   pub why : refused.why ≡ refusals.Moved refused.place
 
@@ -149,4 +169,4 @@ abbrev pub DidTries : ℕ → Bool → Name → Wish → ℕ → ℕ → ℕ →
 DidTries client sole symbol wish most limit before now old new (Ok done) =
     Then client sole symbol most old new (λ mid. DidEnd client sole symbol wish limit before now mid new (Ok done))
 DidTries client sole symbol wish most limit before now old new (Err refused) =
-    DidMeetAll client sole symbol most old new refused ⊎ Then client sole symbol most old new (λ mid. DidEnd client sole symbol wish limit before now mid new (Err refused))
+    DidMeetAll client sole symbol wish most old new refused ⊎ Then client sole symbol most old new (λ mid. DidEnd client sole symbol wish limit before now mid new (Err refused))

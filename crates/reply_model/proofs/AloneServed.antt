@@ -193,32 +193,32 @@ prune_step c client symbol reply more old faulted heard r stands =
 -- ---- commands that only look
 
 -- a version that is live where the window begins and ends is not buried there
-live_is_not_gone : (symbol : Name) (as_of : AsOf) (number : ℕ) (reply : Reply) (old : History) (faulted : Bool) → length old ≤ reply.place → reply.place ≤ length old
-    → (g : IsVersionGone old symbol as_of number reply.place (added [] old faulted)) → is_buried (state_of (history_at old g.read_at) symbol) g.version.number ≡ false → ⊥
-live_is_not_gone symbol as_of number reply old faulted after before g live =
+live_is_not_gone : (symbol : Name) (as_of : AsOf) (range : Range) (columns : Option (List Text)) (number : ℕ) (reply : Reply) (old : History) (faulted : Bool) → length old ≤ reply.place → reply.place ≤ length old
+    → (g : IsVersionGone old symbol as_of range columns number reply.place (added [] old faulted)) → is_buried (state_of (history_at old g.read_at) symbol) g.version.number ≡ false → ⊥
+live_is_not_gone symbol as_of range columns number reply old faulted after before g live =
     let here : reply.place ≡ g.read_at = omega (arith, after, before, g.from, g.to) in
     true≢false (sym g.buried ∙ (ap (λ n. is_buried (state_of (history_at old reply.place) symbol) n) (sym g.number_is)
     ∙ (ap (λ q. is_buried (state_of (history_at old q) symbol) g.version.number) here ∙ live)))
 
 -- so nothing that was read is gone
-not_gone : (symbol : Name) (as_of : AsOf) (number : ℕ) (reply : Reply) (old : History) (faulted : Bool) → length old ≤ reply.place → reply.place ≤ length old
-    → IsVersionGone old symbol as_of number reply.place (added [] old faulted) → ⊥
-not_gone symbol (moments.Snapshot snap) number reply old faulted after before g =
+not_gone : (symbol : Name) (as_of : AsOf) (range : Range) (columns : Option (List Text)) (number : ℕ) (reply : Reply) (old : History) (faulted : Bool) → length old ≤ reply.place → reply.place ≤ length old
+    → IsVersionGone old symbol as_of range columns number reply.place (added [] old faulted) → ⊥
+not_gone symbol (moments.Snapshot snap) range columns number reply old faulted after before g =
     let size : reply.place - length old ≡ 0 = omega (arith, before) in
     true≢false (sym g.unnamed ∙ ap (λ n. list_any (unnames snap) (take n (history_at old reply.place))) size)
-not_gone symbol (moments.Back k) number reply old faulted after before g =
-    live_is_not_gone symbol (moments.Back k) number reply old faulted after before g (read_is_live (library_at old g.read_at) symbol (moments.Back k) g.version refl g.read)
-not_gone symbol (moments.Number n) number reply old faulted after before g =
-    live_is_not_gone symbol (moments.Number n) number reply old faulted after before g (read_is_live (library_at old g.read_at) symbol (moments.Number n) g.version refl g.read)
-not_gone symbol (moments.Moment t) number reply old faulted after before g =
-    live_is_not_gone symbol (moments.Moment t) number reply old faulted after before g (read_is_live (library_at old g.read_at) symbol (moments.Moment t) g.version refl g.read)
+not_gone symbol (moments.Back k) range columns number reply old faulted after before g =
+    live_is_not_gone symbol (moments.Back k) range columns number reply old faulted after before g (read_is_live (library_at old g.read_at) symbol (moments.Back k) g.version refl g.read)
+not_gone symbol (moments.Number n) range columns number reply old faulted after before g =
+    live_is_not_gone symbol (moments.Number n) range columns number reply old faulted after before g (read_is_live (library_at old g.read_at) symbol (moments.Number n) g.version refl g.read)
+not_gone symbol (moments.Moment t) range columns number reply old faulted after before g =
+    live_is_not_gone symbol (moments.Moment t) range columns number reply old faulted after before g (read_is_live (library_at old g.read_at) symbol (moments.Moment t) g.version refl g.read)
 
 read_step : (c : Cutting) (client : Client) (symbol : Name) (as_of : AsOf) (range : Range) (columns : Option (List Text)) (reply : Reply) (old : History) (faulted : Bool)
     → Heard client (commands.Read symbol as_of range columns) reply [] old faulted → IsStep c client.session (commands.Read symbol as_of range columns) reply old old
 read_step c client symbol as_of range columns reply old faulted heard r stands =
     let command = commands.Read symbol as_of range columns in
     elim (answered_or_gone client command reply [] old faulted refl heard) [
-      | inl gone ↦ absurd (not_gone symbol as_of gone.0 reply old faulted heard.seen.after heard.seen.before gone.1)
+      | inl gone ↦ absurd (not_gone symbol as_of range columns gone.0 reply old faulted heard.seen.after heard.seen.before gone.1)
       | inr is ↦ looking c client command r reply old stands
           (plain_of client command reply [] old faulted heard refl heard.seen.listed heard.seen.left.left)
           (none_behind client.session.client (length old) old (omega arith)) is

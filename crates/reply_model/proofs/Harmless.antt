@@ -15,13 +15,12 @@ use Rattle.bucket_core.specs.declared.event.Event.{Event}
 use Rattle.bucket_core.specs.declared.event.Event.TheVariants as events
 use Rattle.bucket_core.specs.History.{History, Bytes}
 use Rattle.expr_clause.specs.declared.command.Pick.{Pick}
-use Rattle.expr_clause.specs.declared.command.Command.{Command}
-use Rattle.expr_clause.specs.declared.command.Command.TheVariants as commands
 use Rattle.reply_model.specs.declared.reply.Reply.{Reply}
 use Rattle.reply_model.specs.Answering.{Session}
 use Rattle.reply_model.specs.Windows.{Window, own_events, is_cut}
 use Rattle.reply_model.specs.Tries.{put_of, drop_of, IsKeyOf, Before, of_mark, of_version, IsTry, IsRefused, IsAccepted, IsTurn, Turn, AreTurns}
-use Rattle.reply_model.specs.OwnEvents.{IsHold, IsRelease, IsHolding, IsUnholding, AnyMarks, IsOwn, is_done, is_end, is_last, is_empty_burial, holder_at, IsBeginning}
+use Rattle.reply_model.specs.Kinds.{Kind, kind_of, Makes, Edits, Holds, Unholds}
+use Rattle.reply_model.specs.OwnEvents.{IsOwnOf, is_last_of, IsHold, IsRelease, IsHolding, IsUnholding, AnyMarks, IsOwn, is_done, is_end, is_empty_burial, holder_at, IsBeginning}
 use Rattle.reply_model.specs.Runs.{is_mark, harms, RefusedHarmsNothing}
 
 -- ---- lists
@@ -137,24 +136,12 @@ unholding_harms_nothing h s w snap true es e = ap (list_any harms) e.is ∙ turn
 -- ---- commands
 
 -- a command that is not done
-undone_command : (h : History) (s : Session) (w : Window) (c : Command) (reply : Reply) (es : List Event) → IsOwn h s w c reply false es → list_any harms es ≡ false
-undone_command h s w (commands.Write symbol frame at prune) reply es o = undone_harms_nothing h s w symbol true AnyMarks es o
-undone_command h s w (commands.Append symbol frame at prune) reply es o = undone_harms_nothing h s w symbol true AnyMarks es o
-undone_command h s w (commands.Update symbol frame range upsert at prune) reply es o = undone_harms_nothing h s w symbol true AnyMarks es o
-undone_command h s w (commands.DeleteRange symbol range at prune) reply es o = undone_harms_nothing h s w symbol true AnyMarks es o
-undone_command h s w (commands.Finalize symbol append sorted at prune) reply es o = undone_harms_nothing h s w symbol true AnyMarks es o
-undone_command h s w (commands.Discard symbol) reply es o = undone_harms_nothing h s w symbol false AnyMarks es o
-undone_command h s w (commands.Delete symbol versions) reply es o = undone_harms_nothing h s w symbol false AnyMarks es o
-undone_command h s w (commands.Prune symbol) reply es o = undone_harms_nothing h s w symbol false AnyMarks es o
-undone_command h s w (commands.Stage symbol frame) reply es o = ap (list_any harms) o
-undone_command h s w (commands.Reclaim symbol) reply es o = ap (list_any harms) o
-undone_command h s w (commands.Snapshot snap picks) reply es o = holding_harms_nothing h s w snap picks false es o
-undone_command h s w (commands.DeleteSnapshot snap) reply es o = unholding_harms_nothing h s w snap false es o
-undone_command h s w (commands.Versions symbol) reply es o = ap (list_any harms) o
-undone_command h s w (commands.Keys symbol) reply es o = ap (list_any harms) o
-undone_command h s w commands.Symbols reply es o = ap (list_any harms) o
-undone_command h s w commands.Snapshots reply es o = ap (list_any harms) o
-undone_command h s w (commands.Read symbol as_of range columns) reply es o = ap (list_any harms) o
+undone_command : (h : History) (s : Session) (w : Window) (k : Kind) (reply : Reply) (es : List Event) → IsOwnOf h s w k reply false es → list_any harms es ≡ false
+undone_command h s w (Makes symbol) reply es o = undone_harms_nothing h s w symbol true AnyMarks es o
+undone_command h s w (Edits symbol) reply es o = undone_harms_nothing h s w symbol false AnyMarks es o
+undone_command h s w (Holds snap picks) reply es o = holding_harms_nothing h s w snap picks false es o
+undone_command h s w (Unholds snap) reply es o = unholding_harms_nothing h s w snap false es o
+undone_command h s w k reply es o = ap (list_any harms) o
 
 -- an event that harms is one with which a command of one symbol is done
 ends_harm : (es : List Event) → list_any is_end es ≡ false → list_any harms es ≡ false
@@ -166,36 +153,22 @@ ends_harm (events.Unname c snap ∷ es) e = ends_harm es e
 ends_harm (events.Drop c key ∷ es) e = ends_harm es e
 
 -- a beginning of such events
-abbrev Beginning : History → Session → Window → Command → Reply → List Event → Type 0
-Beginning h s w c reply es = IsBeginning (IsOwn h s w c reply true) es ⊎ IsBeginning (IsOwn h s w c reply false) es
+abbrev Beginning : History → Session → Window → Kind → Reply → List Event → Type 0
+Beginning h s w k reply es = IsBeginning (IsOwnOf h s w k reply true) es ⊎ IsBeginning (IsOwnOf h s w k reply false) es
 
 -- a command that a call ended
-cut_command : (h : History) (s : Session) (w : Window) (c : Command) (reply : Reply) (es : List Event) → list_any (is_last c) es ≡ false → Beginning h s w c reply es → list_any harms es ≡ false
-cut_command h s w (commands.Write symbol frame at prune) reply es short b = ends_harm es short
-cut_command h s w (commands.Append symbol frame at prune) reply es short b = ends_harm es short
-cut_command h s w (commands.Update symbol frame range upsert at prune) reply es short b = ends_harm es short
-cut_command h s w (commands.DeleteRange symbol range at prune) reply es short b = ends_harm es short
-cut_command h s w (commands.Finalize symbol append sorted at prune) reply es short b = ends_harm es short
-cut_command h s w (commands.Discard symbol) reply es short b = ends_harm es short
-cut_command h s w (commands.Delete symbol versions) reply es short b = ends_harm es short
-cut_command h s w (commands.Prune symbol) reply es short b = ends_harm es short
-cut_command h s w (commands.Stage symbol frame) reply es short b = ends_harm es short
-cut_command h s w (commands.Reclaim symbol) reply es short b = ends_harm es short
-cut_command h s w (commands.Versions symbol) reply es short b = ends_harm es short
-cut_command h s w (commands.Keys symbol) reply es short b = ends_harm es short
-cut_command h s w commands.Symbols reply es short b = ends_harm es short
-cut_command h s w commands.Snapshots reply es short b = ends_harm es short
-cut_command h s w (commands.Read symbol as_of range columns) reply es short b = ends_harm es short
-cut_command h s w (commands.Snapshot snap picks) reply es short (inl b) = none_of_first es b.more (holding_harms_nothing h s w snap picks true (es ++ b.more) b.whole)
-cut_command h s w (commands.Snapshot snap picks) reply es short (inr b) = none_of_first es b.more (holding_harms_nothing h s w snap picks false (es ++ b.more) b.whole)
-cut_command h s w (commands.DeleteSnapshot snap) reply es short (inl b) = none_of_first es b.more (unholding_harms_nothing h s w snap true (es ++ b.more) b.whole)
-cut_command h s w (commands.DeleteSnapshot snap) reply es short (inr b) = none_of_first es b.more (unholding_harms_nothing h s w snap false (es ++ b.more) b.whole)
+cut_command : (h : History) (s : Session) (w : Window) (k : Kind) (reply : Reply) (es : List Event) → list_any (is_last_of k) es ≡ false → Beginning h s w k reply es → list_any harms es ≡ false
+cut_command h s w (Holds snap picks) reply es short (inl b) = none_of_first es b.more (holding_harms_nothing h s w snap picks true (es ++ b.more) b.whole)
+cut_command h s w (Holds snap picks) reply es short (inr b) = none_of_first es b.more (holding_harms_nothing h s w snap picks false (es ++ b.more) b.whole)
+cut_command h s w (Unholds snap) reply es short (inl b) = none_of_first es b.more (unholding_harms_nothing h s w snap true (es ++ b.more) b.whole)
+cut_command h s w (Unholds snap) reply es short (inr b) = none_of_first es b.more (unholding_harms_nothing h s w snap false (es ++ b.more) b.whole)
+cut_command h s w k reply es short b = ends_harm es short
 
 pub refused_harms_nothing : RefusedHarmsNothing
 refused_harms_nothing h s c reply w own refused no_fault =
-    elim (is_cut reply.outcome) as (λ b. is_cut reply.outcome ≡ b → MatchBool b (Beginning h s w c reply es) (IsOwn h s w c reply (is_done reply) es) → list_any harms es ≡ false) [
-      | true ↦ λ cut m. cut_command h s w c reply es (own.short cut no_fault) m
-      | false ↦ λ cut m. undone_command h s w c reply es (subst (λ d. IsOwn h s w c reply d es) (ap (λ b. not b && not (is_empty_burial reply reply.outcome)) refused) m)
+    elim (is_cut reply.outcome) as (λ b. is_cut reply.outcome ≡ b → MatchBool b (Beginning h s w (kind_of c) reply es) (IsOwn h s w c reply (is_done reply) es) → list_any harms es ≡ false) [
+      | true ↦ λ cut m. cut_command h s w (kind_of c) reply es (own.short cut no_fault) m
+      | false ↦ λ cut m. undone_command h s w (kind_of c) reply es (subst (λ d. IsOwn h s w c reply d es) (ap (λ b. not b && not (is_empty_burial reply reply.outcome)) refused) m)
     ] refl own.events
   where
     es : List Event

@@ -93,11 +93,11 @@ answer_same s list other l m p q commands.Snapshots symbol plain named snap list
 
 -- a try met another's Refer
 abbrev pub Met : History → Client → Command → Reply → Window → Type 0
-Met h client c reply w = (symbol : Name) × (now : ℕ) × MeetsOn h c reply symbol × IsMoved h client.session symbol now reply.place w
+Met h client c reply w = (symbol : Name) × (now : ℕ) × MeetsOn h c reply symbol × IsMoved h client c reply symbol now w
 
 -- a version that was read is gone
 abbrev pub Gone : History → Command → Reply → Window → Type 0
-Gone h (commands.Read symbol as_of range columns) reply w = (number : ℕ) × IsVersionGone h symbol as_of number reply.place w
+Gone h (commands.Read symbol as_of range columns) reply w = (number : ℕ) × IsVersionGone h symbol as_of range columns number reply.place w
 Gone h c reply w = ⊥
 
 plain_refusal : (h : History) (client : Client) (c : Command) (reply : Reply) (w : Window) (why : Refusal) → is_plain c ≡ true → is_cut (outcomes.Refused why) ≡ false → IsLegalRefusal h client c reply w why

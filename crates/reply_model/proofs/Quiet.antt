@@ -16,12 +16,12 @@ use Rattle.bucket_core.specs.History.{History, author, event_at, history_at, eve
 use Rattle.bucket_core.specs.Laws.{refers}
 use Rattle.store_model.specs.Library.{State, state_of, after_change, after_changes, piece_of}
 use Rattle.expr_clause.specs.declared.command.Command.{Command}
-use Rattle.expr_clause.specs.declared.command.Command.TheVariants as commands
 use Rattle.reply_model.specs.declared.reply.Reply.{Reply}
 use Rattle.reply_model.specs.Answering.{Session}
 use Rattle.reply_model.specs.Windows.{Window, own_events}
 use Rattle.reply_model.specs.Tries.{put_of, IsAccepted, IsTurn}
-use Rattle.reply_model.specs.OwnEvents.{AnyMarks, IsOwn}
+use Rattle.reply_model.specs.Kinds.{Kind, kind_of, Makes, Edits, Reads}
+use Rattle.reply_model.specs.OwnEvents.{IsOwnOf, AnyMarks, IsOwn}
 use Rattle.reply_model.specs.Runs.{names_symbol, harms, IsAlone}
 use Rattle.reply_model.proofs.Harmless.{tries_harm_nothing, try_harms_nothing}
 use Rattle.reply_model.proofs.Places.{same_between, behind, within_is_behind, none_at, none_own_at}
@@ -176,31 +176,20 @@ turn_stages_nothing h s w symbol makes done es t = ap (list_any stages) t.is
         ∙ none_of_both (map (put_of s.client) a.0) (events.Refer s.client symbol a.1 a.2 a.3 ∷ []) (harmless_stages (map (put_of s.client) a.0) (try_harms_nothing s.client symbol makes a.0 a.2 a.4)) refl
 
 -- the commands whose answer is a function of the symbol's state, but for stage
+abbrev pub is_plain_of : Kind → Bool
+is_plain_of (Makes symbol) = true
+is_plain_of (Edits symbol) = true
+is_plain_of (Reads symbol) = true
+is_plain_of k = false
+
 abbrev pub is_plain : Command → Bool
-is_plain (commands.Stage symbol frame) = false
-is_plain (commands.Reclaim symbol) = false
-is_plain (commands.Keys symbol) = false
-is_plain (commands.Snapshot snap picks) = false
-is_plain (commands.DeleteSnapshot snap) = false
-is_plain commands.Symbols = false
-is_plain commands.Snapshots = false
-is_plain c = true
+is_plain c = is_plain_of (kind_of c)
+
+own_stages_none : (h : History) (s : Session) (w : Window) (k : Kind) (reply : Reply) (done : Bool) (es : List Event) → is_plain_of k ≡ true → IsOwnOf h s w k reply done es → list_any stages es ≡ false
+own_stages_none h s w (Makes symbol) reply done es p o = turn_stages_nothing h s w symbol true done es o
+own_stages_none h s w (Edits symbol) reply done es p o = turn_stages_nothing h s w symbol false done es o
+own_stages_none h s w (Reads symbol) reply done es p o = ap (list_any stages) o
+own_stages_none h s w k reply done es p o = absurd (true≢false (sym p))
 
 pub own_stages_nothing : (h : History) (s : Session) (w : Window) (c : Command) (reply : Reply) (done : Bool) (es : List Event) → is_plain c ≡ true → IsOwn h s w c reply done es → list_any stages es ≡ false
-own_stages_nothing h s w (commands.Write symbol frame at prune) reply done es p o = turn_stages_nothing h s w symbol true done es o
-own_stages_nothing h s w (commands.Append symbol frame at prune) reply done es p o = turn_stages_nothing h s w symbol true done es o
-own_stages_nothing h s w (commands.Update symbol frame range upsert at prune) reply done es p o = turn_stages_nothing h s w symbol true done es o
-own_stages_nothing h s w (commands.DeleteRange symbol range at prune) reply done es p o = turn_stages_nothing h s w symbol true done es o
-own_stages_nothing h s w (commands.Finalize symbol append sorted at prune) reply done es p o = turn_stages_nothing h s w symbol true done es o
-own_stages_nothing h s w (commands.Discard symbol) reply done es p o = turn_stages_nothing h s w symbol false done es o
-own_stages_nothing h s w (commands.Delete symbol versions) reply done es p o = turn_stages_nothing h s w symbol false done es o
-own_stages_nothing h s w (commands.Prune symbol) reply done es p o = turn_stages_nothing h s w symbol false done es o
-own_stages_nothing h s w (commands.Versions symbol) reply done es p o = ap (list_any stages) o
-own_stages_nothing h s w (commands.Read symbol as_of range columns) reply done es p o = ap (list_any stages) o
-own_stages_nothing h s w (commands.Stage symbol frame) reply done es p o = absurd (true≢false (sym p))
-own_stages_nothing h s w (commands.Reclaim symbol) reply done es p o = absurd (true≢false (sym p))
-own_stages_nothing h s w (commands.Keys symbol) reply done es p o = absurd (true≢false (sym p))
-own_stages_nothing h s w (commands.Snapshot snap picks) reply done es p o = absurd (true≢false (sym p))
-own_stages_nothing h s w (commands.DeleteSnapshot snap) reply done es p o = absurd (true≢false (sym p))
-own_stages_nothing h s w commands.Symbols reply done es p o = absurd (true≢false (sym p))
-own_stages_nothing h s w commands.Snapshots reply done es p o = absurd (true≢false (sym p))
+own_stages_nothing h s w c reply done es p o = own_stages_none h s w (kind_of c) reply done es p o

@@ -18,6 +18,7 @@ use Rattle.reply_model.specs.declared.outcome.Outcome.{Outcome}
 use Rattle.reply_model.specs.declared.outcome.Outcome.TheVariants as outcomes
 use Rattle.reply_model.specs.declared.reply.Reply.{Reply}
 use Rattle.reply_model.specs.Windows.{Window, Client, library_at, own_events, is_cut, has_none}
+use Rattle.reply_model.specs.Kinds.{Kind, kind_of, Reclaims, Holds, Unholds, Cause, cause_of, Free, Faulted, Full, Met, Gone, Told}
 use Rattle.reply_model.specs.Drops.{IsFreedAt}
 use Rattle.reply_model.specs.OwnEvents.{HasOwnEvents}
 use Rattle.reply_model.specs.Left.{HasLeft}
@@ -45,20 +46,40 @@ IsListedWithin (Some listed) start place = (start ≤ listed) × (listed ≤ pla
 
 -- ---- each reply
 
--- the clause of each refusal, by the command
+-- the symbol has no reference
+abbrev pub IsReclaimRefusal : History → Name → Reply → Refusal → Type 0
+IsReclaimRefusal h symbol reply refusals.NoSuchSymbol = (state_of (history_at h reply.place) symbol).has_reference ≡ false
+IsReclaimRefusal h symbol reply why = ⊥
+
+-- the name does not stand
+abbrev pub IsUnholdRefusal : History → Name → Reply → Refusal → Type 0
+IsUnholdRefusal h snap reply refusals.NoSuchSnapshot = snap_body (history_at h reply.place) snap ≡ None
+IsUnholdRefusal h snap reply why = ⊥
+
+-- a refusal that the one-thread library gives, by the kind of command
+abbrev pub IsTold : History → Client → Command → Reply → Refusal → Kind → Type 0
+IsTold h client c reply why (Reclaims symbol) = IsReclaimRefusal h symbol reply why
+IsTold h client c reply why (Unholds snap) = IsUnholdRefusal h snap reply why
+IsTold h client c reply why (Holds snap picks) = IsSnapshotRefusal h picks snap reply why
+IsTold h client c reply why kind = IsAnswer h client c reply
+
+-- only a read finds a version gone
+abbrev pub IsGoneTo : History → Command → ℕ → Reply → Window → Type 0
+IsGoneTo h (commands.Read symbol as_of range columns) number reply w = IsVersionGone h symbol as_of range columns number reply.place w
+IsGoneTo h c number reply w = ⊥
+
+-- the clause of each cause
+abbrev pub IsCaused : History → Client → Command → Reply → Window → Refusal → Cause → Type 0
+IsCaused h client c reply w why Free = ⊤
+IsCaused h client c reply w why Faulted = w.faulted ≡ true
+IsCaused h client c reply w why (Full count) = IsSpent h client c count reply w
+IsCaused h client c reply w why (Met now) = (symbol : Name) × MeetsOn h c reply symbol × IsMoved h client c reply symbol now w
+IsCaused h client c reply w why (Gone number) = IsGoneTo h c number reply w
+IsCaused h client c reply w why Told = IsTold h client c reply why (kind_of c)
+
+-- the clause of each refusal
 abbrev pub IsLegalRefusal : History → Client → Command → Reply → Window → Refusal → Type 0
-IsLegalRefusal h client c reply w refusals.NoMemory = ⊤
-IsLegalRefusal h client c reply w refusals.StoreFault = w.faulted ≡ true
-IsLegalRefusal h client c reply w (refusals.Spent count) = IsSpent h client c count reply w
-IsLegalRefusal h client c reply w (refusals.Moved now) = (symbol : Name) × MeetsOn h c reply symbol × IsMoved h client.session symbol now reply.place w
-IsLegalRefusal h client (commands.Read symbol as_of range columns) reply w (refusals.VersionGone number) = IsVersionGone h symbol as_of number reply.place w
-IsLegalRefusal h client c reply w (refusals.VersionGone number) = ⊥
-IsLegalRefusal h client (commands.Reclaim symbol) reply w refusals.NoSuchSymbol = (state_of (history_at h reply.place) symbol).has_reference ≡ false
-IsLegalRefusal h client (commands.Reclaim symbol) reply w why = ⊥
-IsLegalRefusal h client (commands.DeleteSnapshot snap) reply w refusals.NoSuchSnapshot = snap_body (history_at h reply.place) snap ≡ None
-IsLegalRefusal h client (commands.DeleteSnapshot snap) reply w why = ⊥
-IsLegalRefusal h client (commands.Snapshot snap picks) reply w why = IsSnapshotRefusal h picks snap reply why
-IsLegalRefusal h client c reply w why = IsAnswer h client c reply
+IsLegalRefusal h client c reply w why = IsCaused h client c reply w why (cause_of why)
 
 -- by the command; each outcome that is not its own is refused by the equation with the answer
 abbrev pub IsLegalOk : History → Client → Command → Reply → Window → Outcome → Type 0

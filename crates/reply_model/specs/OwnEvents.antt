@@ -30,6 +30,7 @@ use Rattle.reply_model.specs.Answering.{Session, frame_of}
 use Rattle.reply_model.specs.Answers.{answer}
 use Rattle.store_model.specs.Holders.{holder_is}
 use Rattle.reply_model.specs.Windows.{Window, library_at, own_events, symbol_of, is_refused, is_cut, is_store_fault, refer_places, AreCommits, IsReferAt}
+use Rattle.reply_model.specs.Kinds.{Kind, kind_of, Makes, Edits, Stages, Reclaims, Holds, Unholds}
 use Rattle.reply_model.specs.Tries.{IsKeyOf, one_if, IsTurn, AreTurns}
 use Rattle.reply_model.specs.Drops.{IsReclaiming}
 
@@ -83,21 +84,19 @@ pub record IsStaging (s : Session) (symbol : Name) (frame : ℕ) (es : List Even
 abbrev pub AnyMarks : List Change → Type 0
 AnyMarks list = ⊤
 
--- the own events of a command that is done, or that is not
+-- the own events of a kind of command that is done, or that is not
+abbrev pub IsOwnOf : History → Session → Window → Kind → Reply → Bool → List Event → Type 0
+IsOwnOf h s w (Makes symbol) reply done es = IsTurn h s w symbol true done AnyMarks es
+IsOwnOf h s w (Edits symbol) reply done es = IsTurn h s w symbol false done AnyMarks es
+IsOwnOf h s w (Stages symbol frame) reply done es = MatchBool done (IsStaging s symbol frame es) (es ≡ [])
+IsOwnOf h s w (Reclaims symbol) reply done es = MatchBool done (IsReclaiming h s.client symbol reply w es) (es ≡ [])
+IsOwnOf h s w (Holds snap picks) reply done es = IsHolding h s w snap picks done es
+IsOwnOf h s w (Unholds snap) reply done es = MatchBool done (IsUnholding h s w snap es) (es ≡ [])
+IsOwnOf h s w _ reply done es = es ≡ []
+
+-- so of a command
 abbrev pub IsOwn : History → Session → Window → Command → Reply → Bool → List Event → Type 0
-IsOwn h s w (commands.Write symbol frame at prune) reply done es = IsTurn h s w symbol true done AnyMarks es
-IsOwn h s w (commands.Append symbol frame at prune) reply done es = IsTurn h s w symbol true done AnyMarks es
-IsOwn h s w (commands.Update symbol frame range upsert at prune) reply done es = IsTurn h s w symbol true done AnyMarks es
-IsOwn h s w (commands.DeleteRange symbol range at prune) reply done es = IsTurn h s w symbol true done AnyMarks es
-IsOwn h s w (commands.Finalize symbol append sorted at prune) reply done es = IsTurn h s w symbol true done AnyMarks es
-IsOwn h s w (commands.Discard symbol) reply done es = IsTurn h s w symbol false done AnyMarks es
-IsOwn h s w (commands.Delete symbol versions) reply done es = IsTurn h s w symbol false done AnyMarks es
-IsOwn h s w (commands.Prune symbol) reply done es = IsTurn h s w symbol false done AnyMarks es
-IsOwn h s w (commands.Stage symbol frame) reply done es = MatchBool done (IsStaging s symbol frame es) (es ≡ [])
-IsOwn h s w (commands.Reclaim symbol) reply done es = MatchBool done (IsReclaiming h s.client symbol reply w es) (es ≡ [])
-IsOwn h s w (commands.Snapshot snap picks) reply done es = IsHolding h s w snap picks done es
-IsOwn h s w (commands.DeleteSnapshot snap) reply done es = MatchBool done (IsUnholding h s w snap es) (es ≡ [])
-IsOwn h s w _ reply done es = es ≡ []
+IsOwn h s w c reply done es = IsOwnOf h s w (kind_of c) reply done es
 
 -- a delete or a prune that found nothing to bury has no commit
 abbrev pub is_empty_burial : Reply → Outcome → Bool
@@ -121,10 +120,13 @@ is_end (events.Put client key body) = same_kind key.kind kinds.Staged
 is_end e = false
 
 -- the event with which the command is done. A delete_snapshot goes on behind its Unname
+abbrev pub is_last_of : Kind → Event → Bool
+is_last_of (Unholds snap) e = false
+is_last_of (Holds snap picks) e = is_name e
+is_last_of k e = is_end e
+
 abbrev pub is_last : Command → Event → Bool
-is_last (commands.DeleteSnapshot snap) e = false
-is_last (commands.Snapshot snap picks) e = is_name e
-is_last c e = is_end e
+is_last c e = is_last_of (kind_of c) e
 
 -- some events more make such a list
 pub record IsBeginning (P : List Event → Type 0) (es : List Event) : Type 0 where

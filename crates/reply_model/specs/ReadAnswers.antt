@@ -2,14 +2,19 @@
 --     versions_answer         every version ever linked
 --     read_version            the version that a read takes
 --     ask                     the rows in the range, and of these the asked columns
-use Rattle.std.specs.Prelude.{ℕ, zero, suc, not, if◌then◌else◌, List, [], map, reverse, find, slice_get, Option, Some, None, Result, Ok, Err, nat_eq, int_le, count_by, option_map}
+--     is_asked, places_asked  whether a column is asked, and the places of those that are
+use Rattle.std.specs.Prelude.{ℕ, zero, suc, Bool, true, not, if◌then◌else◌, List, [], map, reverse, find, slice_get, Option, Some, None, Result, Ok, Err, nat_eq, int_le, count_by, option_map}
+use Rattle.std.specs.List.{list_any}
 use Rattle.frame_core.specs.Ranges.{Range}
 use Rattle.frame_core.specs.declared.refusal.Asked.TheVariants as asks
 use Rattle.frame_core.specs.declared.refusal.Refusal.{Refusal}
 use Rattle.frame_core.specs.declared.refusal.Refusal.TheVariants as refusals
-use Rattle.frame_core.specs.Texts.{Text}
+use Rattle.frame_core.specs.Texts.{Text, same_text}
+use Rattle.frame_core.specs.Schemas.{Head}
 use Rattle.frame_core.specs.Frames.{Frame, rows_within}
 use Rattle.frame_core.specs.Selecting.{select}
+use Rattle.index_tree.specs.declared.index.Index.{Index}
+use Rattle.index_tree.specs.Covering.{places_where}
 use Rattle.key_kind.specs.Names.{Name, same_name}
 use Rattle.store_model.specs.Library.{State, Version, is_buried, live_versions}
 use Rattle.store_model.specs.Snapshots.{Snapshot, Library, snapshot_named}
@@ -62,3 +67,12 @@ select_columns (Some names) f = found (select names f)
 -- the rows in the range, and of these the asked columns
 abbrev pub ask : Frame → Range → Option (List Text) → Result Frame Refusal
 ask f range columns = select_columns columns (record f { rows = rows_within range f.rows })
+
+-- whether the column of a name is asked
+abbrev pub is_asked : Option (List Text) → Text → Bool
+is_asked None name = true
+is_asked (Some names) name = list_any (same_text name) names
+
+-- the places of the asked columns of an index
+abbrev pub places_asked : Option (List Text) → Index → List ℕ
+places_asked columns index = places_where (λ (head : Head). is_asked columns head.0) index.schema.columns

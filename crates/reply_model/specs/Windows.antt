@@ -8,7 +8,6 @@
 --     refers_by_others     how many Refers of a symbol by others stand in a window
 --     IsReferAt            the event of a place is the client's Refer with these changes
 use Rattle.std.specs.Prelude.{◌≡◌, ◌⊎◌, ℕ, suc, Bool, true, false, ◌&&◌, not, if◌then◌else◌, List, [], ◌∷◌, ◌++◌, reverse, length, filter, count_by, Option, Some, None, nat_eq, nat_le, option_map, unwrap_or}
-use Rattle.frame_core.specs.declared.refusal.Refusal.TheVariants as refusals
 use Rattle.key_kind.specs.declared.key.Key.{Key}
 use Rattle.key_kind.specs.Names.{Name, same_name}
 use Rattle.bucket_core.specs.declared.event.Change.{Change}
@@ -20,11 +19,11 @@ use Rattle.store_model.specs.Snapshots.{Library, library_of}
 use Rattle.bucket_core.specs.Laws.{refers}
 use Rattle.expr_clause.specs.declared.command.Pick.{Pick}
 use Rattle.expr_clause.specs.declared.command.Command.{Command}
-use Rattle.expr_clause.specs.declared.command.Command.TheVariants as commands
 use Rattle.reply_model.specs.declared.outcome.Outcome.{Outcome}
 use Rattle.reply_model.specs.declared.outcome.Outcome.TheVariants as outcomes
 use Rattle.reply_model.specs.declared.reply.Reply.{Reply}
 use Rattle.reply_model.specs.Answering.{Session}
+use Rattle.reply_model.specs.Kinds.{kind_of, kind_symbol, cause_of, cuts, faults}
 
 -- from one place to another, and whether the bucket's count of faults rose between
 pub record Window : Type 0 where
@@ -49,20 +48,7 @@ own_events h client w = reverse (filter (λ e. nat_eq (author e) client) (events
 
 -- the symbol of a command of one symbol
 abbrev pub symbol_of : Command → Option Name
-symbol_of (commands.Write symbol frame at prune) = Some symbol
-symbol_of (commands.Append symbol frame at prune) = Some symbol
-symbol_of (commands.Update symbol frame range upsert at prune) = Some symbol
-symbol_of (commands.DeleteRange symbol range at prune) = Some symbol
-symbol_of (commands.Stage symbol frame) = Some symbol
-symbol_of (commands.Finalize symbol append sorted at prune) = Some symbol
-symbol_of (commands.Discard symbol) = Some symbol
-symbol_of (commands.Delete symbol versions) = Some symbol
-symbol_of (commands.Prune symbol) = Some symbol
-symbol_of (commands.Reclaim symbol) = Some symbol
-symbol_of (commands.Versions symbol) = Some symbol
-symbol_of (commands.Keys symbol) = Some symbol
-symbol_of (commands.Read symbol as_of range columns) = Some symbol
-symbol_of _ = None
+symbol_of c = kind_symbol (kind_of c)
 
 -- the version that a pick asks for, in a state: the given one where it is live, or the base
 abbrev pub picked_version : State → Option ℕ → Option ℕ
@@ -83,14 +69,12 @@ is_refused _ = false
 
 -- a call of the command may have failed: NoMemory, StoreFault and Spent
 abbrev pub is_cut : Outcome → Bool
-is_cut (outcomes.Refused refusals.NoMemory) = true
-is_cut (outcomes.Refused refusals.StoreFault) = true
-is_cut (outcomes.Refused (refusals.Spent count)) = true
+is_cut (outcomes.Refused why) = cuts (cause_of why)
 is_cut _ = false
 
 -- the bucket failed, and a change may stand of which nothing is known
 abbrev pub is_store_fault : Outcome → Bool
-is_store_fault (outcomes.Refused refusals.StoreFault) = true
+is_store_fault (outcomes.Refused why) = faults (cause_of why)
 is_store_fault _ = false
 
 -- ---- events of a window

@@ -222,7 +222,10 @@ module _ (client : ℕ) (sole : Bool) (symbol : Name) (state : SymbolState) (c :
       entry = entry;
       body = body;
       is_entry = e;
-      went = went_then client sole old new last (added ∷ []) (drop_event client entry ∷ []) went_new (went_adds client sole new last (drop_event client entry) refl d);
+      showed = new;
+      put = went_new;
+      shown = sym moved.1;
+      dropped = went_adds client sole new last (drop_event client entry) refl d;
       met = is_met last (drop_event client entry ∷ []) (went_adds client sole new last (drop_event client entry) refl d);
     }
 

@@ -29,25 +29,7 @@ module _ (before mid now limit : ℕ) (new : History) (le : before ≤ mid) wher
   cause_sooner refused refusals.NoMemory c = tt
   cause_sooner refused refusals.StoreFault c = rose_sooner before mid now le c
   cause_sooner refused (refusals.Spent count) c = c
-  cause_sooner refused refusals.NoSuchSymbol c = absurd c
-  cause_sooner refused (refusals.NoSuchVersion asked) c = absurd c
-  cause_sooner refused (refusals.VersionGone version) c = absurd c
-  cause_sooner refused (refusals.Moved at) c = absurd c
-  cause_sooner refused (refusals.Unsorted row) c = absurd c
-  cause_sooner refused (refusals.SchemaDiffers column) c = absurd c
-  cause_sooner refused (refusals.AppendBefore last first) c = absurd c
-  cause_sooner refused (refusals.OutsideRange row) c = absurd c
-  cause_sooner refused refusals.EmptyUpdate c = absurd c
-  cause_sooner refused (refusals.NoSuchColumn clause position) c = absurd c
-  cause_sooner refused (refusals.TypeMismatch clause) c = absurd c
-  cause_sooner refused (refusals.Overflow clause row) c = absurd c
-  cause_sooner refused (refusals.GroupOverflow clause group) c = absurd c
-  cause_sooner refused (refusals.NotTimeIndexed clause) c = absurd c
-  cause_sooner refused refusals.SnapshotExists c = absurd c
-  cause_sooner refused refusals.NoSuchSnapshot c = absurd c
-  cause_sooner refused refusals.NoStaged c = absurd c
-  cause_sooner refused (refusals.StagedOverlap piece) c = absurd c
-  cause_sooner refused (refusals.TooLarge what most) c = absurd c
+  cause_sooner refused why c = absurd c
 
 module _ {B : Type 0} (number limit faults : B → ℕ) (sole : B → Bool) (a b : B) (steady : IsSteady number limit faults sole a b) where
   pub grown_steady : (x y : History) (own : ℕ → History) → Grown IsClaimed (number b) (sole b) x y (own (number b)) → Grown IsClaimed (number a) (sole a) x y (own (number a))

@@ -22,7 +22,7 @@ use Rattle.bucket_core.specs.declared.event.Change.{Change}
 use Rattle.bucket_core.specs.declared.event.Change.TheVariants as changes
 use Rattle.bucket_core.specs.declared.event.Event.{Event}
 use Rattle.bucket_core.specs.declared.event.Event.TheVariants as events
-use Rattle.bucket_core.specs.History.{History, Bytes, author, event_at, puts_by}
+use Rattle.bucket_core.specs.History.{History, Bytes, author, event_at, puts_by, referred_at}
 use Rattle.bucket_core.specs.Laws.{refers}
 use Rattle.bucket_core.specs.Calls.{refers_after}
 use Rattle.store_model.specs.declared.chain.LinkRow.{LinkRow}
@@ -107,7 +107,7 @@ pub record Marked (client : ℕ) (sole : Bool) (symbol : Name) (from : ℕ) (c :
   pub longer : from ≤ length before
   pub place_is : place ≡ length new
 
--- the Put of the element, and its Drop, since another's Refer of the symbol stands behind the state's place
+-- the Put of the element, then a call that showed another's Refer of the symbol behind the state's place, and the Drop of the element
 pub record MarkMet (client : ℕ) (sole : Bool) (symbol : Name) (from : ℕ) (c : Change) (old new : History) (refused : Refused) : Type 0 where
   pub now : ℕ
   pub refused_is : refused ≡ record { place = now; why = refusals.Moved now }
@@ -115,7 +115,10 @@ pub record MarkMet (client : ℕ) (sole : Bool) (symbol : Name) (from : ℕ) (c 
   pub entry : Key
   pub body : Bytes
   pub is_entry : IsMarkEntry symbol was entry body c
-  pub went : Went client sole old new (events.Put client entry body ∷ events.Drop client entry ∷ [])
+  pub showed : History
+  pub put : Went client sole old showed (events.Put client entry body ∷ [])
+  pub shown : referred_at showed symbol ≡ now
+  pub dropped : Went client sole showed new (events.Drop client entry ∷ [])
   pub met : IsMet client symbol from new now
 
 -- the own events of a try that stopped: none; the Put of the element; or its Drop too, where the try was met

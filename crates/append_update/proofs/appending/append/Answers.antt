@@ -2,7 +2,7 @@ use Rattle.std.proofs.Common.{refl}
 use Rattle.reply_model.specs.CommitAnswers.{append_answer}
 use Rattle.frame_write.proofs.ReplyLemmas.{goes_on}
 use Rattle.append_update.specs.declared.wish.Wish.TheVariants as wishes
-use Rattle.append_update.specs.Asking.{IsAnswered, Declines, Wants}
+use Rattle.append_update.specs.Asking.{IsAnswered, Declines, Wants, Loses}
 use Rattle.append_update.proofs.AloneLemmas.{tries_lay}
 use Rattle.append_update.proofs.ReplyLemmas.{append_is_legal}
 use Rattle.append_update.proofs.SharedCalls.{append_shares}
@@ -10,7 +10,7 @@ use Rattle.append_update.proofs.appending.append.Goals as goal
 
 pub returns-clause-grown : goal.returns-clause-grown
 returns-clause-grown g c =
-    goes_on (g.B.Bucket.number c.args.bucket.now) (g.B.Bucket.sole c.args.bucket.now) c.args.symbol.now (IsAnswered (g.B.Bucket.number c.args.bucket.now) c.args.symbol.now (wishes.Append c.args.frame) c.args.options.now) (Declines c.args.symbol.now (wishes.Append c.args.frame) c.args.options.now) (Wants c.args.symbol.now (wishes.Append c.args.frame) c.args.options.now)
+    goes_on (g.B.Bucket.number c.args.bucket.now) (g.B.Bucket.sole c.args.bucket.now) c.args.symbol.now (IsAnswered (g.B.Bucket.number c.args.bucket.now) c.args.symbol.now (wishes.Append c.args.frame) c.args.options.now) (Declines c.args.symbol.now (wishes.Append c.args.frame) c.args.options.now) (Wants c.args.symbol.now (wishes.Append c.args.frame) c.args.options.now) (Loses c.args.symbol.now (wishes.Append c.args.frame))
     _ _ _ _ _ _ _ c.try_all.ensures.did
 
 pub returns-clause-legal : goal.returns-clause-legal

@@ -10,9 +10,10 @@ use Rattle.store_model.specs.Library.{state_of, is_buried}
 use Rattle.frame_read.specs.Fetches.{IsTargetIndex}
 use Rattle.frame_read.proofs.LoopLemmas.{looks_more}
 use Rattle.append_update.specs.declared.base.Base.{Base}
-use Rattle.append_update.specs.Asking.{answer_to, IsPlanOf, IsAlone}
+use Rattle.append_update.specs.Asking.{answer_to, IsPlanOf, IsAlone, FitsBase}
 use Rattle.append_update.specs.Looking.{RefusesPlan}
 use Rattle.append_update.specs.Newest.{IsBase}
+use Rattle.append_update.proofs.LaterLemmas.{if_err}
 use Rattle.append_update.proofs.BaseLemmas.{walked_here}
 use Rattle.append_update.proofs.PlanLemmas.{base_found, alone_plan, alone_refused}
 use Rattle.append_update.proofs.TryLemmas.{plan_wider}
@@ -21,10 +22,6 @@ use Rattle.append_update.proofs.asking.plan_on.Goals as goal
 -- what holds of what is there holds of it
 if_some : (P : Base → Type 0) (o : Option Base) (base : Base) → o ≡ Some base → IfSome o P → P base
 if_some P o base is p = subst (λ (x : Option Base). IfSome x P) is p
-
-if_err : {A E : Type 0} (P Q : E → Type 0) (r : Result A E) → ((e : E) → P e → Q e) → IfErr r P → IfErr r Q
-if_err P Q (Ok a) f p = tt
-if_err P Q (Err e) f p = f e p
 
 pub base_of-requires : goal.base_of-requires
 base_of-requires g c = record { walked = (c.args.options.now.prune, c.requires.walked.0, c.requires.walked.1) }
@@ -78,10 +75,10 @@ returns-in-Some-clause-refused g c =
     (if_some (λ (it : Base). is_buried (state_of (history_at (g.B.Bucket.seen c.args.bucket.now) c.args.tip.now.place) c.args.symbol.now) it.target.version ≡ false) c.in_ok-base.base c.in-Some.base c.in-Some.is c.in_ok-base.ensures.live) in
     let answer = answer_to c.args.wish.now c.args.options.now.prune c.args.options.now.at in
     if_err _ _ c.plan_over.result (λ e p.
-    plan_wider (g.B.Bucket.number c.args.bucket.now) c.args.symbol.now answer (history_at (g.B.Bucket.seen c.args.bucket.now) c.args.tip.now.place) (g.B.Bucket.faults c.args.bucket.now) (g.B.Bucket.faults c.base_of.new.bucket) (g.B.Bucket.faults c.plan_over.new.bucket) c.base_of.ensures.looks.others
+    plan_wider (g.B.Bucket.number c.args.bucket.now) c.args.symbol.now (FitsBase c.args.wish.now) answer (history_at (g.B.Bucket.seen c.args.bucket.now) c.args.tip.now.place) (g.B.Bucket.faults c.args.bucket.now) (g.B.Bucket.faults c.base_of.new.bucket) (g.B.Bucket.faults c.plan_over.new.bucket) c.base_of.ensures.looks.others
     (g.B.Bucket.seen c.args.bucket.now) (g.B.Bucket.seen c.base_of.new.bucket) (g.B.Bucket.seen c.plan_over.new.bucket) e c.base_of.ensures.steady.faults_rise c.base_of.ensures.looks.is
-    (subst (λ n. RefusesPlan n c.args.symbol.now answer (history_at (g.B.Bucket.seen c.args.bucket.now) c.args.tip.now.place) (g.B.Bucket.faults c.base_of.new.bucket) (g.B.Bucket.faults c.plan_over.new.bucket) (g.B.Bucket.seen c.base_of.new.bucket) (g.B.Bucket.seen c.plan_over.new.bucket) e) same
-    (subst (λ h. RefusesPlan number c.args.symbol.now answer h (g.B.Bucket.faults c.base_of.new.bucket) (g.B.Bucket.faults c.plan_over.new.bucket) (g.B.Bucket.seen c.base_of.new.bucket) (g.B.Bucket.seen c.plan_over.new.bucket) e)
+    (subst (λ n. RefusesPlan n c.args.symbol.now (FitsBase c.args.wish.now) answer (history_at (g.B.Bucket.seen c.args.bucket.now) c.args.tip.now.place) (g.B.Bucket.faults c.base_of.new.bucket) (g.B.Bucket.faults c.plan_over.new.bucket) (g.B.Bucket.seen c.base_of.new.bucket) (g.B.Bucket.seen c.plan_over.new.bucket) e) same
+    (subst (λ h. RefusesPlan number c.args.symbol.now (FitsBase c.args.wish.now) answer h (g.B.Bucket.faults c.base_of.new.bucket) (g.B.Bucket.faults c.plan_over.new.bucket) (g.B.Bucket.seen c.base_of.new.bucket) (g.B.Bucket.seen c.plan_over.new.bucket) e)
     (sym (walked_here (g.B.Bucket.seen c.args.bucket.now) c.args.symbol.now c.args.options.now.prune c.args.tip.now at)) p))) (c.plan_over.ensures.refused b)
 
 pub returns-in-Ok-Some-clause-plan : goal.returns-in-Ok-Some-clause-plan

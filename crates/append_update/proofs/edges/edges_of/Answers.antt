@@ -1,5 +1,6 @@
 use Rattle.store_model.specs.Law.{IsClaimed}
 use Rattle.frame_read.proofs.LoopLemmas.{looks_more}
+use Rattle.append_update.specs.Looking.{AnyBase}
 use Rattle.append_update.proofs.LaterLemmas.{base_later, base_wider}
 use Rattle.append_update.proofs.edges.edges_of.Goals as goal
 
@@ -26,5 +27,5 @@ returns-in-Err-clause-looks g c =
 
 pub returns-in-Err-clause-refused : goal.returns-in-Err-clause-refused
 returns-in-Err-clause-refused g c =
-    base_wider (g.B.Bucket.number c.args.bucket.now) (g.B.Bucket.number c.edge_below.new.bucket) c.args.symbol.now c.args.base.now.target.place (g.B.Bucket.faults c.args.bucket.now) (g.B.Bucket.faults c.edge_below.new.bucket) (g.B.Bucket.faults c.edge_above.new.bucket) c.edge_below.ensures.looks.others (g.B.Bucket.seen c.args.bucket.now) (g.B.Bucket.seen c.edge_below.new.bucket) (g.B.Bucket.seen c.edge_above.new.bucket) c.in-Err.refused
+    base_wider (g.B.Bucket.number c.args.bucket.now) (g.B.Bucket.number c.edge_below.new.bucket) c.args.symbol.now AnyBase c.args.base.now.target.place (g.B.Bucket.faults c.args.bucket.now) (g.B.Bucket.faults c.edge_below.new.bucket) (g.B.Bucket.faults c.edge_above.new.bucket) c.edge_below.ensures.looks.others (g.B.Bucket.seen c.args.bucket.now) (g.B.Bucket.seen c.edge_below.new.bucket) (g.B.Bucket.seen c.edge_above.new.bucket) c.in-Err.refused
     c.edge_below.ensures.steady.same_number c.edge_below.ensures.steady.faults_rise c.edge_below.ensures.looks.is c.in-Err.ensures.refused

@@ -1,6 +1,7 @@
 use Rattle.std.proofs.Common.{◌∙◌, refl, sym, inl, inr}
 use Rattle.store_model.specs.Law.{IsClaimed}
 use Rattle.frame_read.proofs.LoopLemmas.{looks_more, steady_more}
+use Rattle.append_update.specs.Looking.{AnyBase}
 use Rattle.append_update.proofs.LaterLemmas.{base_later, base_wider}
 use Rattle.append_update.proofs.ReplacePlans.{large_some, large_none}
 use Rattle.append_update.proofs.fitting.small_edges.Goals as goal
@@ -18,7 +19,7 @@ returns-in-Err-clause-steady g c = steady_more g.B.Bucket.number g.B.Bucket.limi
 
 pub returns-in-Err-clause-refused : goal.returns-in-Err-clause-refused
 returns-in-Err-clause-refused g c = λ b.
-    inl (base_wider (g.B.Bucket.number c.args.bucket.now) (g.B.Bucket.number c.exceeds_texts.new.bucket) c.args.symbol.now c.args.base.now.target.place (g.B.Bucket.faults c.args.bucket.now) (g.B.Bucket.faults c.exceeds_texts.new.bucket) (g.B.Bucket.faults c.edges_of.new.bucket) c.exceeds_texts.ensures.looks.others (g.B.Bucket.seen c.args.bucket.now) (g.B.Bucket.seen c.exceeds_texts.new.bucket) (g.B.Bucket.seen c.edges_of.new.bucket) c.in-Err.refused
+    inl (base_wider (g.B.Bucket.number c.args.bucket.now) (g.B.Bucket.number c.exceeds_texts.new.bucket) c.args.symbol.now AnyBase c.args.base.now.target.place (g.B.Bucket.faults c.args.bucket.now) (g.B.Bucket.faults c.exceeds_texts.new.bucket) (g.B.Bucket.faults c.edges_of.new.bucket) c.exceeds_texts.ensures.looks.others (g.B.Bucket.seen c.args.bucket.now) (g.B.Bucket.seen c.exceeds_texts.new.bucket) (g.B.Bucket.seen c.edges_of.new.bucket) c.in-Err.refused
     c.exceeds_texts.ensures.steady.same_number c.exceeds_texts.ensures.steady.faults_rise c.exceeds_texts.ensures.looks.is c.in-Err.ensures.refused)
 
 pub replaced_too_large-requires-clause-replaces : goal.replaced_too_large-requires-clause-replaces

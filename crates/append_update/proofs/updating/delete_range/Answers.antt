@@ -4,7 +4,7 @@ use Rattle.frame_core.specs.Ranges.{Range}
 use Rattle.append_update.specs.Shares.{ClearsSlots, SharesAs}
 use Rattle.frame_write.proofs.ReplyLemmas.{goes_on}
 use Rattle.append_update.specs.declared.wish.Wish.TheVariants as wishes
-use Rattle.append_update.specs.Asking.{IsAnswered, Declines, Wants}
+use Rattle.append_update.specs.Asking.{IsAnswered, Declines, Wants, Loses}
 use Rattle.reply_model.specs.CommitAnswers.{clear_answer}
 use Rattle.append_update.proofs.AloneLemmas.{tries_lay}
 use Rattle.append_update.proofs.ReplyLemmas.{delete_is_legal}
@@ -14,7 +14,7 @@ use Rattle.append_update.proofs.updating.delete_range.Goals as goal
 pub returns-clause-grown : goal.returns-clause-grown
 returns-clause-grown g c =
     let wish = wishes.Clear c.ordered-range.result in
-    goes_on (g.B.Bucket.number c.args.bucket.now) (g.B.Bucket.sole c.args.bucket.now) c.args.symbol.now (IsAnswered (g.B.Bucket.number c.args.bucket.now) c.args.symbol.now wish c.args.options.now) (Declines c.args.symbol.now wish c.args.options.now) (Wants c.args.symbol.now wish c.args.options.now)
+    goes_on (g.B.Bucket.number c.args.bucket.now) (g.B.Bucket.sole c.args.bucket.now) c.args.symbol.now (IsAnswered (g.B.Bucket.number c.args.bucket.now) c.args.symbol.now wish c.args.options.now) (Declines c.args.symbol.now wish c.args.options.now) (Wants c.args.symbol.now wish c.args.options.now) (Loses c.args.symbol.now wish)
     _ _ _ _ _ _ _ c.try_all.ensures.did
 
 pub returns-clause-legal : goal.returns-clause-legal

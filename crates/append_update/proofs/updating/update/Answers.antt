@@ -2,7 +2,7 @@ use Rattle.std.proofs.Common.{[], refl, sym}
 use Rattle.reply_model.specs.CommitAnswers.{update_answer}
 use Rattle.frame_write.proofs.ReplyLemmas.{goes_on}
 use Rattle.append_update.specs.declared.wish.Wish.TheVariants as wishes
-use Rattle.append_update.specs.Asking.{IsAnswered, Declines, Wants}
+use Rattle.append_update.specs.Asking.{IsAnswered, Declines, Wants, Loses}
 use Rattle.append_update.proofs.AloneLemmas.{tries_lay}
 use Rattle.append_update.proofs.ReplyLemmas.{same_range, update_is_legal, unranged_is_legal}
 use Rattle.append_update.proofs.SharedCalls.{update_shares}
@@ -14,7 +14,7 @@ try_all-requires-clause-wish g c = (c.requires.storable, c.in-Ok.ensures.order, 
 pub returns-in-Ok-clause-grown : goal.returns-in-Ok-clause-grown
 returns-in-Ok-clause-grown g c =
     let wish = wishes.Replace c.args.frame c.in-Ok.range c.args.upsert in
-    goes_on (g.B.Bucket.number c.args.bucket.now) (g.B.Bucket.sole c.args.bucket.now) c.args.symbol.now (IsAnswered (g.B.Bucket.number c.args.bucket.now) c.args.symbol.now wish c.args.options.now) (Declines c.args.symbol.now wish c.args.options.now) (Wants c.args.symbol.now wish c.args.options.now)
+    goes_on (g.B.Bucket.number c.args.bucket.now) (g.B.Bucket.sole c.args.bucket.now) c.args.symbol.now (IsAnswered (g.B.Bucket.number c.args.bucket.now) c.args.symbol.now wish c.args.options.now) (Declines c.args.symbol.now wish c.args.options.now) (Wants c.args.symbol.now wish c.args.options.now) (Loses c.args.symbol.now wish)
     _ _ _ _ _ _ _ c.try_all.ensures.did
 
 pub returns-in-Ok-clause-legal : goal.returns-in-Ok-clause-legal

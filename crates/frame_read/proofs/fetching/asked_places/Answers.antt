@@ -3,7 +3,7 @@ use Rattle.std.specs.Prelude.{slice_get}
 use Rattle.std.proofs.lemmas.Option.{slice_get-get_or}
 use Rattle.frame_core.specs.Schemas.{Head}
 use Rattle.index_tree.proofs.Covers.{places_taken, places_left}
-use Rattle.frame_read.specs.TileSets.{is_asked}
+use Rattle.reply_model.specs.ReadAnswers.{is_asked}
 use Rattle.frame_read.proofs.fetching.asked_places.Goals as goal
 use Rattle.frame_read.proofs.fetching.asked_places.Goals.{then-is_among+in_ok-push, else-is_among}
 

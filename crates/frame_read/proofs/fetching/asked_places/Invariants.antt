@@ -1,7 +1,7 @@
 use Rattle.std.proofs.Common.{◌≡◌, take, option_copied}
 use Rattle.frame_core.specs.Schemas.{Head}
 use Rattle.index_tree.specs.Covering.{places_where}
-use Rattle.frame_read.specs.TileSets.{is_asked}
+use Rattle.reply_model.specs.ReadAnswers.{is_asked}
 use Rattle.frame_read.proofs.fetching.asked_places.Given as goal
 
 -- the columns so far were tested

@@ -4,7 +4,8 @@ use Rattle.std.specs.List.{AllZip, AllByRecursion}
 use Rattle.index_tree.specs.declared.index.Slot.{Slot}
 use Rattle.index_tree.specs.Covering.{covers}
 use Rattle.store_model.specs.Law.{IsClaimed}
-use Rattle.frame_read.specs.TileSets.{IsGot, places_asked}
+use Rattle.reply_model.specs.ReadAnswers.{places_asked}
+use Rattle.frame_read.specs.TileSets.{IsGot}
 use Rattle.frame_read.proofs.LoopLemmas.{looks_more, index_later}
 use Rattle.frame_read.proofs.PlaceLemmas.{filter_of}
 use Rattle.frame_read.proofs.fetching.fetch.Goals as goal

@@ -1,6 +1,7 @@
 use Rattle.std.proofs.Common.{◌<◌, length}
 use Rattle.bucket_core.specs.Calls.{IsSteady}
-use Rattle.frame_write.specs.Tries.{DidRefused, IsMet}
+use Rattle.frame_write.specs.Tries.{DidRefused, IsMet, MetTries}
+use Rattle.frame_write.specs.Writes.{Always, Whole}
 use Rattle.frame_write.proofs.write.try_all.Given as goal
 
 -- so many tries were met, the last by the commit of this place
@@ -8,5 +9,6 @@ abbrev pub invariant-loop : goal.invariant-loop
 invariant-loop g l = record {
   steady : IsSteady g.B.Bucket.number g.B.Bucket.limit g.B.Bucket.faults g.B.Bucket.sole l.initial.bucket l.bucket;
   so_far : DidRefused (g.B.Bucket.number l.initial.bucket) (g.B.Bucket.sole l.initial.bucket) l.symbol (g.B.Bucket.seen l.initial.bucket) (g.B.Bucket.seen l.bucket) l.counter;
+  each : MetTries (g.B.Bucket.number l.initial.bucket) l.symbol Always Whole l.counter (g.B.Bucket.seen l.initial.bucket) (g.B.Bucket.seen l.bucket) l.met;
   met : 0 < l.counter → IsMet (g.B.Bucket.number l.initial.bucket) l.symbol (length (g.B.Bucket.seen l.initial.bucket)) (g.B.Bucket.seen l.bucket) l.met;
 }

@@ -16,7 +16,7 @@ use Rattle.reply_model.specs.Standing.{GrowsAlone}
 use Rattle.frame_write.specs.declared.options.Options.{Options}
 use Rattle.frame_write.specs.declared.options.Committed.{Committed}
 use Rattle.frame_write.specs.Tries.{DidTries}
-use Rattle.frame_write.specs.Writes.{IsWritten, Never, Always, StandsAlone, IsGridLinked}
+use Rattle.frame_write.specs.Writes.{IsWritten, Never, Always, Whole, StandsAlone, IsGridLinked}
 use Rattle.version_chain.proofs.TraceLemmas.{went_looks}
 use Rattle.frame_write.proofs.CommitLemmas.{plan_stops}
 use Rattle.frame_write.proofs.ReplyLemmas.{goes_on, stands_alone}
@@ -26,7 +26,7 @@ use Rattle.frame_write.proofs.write.write_link.Goals as goal
 
 -- no try was made
 none_tried : (client : ℕ) (sole : Bool) (symbol : Name) (frame : Frame) (options : Options) (most limit before now : ℕ) (old : History) (place : ℕ) → 1 ≤ most → place ≡ length old
-    → DidTries client sole symbol (IsWritten symbol frame options) Never Always most limit before now old old (Err (record { place = place; why = refusals.NoMemory }))
+    → DidTries client sole symbol (IsWritten symbol frame options) Never Always Whole most limit before now old old (Err (record { place = place; why = refusals.NoMemory }))
 none_tried client sole symbol frame options most limit before now old place some is = inr (record {
   count = 0;
   few = some;
@@ -37,14 +37,14 @@ none_tried client sole symbol frame options most limit before now old place some
 
 -- where nobody else makes events, a commit stands behind its puts
 placed_alone : (client : ℕ) (sole : Bool) (symbol : Name) (frame : Frame) (options : Options) (most limit before now : ℕ) (old new : History) (r : Result Committed Refused) → GrowsAlone client old new
-    → DidTries client sole symbol (IsWritten symbol frame options) Never Always most limit before now old new r → IfOk r (StandsAlone (length (parts (grid_of frame options.cutting))) old)
+    → DidTries client sole symbol (IsWritten symbol frame options) Never Always Whole most limit before now old new r → IfOk r (StandsAlone (length (parts (grid_of frame options.cutting))) old)
 placed_alone client sole symbol frame options most limit before now old new (Err refused) grows d = tt
 placed_alone client sole symbol frame options most limit before now old new (Ok done) grows d =
-    stands_alone client sole symbol (IsWritten symbol frame options) most limit before now Never Always old new done (length (parts (grid_of frame options.cutting))) (λ m w. w.puts) grows d
+    stands_alone client sole symbol (IsWritten symbol frame options) most limit before now Never Always Whole old new done (length (parts (grid_of frame options.cutting))) (λ m w. w.puts) grows d
 
 -- the newest link of a commit has the tiles of the frame's grid
 linked_grid : (client : ℕ) (sole : Bool) (symbol : Name) (frame : Frame) (options : Options) (most limit before now : ℕ) (old new : History) (r : Result Committed Refused) → IsCutting options.cutting → ∥ IsLawful new ∥₁
-    → DidTries client sole symbol (IsWritten symbol frame options) Never Always most limit before now old new r → IfOk r (λ done. IsGridLinked new symbol frame options.cutting)
+    → DidTries client sole symbol (IsWritten symbol frame options) Never Always Whole most limit before now old new r → IfOk r (λ done. IsGridLinked new symbol frame options.cutting)
 linked_grid client sole symbol frame options most limit before now old new (Err refused) cutting lawful d = tt
 linked_grid client sole symbol frame options most limit before now old new (Ok done) cutting lawful d = record {
   cutting_is = cutting;
@@ -61,7 +61,7 @@ returns-in_default-clause-legal g c = write_is_legal _ (g.B.Bucket.sole c.args.b
     (none_tried (g.B.Bucket.number c.args.bucket.now) (g.B.Bucket.sole c.args.bucket.now) c.args.symbol.now c.args.frame.now c.args.options.now c.args.options.now.tries (g.B.Bucket.limit c.args.bucket.now) (g.B.Bucket.faults c.args.bucket.now) (g.B.Bucket.faults c.args.bucket.now) (g.B.Bucket.seen c.args.bucket.now) c.place.result c.requires.some_tries c.place.ensures)
 
 pub returns-clause-grown : goal.returns-clause-grown
-returns-clause-grown g c = goes_on _ _ _ (IsWritten c.args.symbol.now c.args.frame.now c.args.options.now) Never Always _ _ _ _ _ _ _ c.try_all.ensures.did
+returns-clause-grown g c = goes_on _ _ _ (IsWritten c.args.symbol.now c.args.frame.now c.args.options.now) Never Always Whole _ _ _ _ _ _ _ c.try_all.ensures.did
 
 pub returns-clause-legal : goal.returns-clause-legal
 returns-clause-legal g c = write_is_legal _ _ c.args.symbol.now c.args.frame.now c.args.options.now _ _ _ _ _ _ c.try_all.ensures.did

@@ -6,7 +6,7 @@ use Rattle.version_chain.proofs.Walked.{looks_then, looks_length}
 use Rattle.prune_rule.specs.DeadKeys.{AreParted, NotesStaged}
 use Rattle.prune_rule.specs.Finding.{DidLook}
 use Rattle.prune_rule.proofs.SetLemmas.{empty_lacks}
-use Rattle.prune_rule.proofs.FindingLemmas.{kept_rows_put, dead_rows_put, referred_since, found_all, met_now}
+use Rattle.prune_rule.proofs.FindingLemmas.{kept_rows_put, dead_rows_put, referred_since, index_lost, found_all, look_met}
 use Rattle.prune_rule.proofs.FindingEnds.{unknown_of, walk_finds}
 use Rattle.prune_rule.proofs.finding.look_once.Goals as goal
 
@@ -49,9 +49,12 @@ returns-then-kept-clause-did g c =
     c.new-none.result (empty_lacks c.new-none.result c.new-none.ensures.empty) c.in_ok-kept.kept c.in_ok-kept.ensures.reached c.if-kept.true in
     let reach = c.reach.ensures.looks in
     let last = c.referred_place.ensures.looks in
-    met_now (g.B.Bucket.number c.args.bucket.now) c.args.symbol.now h0 h1 h2 (g.B.Bucket.seen c.referred_place.new.bucket) state c.in_ok-referred_place.field-0 at c.in_ok-was.ensures.place.from
+    let index = index_lost h0 h1 h2 h2 h2 c.args.symbol.now state c.reach.ensures.looks.others [] [] c.in_ok-was.ensures.place.from at c.reach.ensures.looks.is refl refl
+    (g.met.B.Bucket.lawful c.walk.new.bucket) (g.met.B.Bucket.lawful c.reach.new.bucket) (g.met.B.Bucket.lawful c.reach.new.bucket) (g.met.B.Bucket.lawful c.reach.new.bucket) c.in-Ok.rows parted
+    c.new-none.result (empty_lacks c.new-none.result c.new-none.ensures.empty) c.in_ok-kept.kept c.in_ok-kept.ensures.reached c.if-kept.true in
+    look_met (g.B.Bucket.number c.args.bucket.now) c.args.symbol.now h0 h1 h2 (g.B.Bucket.seen c.referred_place.new.bucket) state c.in_ok-referred_place.field-0 at c.in_ok-was.ensures.place.from
     c.walk.ensures.looks.others reach.others last.others c.walk.ensures.looks.is c.walk.ensures.looks.by_others reach.is (subst (λ n. AllByOthers n reach.others) c.walk.ensures.steady.same_number reach.by_others)
-    last.is (subst (λ n. AllByOthers n last.others) (c.reach.ensures.steady.same_number ∙ c.walk.ensures.steady.same_number) last.by_others) since c.in_ok-referred_place.ensures.place
+    last.is (subst (λ n. AllByOthers n last.others) (c.reach.ensures.steady.same_number ∙ c.walk.ensures.steady.same_number) last.by_others) since c.in_ok-referred_place.ensures.place index
 
 pub reach-requires-2 : goal.reach-requires-2
 reach-requires-2 g c =
