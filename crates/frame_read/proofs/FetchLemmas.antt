@@ -10,6 +10,7 @@ use denote.Struct.Props.{props}
 use Rattle.byte_fields.specs.Reading.{read_of}
 use Rattle.frame_core.specs.declared.refusal.Refusal.{Refusal}
 use Rattle.frame_core.specs.declared.refusal.Refusal.TheVariants as refusals
+use Rattle.frame_core.specs.declared.refusal.Refused.{Refused}
 use Rattle.index_tree.specs.declared.index.Index.{Index}
 use Rattle.index_tree.specs.IndexText.{index_of}
 use Rattle.key_kind.specs.declared.key.Key.{Key}
@@ -31,7 +32,7 @@ use Rattle.store_model.proofs.PlainLinks.{index_in_reach, linked_flat}
 use Rattle.version_chain.specs.States.{IsWithin}
 use Rattle.reply_model.proofs.Places.{history_at_end}
 use Rattle.frame_read.specs.declared.target.Target.{Target}
-use Rattle.frame_read.specs.Fetches.{Reaches, IsGone, LacksAt, IsReached, IsTargetIndex}
+use Rattle.frame_read.specs.Fetches.{Reaches, IsGone, LacksAt, LacksKey, IsReached, IsIndexKey, IsTargetIndex}
 use Rattle.frame_read.proofs.ChoosingLemmas.{IsLike, row_in, alike_told, truth_prop}
 
 -- ---- later histories
@@ -112,6 +113,18 @@ gone_told h symbol version key lawful r none =
       | false ↦ λ e. refl
     ] refl
 
+-- the key of a link that was got, and is not there, is the one that is gone
+pub lacks_here : (h : History) (place : ℕ) (symbol : Name) (version : ℕ) (key : Key) → place ≡ length h → (r : Reaches h symbol version key) → stored h key ≡ None → LacksAt h symbol version (IsReached r.link key) place (refusals.VersionGone version)
+lacks_here h place symbol version key e r none =
+    let here : history_at h place ≡ h = ap (history_at h) e ∙ history_at_end h in
+    (r.link, subst (λ g. Contains (links g symbol) r.link) (sym here) r.link_is, r.number, key, (refl, refl), ap (λ g. stored g key) here ∙ none)
+
+-- a key of one sort is one of another
+pub lacks_weaker : (h : History) (symbol : Name) (version : ℕ) (One Other : Linked → Key → Type 0) (place : ℕ) → ((link : Linked) (key : Key) → One link key → Other link key)
+    → (why : Refusal) → LacksAt h symbol version One place why → LacksAt h symbol version Other place why
+lacks_weaker h symbol version One Other place weaker (refusals.VersionGone number) l = (l.0, l.1, l.2, l.3, weaker l.0 l.3 l.4, l.5)
+lacks_weaker h symbol version One Other place weaker why l = tt
+
 -- ---- indexes
 
 -- the link with the target's index key
@@ -125,6 +138,19 @@ target_reaches h target there =
       number = sym (eqb-true target.version found.0.row.version parts.0);
       reached_by = subst (λ key. Contains (reached found.0) key) (sym (same_key_is target.index found.0.row.index parts.1)) (index_in_reach found.0);
     }
+
+-- which has that key
+pub target_named : (h : History) (target : Target) (there : has_index (links h target.symbol) target.version target.index ≡ true) → target.index ≡ (target_reaches h target there).link.row.index
+target_named h target there =
+    let found = one_passes (λ (l : Linked). nat_eq target.version l.row.version && same_key target.index l.row.index) (links h target.symbol) there in
+    let parts = and_parts (nat_eq target.version found.0.row.version) (same_key target.index found.0.row.index) found.2 in
+    same_key_is target.index found.0.row.index parts.1
+
+-- so where it is not got, the key of an index is gone
+pub lacks_index : (h new : History) (target : Target) (there : has_index (links h target.symbol) target.version target.index ≡ true) (refused : Refused)
+    → LacksKey new target (IsReached (target_reaches h target there).link target.index) refused → LacksKey new target IsIndexKey refused
+lacks_index h new target there refused =
+    lacks_weaker new target.symbol target.version _ IsIndexKey refused.place (λ link key s. s.1 ∙ (target_named h target there ∙ ap (λ (l : Linked). l.row.index) (sym s.0))) refused.why
 
 index_prop : (a b : Index) → IsProp (a ≡ b)
 index_prop a b = hlevel props
@@ -175,18 +201,6 @@ target_spelled old more new target body lawful is there put =
 
 pub gone_here : (h : History) (place : ℕ) (symbol : Name) (version : ℕ) (key : Key) → place ≡ length h → ∥ IsLawful h ∥₁ → Reaches h symbol version key → stored h key ≡ None → IsGone (history_at h place) symbol version
 gone_here h place symbol version key e lawful r none = subst (λ g. IsGone g symbol version) (sym (ap (history_at h) e ∙ history_at_end h)) (gone_told h symbol version key lawful r none)
-
--- the key of a link that was got, and is not there, is the one that is gone
-pub lacks_here : (h : History) (place : ℕ) (symbol : Name) (version : ℕ) (key : Key) → place ≡ length h → (r : Reaches h symbol version key) → stored h key ≡ None → LacksAt h symbol version (IsReached r.link key) place (refusals.VersionGone version)
-lacks_here h place symbol version key e r none =
-    let here : history_at h place ≡ h = ap (history_at h) e ∙ history_at_end h in
-    (r.link, subst (λ g. Contains (links g symbol) r.link) (sym here) r.link_is, r.number, key, (refl, refl), ap (λ g. stored g key) here ∙ none)
-
--- a key of one sort is one of another
-pub lacks_weaker : (h : History) (symbol : Name) (version : ℕ) (One Other : Linked → Key → Type 0) (place : ℕ) → ((link : Linked) (key : Key) → One link key → Other link key)
-    → (why : Refusal) → LacksAt h symbol version One place why → LacksAt h symbol version Other place why
-lacks_weaker h symbol version One Other place weaker (refusals.VersionGone number) l = (l.0, l.1, l.2, l.3, weaker l.0 l.3 l.4, l.5)
-lacks_weaker h symbol version One Other place weaker why l = tt
 
 pub within_end : (others old new : History) (place : ℕ) → new ≡ others ++ old → place ≡ length new → IsWithin old new place
 within_end others old new place is e =

@@ -85,7 +85,7 @@ index_later more h new target index is i = record {
   is = i.is;
 }
 
-key_in : (slots : List Slot) (slot : Slot) → Contains slots slot → Contains (map (λ (s : Slot). s.key) slots) slot.key
+pub key_in : (slots : List Slot) (slot : Slot) → Contains slots slot → Contains (map (λ (s : Slot). s.key) slots) slot.key
 key_in [] slot there = absurd (contains_none slot there)
 key_in (s ∷ slots) slot there = elim (contains_cases slot s slots there) [
   | inl is ↦ subst (λ (x : Slot). Contains (s.key ∷ map (λ (s : Slot). s.key) slots) x.key) is (contains_first s.key (map (λ (s : Slot). s.key) slots))

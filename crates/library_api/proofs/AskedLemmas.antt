@@ -14,7 +14,7 @@ use Rattle.frame_core.specs.Texts.{Text}
 use Rattle.frame_core.specs.Ranges.{Range}
 use Rattle.frame_core.specs.Schemas.{Head, Schema, IsColName}
 use Rattle.frame_core.specs.Frames.{Row, Frame, IsFrame, IsCell, FitsColumns, NeverFall, stamps_of, rows_within, type_of}
-use Rattle.frame_core.specs.Selecting.{places_of, pick_columns}
+use Rattle.frame_core.specs.Selecting.{then_map, places_of, pick_columns}
 use Rattle.bucket_core.specs.History.{History}
 use Rattle.store_model.specs.Library.{Version, state_of}
 use Rattle.store_model.specs.Links.{links}
@@ -55,6 +55,24 @@ refused_by_schema f range (Some names) why e = by (places_of 1 [] names f.schema
     by : (r : Result (List ℕ) ℕ) → places_of 1 [] names f.schema.columns ≡ r → ask f range (Some names) ≡ Err why
     by (Ok ks) is = absurd (not_err (pick_columns (no_rows f.schema) ks) why (sym (chosen (no_rows f.schema) ks is) ∙ e))
     by (Err n) is = refused (record f { rows = rows_within range f.rows }) n is ∙ (sym (refused (no_rows f.schema) n is) ∙ e)
+
+-- and so they are given
+pub answered_by_schema : (f : Frame) (range : Range) (columns : Option (List Text)) (asked : Schema) → IsAskedSchema f.schema columns asked → (g : Frame) × (ask f range columns ≡ Ok g)
+answered_by_schema f range None asked e = (record f { rows = rows_within range f.rows }, refl)
+answered_by_schema f range (Some names) asked e = by (places_of 1 [] names f.schema.columns) refl
+  where
+    clash : (n : ℕ) → ◌≡◌ {A = Result Schema Refusal} (Err (refusals.NoSuchColumn 0 n)) (Ok asked) → ⊥
+    clash n e = cc
+
+    chosen : (g : Frame) (ks : List ℕ) → places_of 1 [] names g.schema.columns ≡ Ok ks → select_columns (Some names) g ≡ Ok (pick_columns g ks)
+    chosen g ks e = rw (select_columns, e) refl
+
+    refused : (g : Frame) (n : ℕ) → places_of 1 [] names g.schema.columns ≡ Err n → select_columns (Some names) g ≡ Err (refusals.NoSuchColumn 0 n)
+    refused g n e = rw (select_columns, e) refl
+
+    by : (r : Result (List ℕ) ℕ) → places_of 1 [] names f.schema.columns ≡ r → (g : Frame) × (ask f range (Some names) ≡ Ok g)
+    by (Ok ks) is = (pick_columns (record f { rows = rows_within range f.rows }) ks, chosen (record f { rows = rows_within range f.rows }) ks is)
+    by (Err n) is = absurd (clash n (sym (ap (then_map (λ (g : Frame). g.schema)) (refused (no_rows f.schema) n is)) ∙ e))
 
 schema_prop : (a b : Schema) → IsProp (a ≡ b)
 schema_prop a b = hlevel props

@@ -33,11 +33,13 @@ use Rattle.reply_model.specs.ReadAnswers.{read_version, select_columns, ask}
 use Rattle.reply_model.specs.Windows.{Client, library_at}
 use Rattle.reply_model.specs.Legal.{IsLegalOutcome}
 use Rattle.reply_model.proofs.Later.{history_at_later}
+use Rattle.key_kind.specs.declared.key.Key.{Key}
+use Rattle.reply_model.specs.Causes.{IsReadKey}
 use Rattle.frame_read.specs.declared.target.Target.{Target}
 use Rattle.frame_read.specs.declared.tiles.Tiles.{Tiles}
 use Rattle.frame_read.specs.Targets.{IsOfNumber, IsTarget, IsResolveRefusal, RefusesResolve}
-use Rattle.frame_read.specs.Fetches.{IsGone, IsGetRefusal}
-use Rattle.frame_read.specs.TileSets.{no_rows, IsFetched, LacksColumn, RefusesFetch}
+use Rattle.frame_read.specs.Fetches.{IsGone, IsGetRefusal, LacksAt, LacksKey}
+use Rattle.frame_read.specs.TileSets.{no_rows, IsAskedSchema, IsFetchKey, IsFetched, LacksColumn, RefusesFetch}
 use Rattle.frame_read.specs.Wholes.{AreTilesOf, FetchedIsFrame}
 use Rattle.frame_read.specs.Gathers.{AreOfFrame}
 use Rattle.frame_read.proofs.FetchLemmas.{links_later}
@@ -45,7 +47,7 @@ use Rattle.frame_read.proofs.ResolvingLemmas.{lawful_at}
 use Rattle.library_api.specs.Steps.{plain_reply, refusal_reply, IsLegalForAll}
 use Rattle.library_api.proofs.NoEvents.{served_has_none, legal_without_events}
 use Rattle.library_api.proofs.VersionLemmas.{version_later, read_is_version}
-use Rattle.library_api.proofs.AskedLemmas.{refused_by_schema, index_schema, fetched_version}
+use Rattle.library_api.proofs.AskedLemmas.{refused_by_schema, answered_by_schema, index_schema, fetched_version}
 use Rattle.library_api.proofs.GoneLemmas.{unnamed_up_to}
 
 -- what holds of the error that comes back holds of the result
@@ -191,9 +193,21 @@ module _ (symbol : Name) (as_of : AsOf) (range : Range) (columns : Option (List 
         (read_legal number sole before now old new looks target.place (outcomes.Refused (refusals.NoSuchColumn 0 which.0)) (target_within old mid more new target is_target is)
         (λ client faulted own rose. inl (ap from_version found.read ∙ (ap (from_frame found.version.number) (asked ∙ ap Err (sym which.1))), refl))))
 
-    gone_legal : (place n : ℕ) → IsWithin mid new place → n ≡ target.version → IsGone (history_at new place) target.symbol target.version
+    -- a key that the fetch gets is one that the read gets
+    read_key_of : (place : ℕ) (link : Linked) (key : Key) → Contains (links (history_at new place) target.symbol) link → link.row.version ≡ target.version → IsFetchKey range columns link key → IsReadKey found.version.frame range columns link key
+    read_key_of place link key there number sought = elim sought [
+      | inl is ↦ inl is
+      | inr x ↦
+          let later : Contains (links new target.symbol) link =
+          subst (λ h. Contains (links h target.symbol) link) (take-append-drop (length new - place) new) (links_later (take (length new - place) new) (history_at new place) target.symbol link there) in
+          let schema = index_schema new lawful (record target { index = link.row.index }) link.index (record { link = link; link_is = later; number = number; key = refl; is = refl }) found.version found.there found.number in
+          let given = answered_by_schema found.version.frame range columns x.0 (subst (λ s. IsAskedSchema s columns x.0) schema x.1) in
+          inr (given.0, given.1, x.2)
+    ]
+
+    gone_legal : (place n : ℕ) → IsWithin mid new place → n ≡ target.version → IsGone (history_at new place) target.symbol target.version → LacksAt new target.symbol target.version (IsFetchKey range columns) place (refusals.VersionGone n)
         → IsLegalForAll number before now old new asks (plain_reply place (outcomes.Refused (refusals.VersionGone n)))
-    gone_legal place n within same gone =
+    gone_legal place n within same gone lacks =
         read_legal number sole before now old new looks place (outcomes.Refused (refusals.VersionGone n)) (record { from = omega (arith, longer, within.from); to = within.to })
         (λ client faulted own rose. record {
           read_at = target.place;
@@ -204,12 +218,12 @@ module _ (symbol : Name) (as_of : AsOf) (range : Range) (columns : Option (List 
           number_is = found.number ∙ sym same;
           buried = is_n (λ m. is_buried (state_of (history_at new place) symbol) m ≡ true) (is_symbol (λ s. is_buried (state_of (history_at new place) s) target.version ≡ true) gone.buried);
           released = is_n (λ m. is_held (state_of (history_at new place) symbol) m ≡ false) released;
-          link = gone.reaches.link;
-          link_is = is_symbol (λ s. Contains (links (history_at new place) s) gone.reaches.link) gone.reaches.link_is;
-          link_number = gone.reaches.number ∙ sym same;
-          key = gone.key;
-          reached_by = gone.reaches.reached_by;
-          gone = gone.gone;
+          link = lacks.0;
+          link_is = is_symbol (λ s. Contains (links (history_at new place) s) lacks.0) lacks.1;
+          link_number = lacks.2 ∙ sym same;
+          key = lacks.3;
+          read_key = read_key_of place lacks.0 lacks.3 lacks.1 lacks.2 lacks.4;
+          gone = lacks.5;
           unnamed = unnamed_up_to new (history_at new place) symbol as_of found.version (length old) target.place place (lawful_at new place lawful) refl size is_target.place.from (omega (arith, is_target.place.to, within.from))
               (subst (λ h. read_version (library_of h) symbol as_of ≡ Ok found.version) (sym earlier) found.read)
               (subst (λ m. is_held (state_of (history_at new place) symbol) m ≡ false) (sym found.number) released);
@@ -231,15 +245,15 @@ module _ (symbol : Name) (as_of : AsOf) (range : Range) (columns : Option (List 
         earlier = sym (ap (λ h. history_at h target.place) (sym (take-append-drop (length new - place) new))
             ∙ history_at_later (history_at new place) (take (length new - place) new) target.place (omega (arith, size, is_target.place.to, within.from)))
 
-    get_legal_by : (place : ℕ) (why : Refusal) → IsWithin mid new place → IsGetRefusal between now (history_at new place) target.symbol target.version why → IsLegalForAll number before now old new asks (plain_reply place (outcomes.Refused why))
-    get_legal_by place refusals.NoMemory within e = no_memory_legal number sole before now old new looks place (record { from = omega (arith, longer, within.from); to = within.to })
-    get_legal_by place refusals.StoreFault within e = fault_legal number sole before now old new looks place (record { from = omega (arith, longer, within.from); to = within.to }) (omega (arith, less, e))
-    get_legal_by place (refusals.VersionGone version) within e = gone_legal place version within e.0 e.1
-    get_legal_by place why within e = absurd e
+    get_legal_by : (place : ℕ) (why : Refusal) → IsWithin mid new place → IsGetRefusal between now (history_at new place) target.symbol target.version why → LacksAt new target.symbol target.version (IsFetchKey range columns) place why → IsLegalForAll number before now old new asks (plain_reply place (outcomes.Refused why))
+    get_legal_by place refusals.NoMemory within e lacks = no_memory_legal number sole before now old new looks place (record { from = omega (arith, longer, within.from); to = within.to })
+    get_legal_by place refusals.StoreFault within e lacks = fault_legal number sole before now old new looks place (record { from = omega (arith, longer, within.from); to = within.to }) (omega (arith, less, e))
+    get_legal_by place (refusals.VersionGone version) within e lacks = gone_legal place version within e.0 e.1 lacks
+    get_legal_by place why within e lacks = absurd e
 
-    pub fetch_refused_legal : (refused : Refused) → RefusesFetch between now mid new target columns refused → IsLegalForAll number before now old new asks (refusal_reply refused)
-    fetch_refused_legal refused r = elim r [
-      | inl get ↦ get_legal_by refused.place refused.why get.place get.why
+    pub fetch_refused_legal : (refused : Refused) → RefusesFetch between now mid new target columns refused → LacksKey new target (IsFetchKey range columns) refused → IsLegalForAll number before now old new asks (refusal_reply refused)
+    fetch_refused_legal refused r lacks = elim r [
+      | inl get ↦ get_legal_by refused.place refused.why get.place get.why lacks
       | inr lacks ↦ lacks_legal refused lacks
     ]
 

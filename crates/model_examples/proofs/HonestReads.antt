@@ -72,7 +72,7 @@ gone_version_is_legal = record {
     link_is = subst (λ (ls : List Linked). Contains ls old_link) (sym links_dropped) (1, lit< tt, refl);
     link_number = refl;
     key = w.table_key kinds.TableData 0;
-    reached_by = (1, lit< tt, refl);
+    read_key = inr (w.table, refl, (0, lit< tt, refl));
     gone = refl;
     unnamed = tt;
   };

@@ -3,7 +3,7 @@ use Rattle.std.specs.Prelude.{option_map}
 use Rattle.std.specs.Arc.{arc_value}
 use Rattle.bucket_core.specs.History.{body_put}
 use Rattle.frame_read.specs.Fetches.{Reaches}
-use Rattle.frame_read.proofs.FetchLemmas.{reaches_later, reached_was_put, gone_here, within_end}
+use Rattle.frame_read.proofs.FetchLemmas.{reaches_later, reached_was_put, gone_here, lacks_here, within_end}
 use Rattle.frame_read.proofs.objects.get_reached.Goals as goal
 
 pub returns-in-Some-clause-body : goal.returns-in-Some-clause-body
@@ -29,3 +29,10 @@ returns-in-None-clause-refused g c =
       );
       place = within_end c.get.ensures.looks.others (g.B.Bucket.seen c.args.bucket.now) new c.in-Ok.found.place c.get.ensures.looks.is c.in-Ok.ensures.found.place;
     }
+
+pub returns-in-None-clause-lacks : goal.returns-in-None-clause-lacks
+returns-in-None-clause-lacks g c = λ r.
+    let new = g.B.Bucket.seen c.get.new.self in
+    lacks_here new c.in-Ok.found.place c.args.target.now.symbol c.args.target.now.version c.args.key.now c.in-Ok.ensures.found.place
+    (reaches_later c.get.ensures.looks.others (g.B.Bucket.seen c.args.bucket.now) new c.args.target.now.symbol c.args.target.now.version c.args.key.now c.get.ensures.looks.is r)
+    (sym c.in-Ok.ensures.found.body ∙ ap (option_map arc_value) c.in-None.is)

@@ -21,7 +21,7 @@ returns-in_err-tiles-clause-refused g c = λ client sole before old symbol as_of
     err_holds (λ refused. IsLegalForAll client before now old new (commands.Read symbol as_of c.args.range columns) (refusal_reply refused))
     c.from_residual.result c.in_err-tiles.field-0.0 c.from_residual.ensures.0 c.from_residual.ensures.1
     (fetch_refused_legal symbol as_of c.args.range columns client sole before (g.B.Bucket.faults c.args.bucket.now) now old mid c.fetch.ensures.looks.others new looks found.faults_rise c.args.target.now found.target_is c.fetch.ensures.looks.is (g.met.B.Bucket.lawful c.fetch.new.bucket)
-    c.in_err-tiles.field-0.0 c.in_err-tiles.ensures.refused)
+    c.in_err-tiles.field-0.0 c.in_err-tiles.ensures.refused c.in_err-tiles.ensures.lacks)
 
 pub to_frame-requires : goal.to_frame-requires
 to_frame-requires g c =
