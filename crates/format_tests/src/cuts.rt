@@ -52,12 +52,6 @@ fn has_nine_tiles(alloc: Global) -> Result<bool, Fail> {
     Ok(are_nine(tiles.items()))
 }
 
-#[test]
-fn five_rows_of_three_columns_two_by_one_are_nine_tiles(rt: HostRuntime) -> Result<(), Fail> {
-    assert!(rt; has_nine_tiles(rt.alloc())?);
-    Ok(())
-}
-
 fn is_sample(frame: &Frame) -> bool {
     frame.schema().timed()
         && frame.schema().len() == 3
@@ -74,12 +68,6 @@ fn joins_again(alloc: Global) -> Result<bool, Fail> {
     Ok(is_sample(&again))
 }
 
-#[test]
-fn tiles_in_the_other_order_join_to_the_frame(rt: HostRuntime) -> Result<(), Fail> {
-    assert!(rt; joins_again(rt.alloc())?);
-    Ok(())
-}
-
 // How many blocks and slices so many rows and columns have, two rows by one column, and the numbers of the last part.
 type Blocks = (u64, u64, Option<(u64, u64, u64, u64)>);
 
@@ -94,34 +82,73 @@ fn blocks_of(rows: u64, cols: u64) -> Blocks {
     }
 }
 
-// Rows and columns, and their blocks: no rows have no tile, and no columns have one slice of none.
-const BLOCKS: &[(u64, u64, Blocks)] = &[(0, 3, (0, 3, None)), (3, 0, (2, 1, Some((2, 1, 0, 0))))];
+fn is_cutting(rows: u32, cols: u32) -> bool {
+    Cutting::make(rows, cols).is_some()
+}
 
-#[test]
-fn no_rows_have_no_tile_and_no_columns_one_slice_of_none(rt: HostRuntime) {
-    for (rows, cols, blocks) in BLOCKS {
-        assert!(rt; blocks_of(*rows, *cols) == *blocks, "{rows} rows");
+fn is_the_largest(cutting: Cutting) -> bool {
+    cutting.rows() == 100_000 && cutting.cols() == 127
+}
+
+enum Case {
+    NineTiles,
+    JoinedAgain,
+    // Rows and columns, and their blocks.
+    Blocks(u64, u64, Blocks),
+    // Rows and columns of a tile, and whether they lie within the limits.
+    Cutting(u32, u32, bool),
+    Largest,
+}
+
+fn holds(alloc: Global, case: &Case) -> Result<bool, Fail> {
+    match case {
+        Case::NineTiles => has_nine_tiles(alloc),
+        Case::JoinedAgain => joins_again(alloc),
+        Case::Blocks(rows, cols, blocks) => Ok(blocks_of(*rows, *cols) == *blocks),
+        Case::Cutting(rows, cols, good) => Ok(is_cutting(*rows, *cols) == *good),
+        Case::Largest => Ok(is_the_largest(Cutting::largest())),
     }
 }
 
-// Rows and columns of a tile, and whether they lie within the limits.
-const CUTTINGS: &[(u32, u32, bool)] = &[
-    (0, 1, false),
-    (1, 0, false),
-    (100_001, 1, false),
-    (1, 128, false),
-    (1, 1, true),
-    (100_000, 127, true),
+const CASES: &[(&str, Case)] = &[
+    (
+        "five rows of three columns two by one are nine tiles",
+        Case::NineTiles,
+    ),
+    (
+        "tiles in the other order join to the frame",
+        Case::JoinedAgain,
+    ),
+    ("no rows have no tile", Case::Blocks(0, 3, (0, 3, None))),
+    (
+        "no columns have one slice of none",
+        Case::Blocks(3, 0, (2, 1, Some((2, 1, 0, 0)))),
+    ),
+    ("a tile of no rows is no tile", Case::Cutting(0, 1, false)),
+    (
+        "a tile of no columns is no tile",
+        Case::Cutting(1, 0, false),
+    ),
+    (
+        "100,001 rows are too many for a tile",
+        Case::Cutting(100_001, 1, false),
+    ),
+    (
+        "128 columns are too many for a tile",
+        Case::Cutting(1, 128, false),
+    ),
+    ("a tile may have one cell", Case::Cutting(1, 1, true)),
+    (
+        "a tile may have 100,000 rows of 127 columns",
+        Case::Cutting(100_000, 127, true),
+    ),
+    ("the largest cutting is at both limits", Case::Largest),
 ];
 
 #[test]
-fn a_cutting_lies_within_the_limits(rt: HostRuntime) {
-    for (rows, cols, good) in CUTTINGS {
-        assert!(rt;
-            Cutting::make(*rows, *cols).is_some() == *good,
-            "{rows} by {cols}"
-        );
+fn frames_in_tiles(rt: HostRuntime) -> Result<(), Fail> {
+    for (name, case) in CASES {
+        assert!(rt; holds(rt.alloc(), case)?, "{name}");
     }
-    let largest = Cutting::largest();
-    assert!(rt; largest.rows() == 100_000 && largest.cols() == 127);
+    Ok(())
 }

@@ -44,10 +44,14 @@ fn are_the_fields(bytes: &[u8]) -> Result<bool, usize> {
     Ok(good && end == b"end".as_slice() && rest.is_empty() && matches!(read_u32(end), Err(3)))
 }
 
+// Whether the fields are written so, and read in turn.
+fn are_written_and_read(alloc: Global) -> Result<bool, Fail> {
+    let out = spelled(alloc)?;
+    Ok(out.as_slice() == SPELLED && are_the_fields(SPELLED) == Ok(true))
+}
+
 #[test]
 fn fields_that_are_written_are_read_in_turn(rt: HostRuntime) -> Result<(), Fail> {
-    let out = spelled(rt.alloc())?;
-    assert!(rt; out.as_slice() == SPELLED);
-    assert!(rt; are_the_fields(SPELLED) == Ok(true));
+    assert!(rt; are_written_and_read(rt.alloc())?);
     Ok(())
 }

@@ -1,3 +1,5 @@
+ghost use Rattle.std.specs.Prelude.{◌≡◌, [], ◌∷◌, true, codes, IfOk};
+
 use crate::columns::{
     Cells, Sheet, cell_of, frame_of, has_int, has_stamps, has_text, names_of, raw_of, raw_sheet,
     texts_of,
@@ -23,9 +25,9 @@ fn refusal_of(alloc: Global, raw: &RawFrame) -> Option<Refusal> {
     Frame::make(alloc, raw).err()
 }
 
-fn sheet_refusal(alloc: Global, sheet: &Sheet) -> Result<Option<Refusal>, Fail> {
+fn is_refused(alloc: Global, sheet: &Sheet, why: Refusal) -> Result<bool, Fail> {
     let raw = raw_sheet(alloc, sheet)?;
-    Ok(refusal_of(alloc, &raw))
+    Ok(refusal_of(alloc, &raw) == Some(why))
 }
 
 const REPEATED_NAME: Sheet = Sheet {
@@ -34,25 +36,11 @@ const REPEATED_NAME: Sheet = Sheet {
     columns: COLUMNS,
 };
 
-#[test]
-fn a_repeated_name_is_refused_at_its_column(rt: HostRuntime) -> Result<(), Fail> {
-    let why = sheet_refusal(rt.alloc(), &REPEATED_NAME)?;
-    assert!(rt; why == Some(Refusal::SchemaDiffers { column: 2 }));
-    Ok(())
-}
-
 const FALLING_STAMP: Sheet = Sheet {
     stamps: &[2, 1, 3],
     names: &["a", "s"],
     columns: COLUMNS,
 };
-
-#[test]
-fn a_falling_stamp_is_refused_at_its_row(rt: HostRuntime) -> Result<(), Fail> {
-    let why = sheet_refusal(rt.alloc(), &FALLING_STAMP)?;
-    assert!(rt; why == Some(Refusal::Unsorted { row: 2 }));
-    Ok(())
-}
 
 fn too_large(what: Extent, limit: u64) -> Refusal {
     Refusal::TooLarge { what, limit }
@@ -74,17 +62,10 @@ fn long_column(alloc: Global) -> Result<Items<Column>, Fail> {
     Ok(columns)
 }
 
-// Why a row with a text of 65,536 bytes is no frame.
-fn long_refusal(alloc: Global) -> Result<Option<Refusal>, Fail> {
+// Whether a row with a text of 65,536 bytes is too large.
+fn is_too_long(alloc: Global) -> Result<bool, Fail> {
     let raw = raw_of(alloc, &[1], &["a"], long_column(alloc)?)?;
-    Ok(refusal_of(alloc, &raw))
-}
-
-#[test]
-fn a_text_of_65536_bytes_is_too_large(rt: HostRuntime) -> Result<(), Fail> {
-    let why = long_refusal(rt.alloc())?;
-    assert!(rt; why == Some(too_large(Extent::OneText, 65_535)));
-    Ok(())
+    Ok(refusal_of(alloc, &raw) == Some(too_large(Extent::OneText, 65_535)))
 }
 
 fn zeros(alloc: Global, count: u64) -> Result<Items<i64>, Fail> {
@@ -95,24 +76,21 @@ fn zeros(alloc: Global, count: u64) -> Result<Items<i64>, Fail> {
     Ok(stamps)
 }
 
-// Why 1,600,001 rows under five names are no frame.
-fn many_refusal(alloc: Global) -> Result<Option<Refusal>, Fail> {
+// 1,600,001 rows under five names, and no columns.
+fn many_rows(alloc: Global) -> Result<RawFrame, Fail> {
     let zeros = zeros(alloc, 1_600_001)?;
     let names = ["a", "b", "c", "d", "e"];
-    let raw = raw_of(alloc, zeros.items(), &names, Items::new(alloc))?;
-    Ok(refusal_of(alloc, &raw))
+    raw_of(alloc, zeros.items(), &names, Items::new(alloc))
 }
 
-#[test]
-fn more_than_8000000_cells_are_too_large(rt: HostRuntime) -> Result<(), Fail> {
-    let why = many_refusal(rt.alloc())?;
-    assert!(rt; why == Some(too_large(Extent::Cells, 8_000_000)));
-    Ok(())
+// Whether they are too many cells.
+fn are_too_many(alloc: Global) -> Result<bool, Fail> {
+    let raw = many_rows(alloc)?;
+    Ok(refusal_of(alloc, &raw) == Some(too_large(Extent::Cells, 8_000_000)))
 }
 
-#[test]
-fn an_empty_name_is_refused(rt: HostRuntime) {
-    assert!(rt; matches!(ColName::make(rt.alloc(), ""), Err(NameFault::Length)));
+fn is_no_name(alloc: Global) -> bool {
+    matches!(ColName::make(alloc, ""), Err(NameFault::Length))
 }
 
 // The stamp of a row, where the frame has it.
@@ -148,11 +126,9 @@ fn is_sample(frame: &Frame) -> bool {
         && matches!(column_of(frame, 1), Some((ColType::Text, 3)))
 }
 
-#[test]
-fn cells_are_lent_by_row_and_column(rt: HostRuntime) -> Result<(), Fail> {
-    let frame = frame_of(rt.alloc(), &SAMPLE)?;
-    assert!(rt; is_sample(&frame));
-    Ok(())
+fn lends_its_cells(alloc: Global) -> Result<bool, Fail> {
+    let frame = frame_of(alloc, &SAMPLE)?;
+    Ok(is_sample(&frame))
 }
 
 // How many rows of the frame lie below a range, and how many not above it.
@@ -177,12 +153,10 @@ fn counts_in_a_copy(
     }
 }
 
-#[test]
-fn rows_are_counted_by_a_range(rt: HostRuntime) -> Result<(), Fail> {
-    let counts = counts_in_a_copy(rt.alloc(), Some(2), None)?;
-    assert!(rt; counts == Some((1, 3)));
-    assert!(rt; Range::make(Some(3), Some(2)).is_none());
-    Ok(())
+// Whether one row lies below 2, and all three from there.
+fn are_counted(alloc: Global) -> Result<bool, Fail> {
+    let counts = counts_in_a_copy(alloc, Some(2), None)?;
+    Ok(counts == Some((1, 3)) && Range::make(Some(3), Some(2)).is_none())
 }
 
 // The rows from one place up to before another, where the frame has them.
@@ -208,11 +182,9 @@ fn are_the_last_two(part: &Option<Frame>) -> bool {
     }
 }
 
-#[test]
-fn rows_are_cut_from_one_place_up_to_another(rt: HostRuntime) -> Result<(), Fail> {
-    let part = sample_slice(rt.alloc(), 1, 3)?;
-    assert!(rt; are_the_last_two(&part));
-    Ok(())
+fn last_two_are_cut(alloc: Global) -> Result<bool, Fail> {
+    let part = sample_slice(alloc, 1, 3)?;
+    Ok(are_the_last_two(&part))
 }
 
 // The asked columns of the sample.
@@ -226,36 +198,20 @@ fn are_both(picked: &Frame) -> bool {
     size_of(picked) == (3, 2) && has_int(picked, 0, 1, 5)
 }
 
-#[test]
-fn columns_are_selected_in_the_order_asked(rt: HostRuntime) -> Result<(), Fail> {
-    let picked = asked(rt.alloc(), &["s", "a"])?;
-    assert!(rt; matches!(&picked, Ok(picked) if are_both(picked)));
-    Ok(())
+fn are_selected(alloc: Global) -> Result<bool, Fail> {
+    let picked = asked(alloc, &["s", "a"])?;
+    Ok(matches!(&picked, Ok(picked) if are_both(picked)))
 }
 
-// Names of which one is not there or is asked twice, and its place among them, counted from 1.
-const NO_COLUMNS: &[(&[&str], u64)] = &[(&["a", "a"], 2), (&["q"], 1)];
-
-// The place of the asked name that is refused.
-fn refused_place(alloc: Global, names: &[&str]) -> Result<Option<u64>, Fail> {
-    match asked(alloc, names)?.err() {
-        Some(
-            Refusal::NoSuchColumn {
-                clause: 0,
-                position,
-            },
-        ) => Ok(Some(position)),
-        _ => Ok(None),
-    }
-}
-
-#[test]
-fn a_name_asked_twice_and_an_absent_one_are_refused(rt: HostRuntime) -> Result<(), Fail> {
-    for (names, position) in NO_COLUMNS {
-        let place = refused_place(rt.alloc(), names)?;
-        assert!(rt; place == Some(*position), "at {position}");
-    }
-    Ok(())
+// Whether the asked name at this place is refused, counted from 1.
+fn is_refused_at(alloc: Global, names: &[&str], place: u64) -> Result<bool, Fail> {
+    let why = asked(alloc, names)?.err();
+    Ok(
+        why == Some(Refusal::NoSuchColumn {
+            clause: 0,
+            position: place,
+        }),
+    )
 }
 
 // The second frame behind the first, where its stamps do not lie below.
@@ -300,17 +256,19 @@ fn last_row_goes_behind(alloc: Global) -> Result<bool, Fail> {
     }
 }
 
-#[test]
-fn one_frame_goes_behind_another(rt: HostRuntime) -> Result<(), Fail> {
-    assert!(rt; last_row_goes_behind(rt.alloc())?);
-    Ok(())
+// A maker of frames of one column of flags, without rows.
+fn maker_of_flags(alloc: Global) -> Result<FrameMaker, Fail>
+    ensures { IfOk result (λ maker. maker ≡ record { schema = record { timed = true; columns = (codes "a", ColType.Flag) ∷ [] }; rows = []; begun = [] }) }
+{
+    let mut schema = Schema::empty(alloc, true);
+    let name = ColName::make(alloc, "a")?;
+    schema.push(name, ColType::Flag)?;
+    Ok(FrameMaker::make(alloc, &schema)?)
 }
 
 // A frame of one flag, at stamp 4.
 fn one_flag(alloc: Global) -> Result<Frame, Fail> {
-    let mut schema = Schema::empty(alloc, true);
-    schema.push(ColName::make(alloc, "a")?, ColType::Flag)?;
-    let mut maker = FrameMaker::make(alloc, &schema)?;
+    let mut maker = maker_of_flags(alloc)?;
     maker.cell(CellRef::Flag(true))?;
     maker.end_row(4)?;
     Ok(maker.done())
@@ -322,11 +280,9 @@ fn is_one_flag(frame: &Frame) -> bool {
         && matches!(cell_of(frame, 0, 0), Some(CellRef::Flag(true)))
 }
 
-#[test]
-fn a_maker_gives_the_rows_that_were_ended(rt: HostRuntime) -> Result<(), Fail> {
-    let frame = one_flag(rt.alloc())?;
-    assert!(rt; is_one_flag(&frame));
-    Ok(())
+fn is_made(alloc: Global) -> Result<bool, Fail> {
+    let frame = one_flag(alloc)?;
+    Ok(is_one_flag(&frame))
 }
 
 // The frame without stamps, rows and columns.
@@ -338,10 +294,9 @@ fn no_columns(alloc: Global) -> Frame {
     )
 }
 
-#[test]
-fn a_frame_of_no_columns_has_no_rows(rt: HostRuntime) {
-    let frame = no_columns(rt.alloc());
-    assert!(rt; size_of(&frame) == (0, 0) && !frame.schema().timed());
+fn is_empty(alloc: Global) -> bool {
+    let frame = no_columns(alloc);
+    size_of(&frame) == (0, 0) && !frame.schema().timed()
 }
 
 // The text at a place of a column, where there is one.
@@ -375,9 +330,86 @@ fn has_three_texts(column: &Column) -> bool {
     column.len() == 3 && text_at(column, 1) == Some("") && text_at(column, 2) == Some("yz")
 }
 
+fn are_put_together(alloc: Global) -> Result<bool, Fail> {
+    let column = put_together(alloc)?;
+    Ok(has_three_texts(&column))
+}
+
+enum Case {
+    // A frame that is none, and why.
+    Refused(&'static Sheet, Refusal),
+    LongText,
+    ManyCells,
+    EmptyName,
+    Lent,
+    Counted,
+    Cut,
+    Selected,
+    // Names of which one is not there or is asked twice, and its place among them.
+    NoColumn(&'static [&'static str], u64),
+    Joined,
+    Made,
+    NoColumns,
+    Appended,
+}
+
+// The cases of what makes a frame.
+fn is_made_or_not(alloc: Global, case: &Case) -> Result<bool, Fail> {
+    match case {
+        Case::Refused(sheet, why) => is_refused(alloc, sheet, *why),
+        Case::LongText => is_too_long(alloc),
+        Case::ManyCells => are_too_many(alloc),
+        Case::EmptyName => Ok(is_no_name(alloc)),
+        Case::Made => is_made(alloc),
+        Case::NoColumns => Ok(is_empty(alloc)),
+        _ => Ok(false),
+    }
+}
+
+fn holds(alloc: Global, case: &Case) -> Result<bool, Fail> {
+    match case {
+        Case::Lent => lends_its_cells(alloc),
+        Case::Counted => are_counted(alloc),
+        Case::Cut => last_two_are_cut(alloc),
+        Case::Selected => are_selected(alloc),
+        Case::NoColumn(names, place) => is_refused_at(alloc, names, *place),
+        Case::Joined => last_row_goes_behind(alloc),
+        Case::Appended => are_put_together(alloc),
+        _ => is_made_or_not(alloc, case),
+    }
+}
+
+const CASES: &[(&str, Case)] = &[
+    (
+        "a repeated name is refused at its column",
+        Case::Refused(&REPEATED_NAME, Refusal::SchemaDiffers { column: 2 }),
+    ),
+    (
+        "a falling stamp is refused at its row",
+        Case::Refused(&FALLING_STAMP, Refusal::Unsorted { row: 2 }),
+    ),
+    ("a text of 65,536 bytes is too large", Case::LongText),
+    ("more than 8,000,000 cells are too large", Case::ManyCells),
+    ("an empty name is refused", Case::EmptyName),
+    ("cells are lent by row and column", Case::Lent),
+    ("rows are counted by a range", Case::Counted),
+    ("rows are cut from one place up to another", Case::Cut),
+    ("columns are selected in the order asked", Case::Selected),
+    (
+        "a name asked twice is refused at its second place",
+        Case::NoColumn(&["a", "a"], 2),
+    ),
+    ("an absent name is refused", Case::NoColumn(&["q"], 1)),
+    ("one frame goes behind another", Case::Joined),
+    ("a maker gives the rows that were ended", Case::Made),
+    ("a frame of no columns has no rows", Case::NoColumns),
+    ("cells go behind those of a column", Case::Appended),
+];
+
 #[test]
-fn cells_go_behind_those_of_a_column(rt: HostRuntime) -> Result<(), Fail> {
-    let column = put_together(rt.alloc())?;
-    assert!(rt; has_three_texts(&column));
+fn frames_and_columns(rt: HostRuntime) -> Result<(), Fail> {
+    for (name, case) in CASES {
+        assert!(rt; holds(rt.alloc(), case)?, "{name}");
+    }
     Ok(())
 }

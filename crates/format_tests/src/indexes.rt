@@ -61,10 +61,8 @@ fn is_one_tile(index: &Index) -> bool {
     }
 }
 
-#[test]
-fn an_index_of_one_tile_has_these_84_bytes(rt: HostRuntime) {
-    assert!(rt; ONE_TILE.len() == 84);
-    assert!(rt; matches!(&read(rt.alloc(), ONE_TILE), Ok(index) if is_one_tile(index)));
+fn is_read_as_one_tile(alloc: Global) -> bool {
+    ONE_TILE.len() == 84 && matches!(&read(alloc, ONE_TILE), Ok(index) if is_one_tile(index))
 }
 
 // The bytes of the index that was read, and of its copy.
@@ -104,14 +102,6 @@ fn has_its_bytes(alloc: Global, bytes: &[u8]) -> Result<bool, Fail> {
     Ok(read.as_slice() == bytes && opened.as_slice() == bytes)
 }
 
-#[test]
-fn an_index_that_was_read_and_copied_has_its_bytes_again(rt: HostRuntime) -> Result<(), Fail> {
-    for bytes in [ONE_TILE, THREE_TILES, EMPTY] {
-        assert!(rt; has_its_bytes(rt.alloc(), bytes)?);
-    }
-    Ok(())
-}
-
 fn has_no_ends(slots: &SlotRuns) -> bool {
     slots.len() == 0 && slots.first().is_none() && slots.last().is_none()
 }
@@ -149,14 +139,12 @@ fn are_three(slots: &[Slot]) -> bool {
     }
 }
 
-#[test]
-fn slots_that_are_spelled_tell_their_ends_and_go_behind_others(
-    rt: HostRuntime,
-) -> Result<(), Fail> {
-    let index = opened(rt.alloc(), THREE_TILES)?;
-    assert!(rt; go_behind_others(rt.alloc(), &index)?);
-    assert!(rt; are_three(index.slots().to_slots(rt.alloc())?.items()));
-    Ok(())
+// Whether slots where they lie tell their ends, go behind others, and are read.
+fn are_slots(alloc: Global) -> Result<bool, Fail> {
+    let index = opened(alloc, THREE_TILES)?;
+    let behind = go_behind_others(alloc, &index)?;
+    let slots = index.slots().to_slots(alloc)?;
+    Ok(behind && are_three(slots.items()))
 }
 
 // Where the fields of `ONE_TILE` begin.
@@ -175,23 +163,20 @@ fn field_of(place: u64) -> u64 {
     field
 }
 
-#[test]
-fn a_field_that_is_cut_is_the_fault(rt: HostRuntime) {
+// Whether each cut is a fault at its field.
+fn is_at_fault_where_cut(alloc: Global) -> bool {
     for length in 0..ONE_TILE.len() {
-        let fault = fault_of(rt.alloc(), &ONE_TILE[..length]);
-        assert!(rt; fault == Some(field_of(length as u64)), "cut at {length}");
+        if fault_of(alloc, &ONE_TILE[..length]) != Some(field_of(length as u64)) {
+            return false;
+        }
     }
+    true
 }
 
 // `ONE_TILE` with a byte behind it.
 const A_BYTE_MORE: &[u8] = b"AIX1\0\x01\x01\x01a\0\0\0\x05\0\0\0\x01\
 \x01\x01S\0\0\0\x01\0\0\0\0\0\0\0\0\0\0\0\0\0\0\0\0\0\0\0\0\0\0\0\x01\0\0\0\0\0\0\0\x09\
 \0\0\0\0\0\0\0\x05\0\0\0\0\0\0\0\x01\0\0\0\0\0\0\0\x09\0\0\0\x01\0";
-
-#[test]
-fn a_byte_more_is_a_fault_behind_the_last_field(rt: HostRuntime) {
-    assert!(rt; fault_of(rt.alloc(), A_BYTE_MORE) == Some(84));
-}
 
 // Where the bytes are at fault with two of them changed.
 fn fault_with(
@@ -212,60 +197,9 @@ fn fault_with(
 // Two places with another byte for each, and where the fault is.
 type Change = ((usize, u8), (usize, u8), u64);
 
-const ONE_TILE_BROKEN: &[Change] = &[
-    ((3, b'2'), (3, b'2'), 0), // another magic
-    ((6, 5), (6, 5), 6), // no type
-    ((7, 0), (7, 0), 7), // a name without bytes
-    ((8, 255), (8, 255), 8), // a name that is not UTF-8
-    ((12, 6), (12, 6), 84), // a row that no tile has
-    ((12, 4), (12, 4), 60), // a tile beyond the last row
-    ((16, 0), (16, 0), 17), // no tile
-    ((16, 2), (16, 2), 84), // a second tile
-    ((17, 2), (17, 2), 17), // the key of an index
-    ((19, b' '), (19, b' '), 19), // a key whose name has a blank
-    ((59, 1), (59, 1), 56), // a first row that is not 0
-    ((63, 0), (63, 0), 60), // no rows
-    ((10, 2), (61, 2), 60), // 131,077 rows in one block
-    ((71, 2), (71, 2), 64), // a first stamp that is not the key's
-    ((79, 8), (79, 8), 72), // a last stamp that is not the key's
-    ((47, 10), (71, 10), 72), // stamps that fall
-    ((81, 1), (81, 1), 80), // a first column that is not 0
-    ((83, 0), (83, 0), 82), // no columns
-    ((83, 2), (83, 2), 82), // a tile beyond the last column
-];
-
-#[test]
-fn each_broken_rule_of_one_tile_is_a_fault_at_its_field(rt: HostRuntime) -> Result<(), Fail> {
-    for (one, two, at) in ONE_TILE_BROKEN {
-        let fault = fault_with(rt.alloc(), ONE_TILE, *one, *two)?;
-        assert!(rt; fault == Some(*at), "wanted at {at}");
-    }
-    Ok(())
-}
-
-const THREE_TILES_BROKEN: &[Change] = &[
-    ((11, b'a'), (11, b'a'), 11), // the name of an earlier column
-    ((129, 1), (129, 1), 126), // a slice with another first row
-    ((133, 1), (133, 1), 130), // a slice with other rows
-    ((117, 0), (141, 0), 134), // a slice with another first stamp
-    ((125, 3), (149, 3), 142), // a slice with another last stamp
-    ((151, 0), (151, 0), 150), // a slice of columns that the one before has
-    ((86, 2), (86, 2), 126), // a block that begins where the one before does
-    ((196, 1), (196, 1), 193), // a block that overlaps the one before
-    ((196, 3), (196, 3), 193), // a block that leaves out a row
-    ((184, 1), (208, 1), 201), // a block that begins below the last stamp
-    ((218, 1), (218, 1), 217), // a block whose first slice is left out
-    ((220, 1), (220, 1), 221), // a block whose last slice is left out
-    ((200, 2), (200, 2), 221), // a last row that is left out
-];
-
-#[test]
-fn tiles_that_do_not_follow_each_other_are_a_fault(rt: HostRuntime) -> Result<(), Fail> {
-    for (one, two, at) in THREE_TILES_BROKEN {
-        let fault = fault_with(rt.alloc(), THREE_TILES, *one, *two)?;
-        assert!(rt; fault == Some(*at), "wanted at {at}");
-    }
-    Ok(())
+fn is_at_fault(alloc: Global, bytes: &[u8], change: &Change) -> Result<bool, Fail> {
+    let (one, two, at) = change;
+    Ok(fault_with(alloc, bytes, *one, *two)? == Some(*at))
 }
 
 // Where an index of 128 columns and five rows is at fault, with a first slice of so many columns: that number is at 463.
@@ -277,15 +211,6 @@ fn wide_fault(alloc: Global, cols: u8) -> Result<Option<u64>, Fail> {
     bytes.extend_from_slice(&ONE_TILE[9..83])?;
     bytes.push(cols)?;
     Ok(fault_of(alloc, &bytes))
-}
-
-#[test]
-fn a_slice_has_at_most_127_columns(rt: HostRuntime) -> Result<(), Fail> {
-    // With 127 the slice stands, and the next one is missed.
-    for (cols, at) in [(128, 463), (127, 465)] {
-        assert!(rt; wide_fault(rt.alloc(), cols)? == Some(at), "{cols} columns");
-    }
-    Ok(())
 }
 
 // The ends of a range and columns, and the places of the tiles of `THREE_TILES` that they ask for.
@@ -302,51 +227,6 @@ fn are_covered(alloc: Global, asked: &Asked) -> Result<bool, Fail> {
         None => Ok(false),
     }
 }
-
-// Both columns of the tiles that the edges of a range touch.
-const EDGES: &[Asked] = &[
-    (None, None, &[0, 1], &[0, 1, 2]),
-    (Some(2), Some(2), &[0, 1], &[0, 1, 2]),
-    (Some(3), Some(8), &[0, 1], &[2]),
-    (Some(9), None, &[0, 1], &[2]),
-    (None, Some(1), &[0, 1], &[0, 1]),
-    (Some(10), None, &[0, 1], &[]),
-    (None, Some(0), &[0, 1], &[]),
-];
-
-#[test]
-fn the_edges_of_a_range_take_the_tiles_that_they_touch(rt: HostRuntime) -> Result<(), Fail> {
-    for (row, asked) in EDGES.iter().enumerate() {
-        assert!(rt; are_covered(rt.alloc(), asked)?, "row {row}");
-    }
-    Ok(())
-}
-
-// All rows of columns that are asked; no columns take the first.
-const SLICES: &[Asked] = &[
-    (None, None, &[], &[0, 2]),
-    (None, None, &[0], &[0, 2]),
-    (None, None, &[1], &[1, 2]),
-    (None, None, &[7, 1, 0, 1], &[0, 1, 2]),
-    (None, None, &[2, 7], &[]),
-];
-
-#[test]
-fn columns_take_their_slices_and_no_columns_the_first(rt: HostRuntime) -> Result<(), Fail> {
-    for (row, asked) in SLICES.iter().enumerate() {
-        assert!(rt; are_covered(rt.alloc(), asked)?, "row {row}");
-    }
-    Ok(())
-}
-
-// The slots that are found where they lie: the serial of each one's key is its place.
-const WHERE_THEY_LIE: &[Asked] = &[
-    (None, None, &[0, 1], &[0, 1, 2]),
-    (Some(3), Some(8), &[0, 1], &[2]),
-    (None, Some(1), &[1], &[1]),
-    (None, None, &[], &[0, 2]),
-    (Some(10), None, &[0, 1], &[]),
-];
 
 fn have_serials(slots: &[Slot], serials: &[u64]) -> bool {
     slots.len() == serials.len()
@@ -369,13 +249,222 @@ fn are_found(alloc: Global, asked: &Asked) -> Result<bool, Fail> {
     }
 }
 
+enum Case {
+    OneTile,
+    Again(&'static [u8]),
+    Slots,
+    WhereCut,
+    AByteMore,
+    // The one tile with two bytes changed.
+    OneTileBroken(Change),
+    // The three tiles with two bytes changed.
+    ThreeTilesBroken(Change),
+    // The columns of the first slice of a wide index, and where the fault is.
+    Wide(u8, u64),
+}
+
+fn holds(alloc: Global, case: &Case) -> Result<bool, Fail> {
+    match case {
+        Case::OneTile => Ok(is_read_as_one_tile(alloc)),
+        Case::Again(bytes) => has_its_bytes(alloc, bytes),
+        Case::Slots => are_slots(alloc),
+        Case::WhereCut => Ok(is_at_fault_where_cut(alloc)),
+        Case::AByteMore => Ok(fault_of(alloc, A_BYTE_MORE) == Some(84)),
+        Case::OneTileBroken(change) => is_at_fault(alloc, ONE_TILE, change),
+        Case::ThreeTilesBroken(change) => is_at_fault(alloc, THREE_TILES, change),
+        Case::Wide(cols, at) => Ok(wide_fault(alloc, *cols)? == Some(*at)),
+    }
+}
+
+const CASES: &[(&str, Case)] = &[
+    ("an index of one tile has these 84 bytes", Case::OneTile),
+    (
+        "an index of one tile has its bytes again",
+        Case::Again(ONE_TILE),
+    ),
+    (
+        "an index of three tiles has its bytes again",
+        Case::Again(THREE_TILES),
+    ),
+    (
+        "an index of no tiles has its bytes again",
+        Case::Again(EMPTY),
+    ),
+    (
+        "slots that are spelled tell their ends and go behind others",
+        Case::Slots,
+    ),
+    ("a field that is cut is the fault", Case::WhereCut),
+    (
+        "a byte more is a fault behind the last field",
+        Case::AByteMore,
+    ),
+    // With 127 the slice stands, and the next one is missed.
+    ("a slice has at most 127 columns", Case::Wide(128, 463)),
+    ("a slice may have 127 columns", Case::Wide(127, 465)),
+    (
+        "another magic",
+        Case::OneTileBroken(((3, b'2'), (3, b'2'), 0)),
+    ),
+    ("no type", Case::OneTileBroken(((6, 5), (6, 5), 6))),
+    (
+        "a name without bytes",
+        Case::OneTileBroken(((7, 0), (7, 0), 7)),
+    ),
+    (
+        "a name that is not UTF-8",
+        Case::OneTileBroken(((8, 255), (8, 255), 8)),
+    ),
+    (
+        "a row that no tile has",
+        Case::OneTileBroken(((12, 6), (12, 6), 84)),
+    ),
+    (
+        "a tile beyond the last row",
+        Case::OneTileBroken(((12, 4), (12, 4), 60)),
+    ),
+    ("no tile", Case::OneTileBroken(((16, 0), (16, 0), 17))),
+    ("a second tile", Case::OneTileBroken(((16, 2), (16, 2), 84))),
+    (
+        "the key of an index",
+        Case::OneTileBroken(((17, 2), (17, 2), 17)),
+    ),
+    (
+        "a key whose name has a blank",
+        Case::OneTileBroken(((19, b' '), (19, b' '), 19)),
+    ),
+    (
+        "a first row that is not 0",
+        Case::OneTileBroken(((59, 1), (59, 1), 56)),
+    ),
+    ("no rows", Case::OneTileBroken(((63, 0), (63, 0), 60))),
+    (
+        "131,077 rows in one block",
+        Case::OneTileBroken(((10, 2), (61, 2), 60)),
+    ),
+    (
+        "a first stamp that is not the key's",
+        Case::OneTileBroken(((71, 2), (71, 2), 64)),
+    ),
+    (
+        "a last stamp that is not the key's",
+        Case::OneTileBroken(((79, 8), (79, 8), 72)),
+    ),
+    (
+        "stamps that fall",
+        Case::OneTileBroken(((47, 10), (71, 10), 72)),
+    ),
+    (
+        "a first column that is not 0",
+        Case::OneTileBroken(((81, 1), (81, 1), 80)),
+    ),
+    ("no columns", Case::OneTileBroken(((83, 0), (83, 0), 82))),
+    (
+        "a tile beyond the last column",
+        Case::OneTileBroken(((83, 2), (83, 2), 82)),
+    ),
+    (
+        "the name of an earlier column",
+        Case::ThreeTilesBroken(((11, b'a'), (11, b'a'), 11)),
+    ),
+    (
+        "a slice with another first row",
+        Case::ThreeTilesBroken(((129, 1), (129, 1), 126)),
+    ),
+    (
+        "a slice with other rows",
+        Case::ThreeTilesBroken(((133, 1), (133, 1), 130)),
+    ),
+    (
+        "a slice with another first stamp",
+        Case::ThreeTilesBroken(((117, 0), (141, 0), 134)),
+    ),
+    (
+        "a slice with another last stamp",
+        Case::ThreeTilesBroken(((125, 3), (149, 3), 142)),
+    ),
+    (
+        "a slice of columns that the one before has",
+        Case::ThreeTilesBroken(((151, 0), (151, 0), 150)),
+    ),
+    (
+        "a block that begins where the one before does",
+        Case::ThreeTilesBroken(((86, 2), (86, 2), 126)),
+    ),
+    (
+        "a block that overlaps the one before",
+        Case::ThreeTilesBroken(((196, 1), (196, 1), 193)),
+    ),
+    (
+        "a block that leaves out a row",
+        Case::ThreeTilesBroken(((196, 3), (196, 3), 193)),
+    ),
+    (
+        "a block that begins below the last stamp",
+        Case::ThreeTilesBroken(((184, 1), (208, 1), 201)),
+    ),
+    (
+        "a block whose first slice is left out",
+        Case::ThreeTilesBroken(((218, 1), (218, 1), 217)),
+    ),
+    (
+        "a block whose last slice is left out",
+        Case::ThreeTilesBroken(((220, 1), (220, 1), 221)),
+    ),
+    (
+        "a last row that is left out",
+        Case::ThreeTilesBroken(((200, 2), (200, 2), 221)),
+    ),
+];
+
 #[test]
-fn slots_are_found_where_they_lie_as_in_an_index_that_was_read(
-    rt: HostRuntime,
-) -> Result<(), Fail> {
-    for (row, asked) in WHERE_THEY_LIE.iter().enumerate() {
-        assert!(rt; are_covered(rt.alloc(), asked)?, "row {row}, read");
-        assert!(rt; are_found(rt.alloc(), asked)?, "row {row}, opened");
+fn indexes_and_their_faults(rt: HostRuntime) -> Result<(), Fail> {
+    for (name, case) in CASES {
+        assert!(rt; holds(rt.alloc(), case)?, "{name}");
+    }
+    Ok(())
+}
+
+// A range and columns, and the tiles that they ask for in an index that was read, and in one whose slots are found where they lie: there
+// the serial of each one's key is its place.
+fn are_given(alloc: Global, asked: &Asked) -> Result<bool, Fail> {
+    let covered = are_covered(alloc, asked)?;
+    let found = are_found(alloc, asked)?;
+    Ok(covered && found)
+}
+
+const ASKED: &[(&str, Asked)] = &[
+    ("every row", (None, None, &[0, 1], &[0, 1, 2])),
+    (
+        "both blocks have stamp 2",
+        (Some(2), Some(2), &[0, 1], &[0, 1, 2]),
+    ),
+    (
+        "between the edges of the last",
+        (Some(3), Some(8), &[0, 1], &[2]),
+    ),
+    ("from the last stamp", (Some(9), None, &[0, 1], &[2])),
+    ("up to the first stamp", (None, Some(1), &[0, 1], &[0, 1])),
+    ("above the last stamp", (Some(10), None, &[0, 1], &[])),
+    ("below the first stamp", (None, Some(0), &[0, 1], &[])),
+    ("no columns take the first", (None, None, &[], &[0, 2])),
+    ("the first column", (None, None, &[0], &[0, 2])),
+    ("the second column", (None, None, &[1], &[1, 2])),
+    (
+        "columns twice and one that is not there",
+        (None, None, &[7, 1, 0, 1], &[0, 1, 2]),
+    ),
+    ("columns that are not there", (None, None, &[2, 7], &[])),
+    (
+        "the second column up to the first stamp",
+        (None, Some(1), &[1], &[1]),
+    ),
+];
+
+#[test]
+fn a_range_and_columns_take_their_tiles(rt: HostRuntime) -> Result<(), Fail> {
+    for (name, asked) in ASKED {
+        assert!(rt; are_given(rt.alloc(), asked)?, "{name}");
     }
     Ok(())
 }

@@ -16,12 +16,6 @@ fn stand_in_order(alloc: Global) -> Result<bool, Fail> {
     Ok(empty && are_seven_and_eight(&items) && copy.as_slice() == [7, 8].as_slice())
 }
 
-#[test]
-fn items_stand_in_the_order_in_which_they_were_pushed(rt: HostRuntime) -> Result<(), Fail> {
-    assert!(rt; stand_in_order(rt.alloc())?);
-    Ok(())
-}
-
 // Whether 1, 2 and 3 are a copied slice with another behind it.
 fn are_extended(alloc: Global) -> Result<bool, Fail> {
     let mut items = Items::from_slice(alloc, &[1u8, 2])?;
@@ -33,12 +27,6 @@ fn are_extended(alloc: Global) -> Result<bool, Fail> {
 fn are_joined(alloc: Global) -> Result<bool, Fail> {
     let joined = Items::joined(alloc, &[1u8], &[2, 3])?;
     Ok(joined.items() == [1, 2, 3].as_slice())
-}
-
-#[test]
-fn slices_are_copied_and_joined_at_once(rt: HostRuntime) -> Result<(), Fail> {
-    assert!(rt; are_extended(rt.alloc())? && are_joined(rt.alloc())?);
-    Ok(())
 }
 
 fn is_price(text: &Text) -> bool {
@@ -53,8 +41,39 @@ fn are_ordered(alloc: Global) -> Result<bool, Fail> {
     Ok(is_price(&price) && copy == price && pride > price)
 }
 
+enum Case {
+    Order,
+    Extended,
+    Joined,
+    Texts,
+}
+
+fn holds(alloc: Global, case: &Case) -> Result<bool, Fail> {
+    match case {
+        Case::Order => stand_in_order(alloc),
+        Case::Extended => are_extended(alloc),
+        Case::Joined => are_joined(alloc),
+        Case::Texts => are_ordered(alloc),
+    }
+}
+
+const CASES: &[(&str, Case)] = &[
+    (
+        "items stand in the order in which they were pushed",
+        Case::Order,
+    ),
+    ("a slice is copied at once", Case::Extended),
+    ("slices are joined at once", Case::Joined),
+    (
+        "texts are equal by their bytes and ordered by them",
+        Case::Texts,
+    ),
+];
+
 #[test]
-fn texts_are_equal_by_their_bytes_and_ordered_by_them(rt: HostRuntime) -> Result<(), Fail> {
-    assert!(rt; are_ordered(rt.alloc())?);
+fn lists_and_texts(rt: HostRuntime) -> Result<(), Fail> {
+    for (name, case) in CASES {
+        assert!(rt; holds(rt.alloc(), case)?, "{name}");
+    }
     Ok(())
 }

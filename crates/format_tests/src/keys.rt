@@ -29,29 +29,8 @@ fn is_read_and_spelled(alloc: Global) -> Result<bool, Fail> {
     Ok(key.same(&tile) && length == 39 && bytes.as_slice() == TILE)
 }
 
-#[test]
-fn a_key_of_a_tile_has_these_39_bytes(rt: HostRuntime) -> Result<(), Fail> {
-    assert!(rt; is_read_and_spelled(rt.alloc())?);
-    Ok(())
-}
-
-const BROKEN: &[&[u8]] = &[
-    b"", // no byte
-    b"\x07\x01S", // another kind
-    b"\x01\0", // no name
-    b"\x01\x02S", // a name that is cut off
-    b"\x01\x01 ", // a blank in the name
-];
-
 fn begins_no_key(alloc: Global, bytes: &[u8]) -> bool {
     matches!(Key::read(alloc, bytes), Err(KeyFault::NotAKey))
-}
-
-#[test]
-fn bytes_that_break_a_rule_begin_no_key(rt: HostRuntime) {
-    for (row, bytes) in BROKEN.iter().enumerate() {
-        assert!(rt; begins_no_key(rt.alloc(), bytes), "row {row}");
-    }
 }
 
 fn repeated(alloc: Global, letter: char, length: u64) -> Result<String, Fail> {
@@ -62,42 +41,18 @@ fn repeated(alloc: Global, letter: char, length: u64) -> Result<String, Fail> {
     Ok(text)
 }
 
-// Why so many letters are no name; none where they are one.
-fn fault_of(alloc: Global, letter: char, length: u64) -> Result<Option<NameFault>, Fail> {
+// Whether so many letters are a name, or else refused for their length.
+fn is_name_or_not(alloc: Global, letter: char, length: u64, good: bool) -> Result<bool, Fail> {
     let text = repeated(alloc, letter, length)?;
-    Ok(Name::make(alloc, text.as_str()).err())
-}
-
-// A letter, how often it stands, and whether that is a name. These two have the least byte and the greatest of a name.
-const LENGTHS: &[(char, u64, bool)] = &[
-    ('~', 0, false),
-    ('!', 1, true),
-    ('~', 255, true),
-    ('~', 256, false),
-];
-
-#[test]
-fn names_have_1_to_255_bytes(rt: HostRuntime) -> Result<(), Fail> {
-    for (letter, length, good) in LENGTHS {
-        let fault = fault_of(rt.alloc(), *letter, *length)?;
-        assert!(rt;
-            match fault {
-                None => *good,
-                Some(NameFault::Length) => !*good,
-                Some(_) => false,
-            },
-            "{length} bytes"
-        );
+    match Name::make(alloc, text.as_str()).err() {
+        None => Ok(good),
+        Some(NameFault::Length) => Ok(!good),
+        Some(_) => Ok(false),
     }
-    Ok(())
 }
 
-#[test]
-fn names_are_refused_at_their_first_bad_byte(rt: HostRuntime) {
-    let snap = SnapName::make(rt.alloc(), "a b\u{7f}").err();
-    assert!(rt; matches!(snap, Some(NameFault::Byte { at: 1 })));
-    let symbol = Symbol::make(rt.alloc(), "ab\u{7f}").err();
-    assert!(rt; matches!(symbol, Some(NameFault::Byte { at: 2 })));
+fn is_bad_at(fault: Option<NameFault>, place: u64) -> bool {
+    matches!(fault, Some(NameFault::Byte { at }) if at == place)
 }
 
 fn reference(alloc: Global, symbol: &str) -> Result<Key, Fail> {
@@ -117,13 +72,72 @@ fn stand_in_order(alloc: Global) -> Result<bool, Fail> {
     Ok(tile < first && first < later && later < snapshot && !first.same(&snapshot))
 }
 
-#[test]
-fn keys_stand_by_kind_and_then_by_name(rt: HostRuntime) -> Result<(), Fail> {
-    assert!(rt; stand_in_order(rt.alloc())?);
-    Ok(())
+enum Case {
+    Spelled,
+    NoKey(&'static [u8]),
+    // A letter, how often it stands, and whether that is a name.
+    Letters(char, u64, bool),
+    // A text that is none, and the place of its first bad byte.
+    BadSnap(&'static str, u64),
+    BadSymbol(&'static str, u64),
+    Order,
+    OtherKind,
 }
 
+fn holds(alloc: Global, case: &Case) -> Result<bool, Fail> {
+    match case {
+        Case::Spelled => is_read_and_spelled(alloc),
+        Case::NoKey(bytes) => Ok(begins_no_key(alloc, bytes)),
+        Case::Letters(letter, length, good) => is_name_or_not(alloc, *letter, *length, *good),
+        Case::BadSnap(text, at) => Ok(is_bad_at(SnapName::make(alloc, text).err(), *at)),
+        Case::BadSymbol(text, at) => Ok(is_bad_at(Symbol::make(alloc, text).err(), *at)),
+        Case::Order => stand_in_order(alloc),
+        Case::OtherKind => Ok(matches!(view_key_of(KeyKind::TableIndex, TILE), Err(39))),
+    }
+}
+
+const CASES: &[(&str, Case)] = &[
+    ("a key of a tile has these 39 bytes", Case::Spelled),
+    ("no byte begins no key", Case::NoKey(b"")),
+    ("another kind begins no key", Case::NoKey(b"\x07\x01S")),
+    ("no name begins no key", Case::NoKey(b"\x01\0")),
+    (
+        "a name that is cut off begins no key",
+        Case::NoKey(b"\x01\x02S"),
+    ),
+    (
+        "a blank in the name begins no key",
+        Case::NoKey(b"\x01\x01 "),
+    ),
+    ("no letters are no name", Case::Letters('~', 0, false)),
+    (
+        "one of the least byte is a name",
+        Case::Letters('!', 1, true),
+    ),
+    (
+        "255 of the greatest byte are a name",
+        Case::Letters('~', 255, true),
+    ),
+    ("256 letters are no name", Case::Letters('~', 256, false)),
+    (
+        "a snapshot's name is refused at its first bad byte",
+        Case::BadSnap("a b\u{7f}", 1),
+    ),
+    (
+        "a symbol is refused at its first bad byte",
+        Case::BadSymbol("ab\u{7f}", 2),
+    ),
+    ("keys stand by kind and then by name", Case::Order),
+    (
+        "a view of another kind is at fault at its first byte",
+        Case::OtherKind,
+    ),
+];
+
 #[test]
-fn a_view_of_another_kind_is_at_fault_at_its_first_byte(rt: HostRuntime) {
-    assert!(rt; matches!(view_key_of(KeyKind::TableIndex, TILE), Err(39)));
+fn keys_and_names(rt: HostRuntime) -> Result<(), Fail> {
+    for (name, case) in CASES {
+        assert!(rt; holds(rt.alloc(), case)?, "{name}");
+    }
+    Ok(())
 }

@@ -1,6 +1,3 @@
-ghost use Rattle.std.specs.Prelude.{IfOk};
-ghost use Rattle.frame_core.specs.Limits.{IsStorable};
-
 use crate::columns::{Cells, Sheet, frame_of};
 use frame_core::{CellRef, ColType};
 use segment_bytes::{SegView, encode, view};
@@ -87,23 +84,9 @@ fn is_number(seen: &SegView<'_>) -> bool {
         && matches!(cell(seen, 0, 0), Some(CellRef::Int(5)))
 }
 
-#[test]
-fn one_whole_number_has_these_29_bytes(rt: HostRuntime) -> Result<(), Fail> {
-    assert!(rt; is_spelled(rt.alloc(), &NUMBER, ONE_NUMBER)?);
-    assert!(rt; matches!(view(ONE_NUMBER), Ok(seen) if is_number(&seen)));
-    Ok(())
-}
-
 fn are_texts(seen: &SegView<'_>) -> bool {
     matches!(cell(seen, 0, 0), Some(CellRef::Text("x")))
         && matches!(cell(seen, 0, 1), Some(CellRef::Text("")))
-}
-
-#[test]
-fn a_text_and_the_empty_text_have_these_38_bytes(rt: HostRuntime) -> Result<(), Fail> {
-    assert!(rt; is_spelled(rt.alloc(), &TEXTS, TWO_TEXTS)?);
-    assert!(rt; matches!(view(TWO_TEXTS), Ok(seen) if are_texts(&seen)));
-    Ok(())
 }
 
 fn has_heads(seen: &SegView<'_>) -> bool {
@@ -120,11 +103,6 @@ fn has_each_type(seen: &SegView<'_>) -> bool {
         && matches!(cell(seen, 3, 1), Some(CellRef::Stamp(8)))
 }
 
-#[test]
-fn cells_of_each_type_are_read(rt: HostRuntime) {
-    assert!(rt; matches!(view(ALL_TYPES), Ok(seen) if has_heads(&seen) && has_each_type(&seen)));
-}
-
 // Whether the frame in memory that these bytes give is spelled by them.
 fn is_spelled_again(alloc: Global, bytes: &[u8]) -> Result<bool, Fail> {
     let seen = view(bytes)?;
@@ -133,26 +111,23 @@ fn is_spelled_again(alloc: Global, bytes: &[u8]) -> Result<bool, Fail> {
     Ok(spelled.as_slice() == bytes)
 }
 
-#[test]
-fn a_view_in_memory_is_spelled_as_before(rt: HostRuntime) -> Result<(), Fail> {
-    assert!(rt; is_spelled_again(rt.alloc(), ALL_TYPES)?);
-    Ok(())
-}
-
 // The number with a byte behind it.
 const A_BYTE_MORE: &[u8] = b"ASG1\0\0\0\x01\0\x01\0\0\0\0\0\0\0\x01\x01\x01a\0\0\0\0\0\0\0\x05\0";
 
-#[test]
-fn a_byte_more_or_less_is_a_fault_at_its_field(rt: HostRuntime) {
-    assert!(rt; fault_at(A_BYTE_MORE) == Some(29));
-    assert!(rt; fault_at(&ONE_NUMBER[..28]) == Some(21));
-}
+// The number without its last byte.
+const A_BYTE_LESS: &[u8] = b"ASG1\0\0\0\x01\0\x01\0\0\0\0\0\0\0\x01\x01\x01a\0\0\0\0\0\0\0";
 
-#[test]
-fn a_segment_that_is_cut_is_refused(rt: HostRuntime) {
+// The head of 2,000,000 rows of 5 columns.
+const FIVE_COLUMNS: &[u8] = b"ASG1\0\x1e\x84\x80\0\x05";
+
+// Whether the segment of all types is at fault wherever it is cut.
+fn is_refused_where_cut() -> bool {
     for length in 0..ALL_TYPES.len() {
-        assert!(rt; fault_at(&ALL_TYPES[..length]).is_some(), "cut at {length}");
+        if fault_at(&ALL_TYPES[..length]).is_none() {
+            return false;
+        }
     }
+    true
 }
 
 // Where the segment of all types is at fault with another byte at a place.
@@ -164,34 +139,106 @@ fn fault_with(alloc: Global, place: usize, byte: u8) -> Result<Option<u64>, Fail
     Ok(fault_at(&changed))
 }
 
-// The place of a byte, another byte for it, and where the fault is.
-const BROKEN: &[(usize, u8, u64)] = &[
-    (3, b'2', 0), // another magic
-    (4, 1, 4), // more than 2,000,000 rows
-    (8, 16, 8), // more than 4,096 columns
-    (17, 3, 18), // a stamp that falls
-    (26, 0, 26), // no type
-    (45, 5, 45), // no type
-    (27, 0, 27), // a name without bytes
-    (28, 255, 28), // a name that is not UTF-8
-    (47, b'a', 47), // the name of an earlier column
-    (48, 2, 48), // a flag that is neither 0 nor 1
-    (54, 1, 53), // a text of more than 65,535 bytes
-    (60, 0, 57), // an end that falls
-    (61, 255, 61), // a text that is not UTF-8
+fn is_at_fault(alloc: Global, place: usize, byte: u8, at: u64) -> Result<bool, Fail> {
+    Ok(fault_with(alloc, place, byte)? == Some(at))
+}
+
+// What a segment that is seen has.
+enum Seen {
+    Number,
+    Texts,
+    EachType,
+}
+
+fn has(seen: &SegView<'_>, what: &Seen) -> bool {
+    match what {
+        Seen::Number => is_number(seen),
+        Seen::Texts => are_texts(seen),
+        Seen::EachType => has_heads(seen) && has_each_type(seen),
+    }
+}
+
+fn is_seen(bytes: &[u8], what: &Seen) -> bool {
+    matches!(view(bytes), Ok(seen) if has(&seen, what))
+}
+
+enum Case {
+    // A frame, and the bytes that spell it.
+    Spelled(&'static Sheet, &'static [u8]),
+    Seen(&'static [u8], Seen),
+    SpelledAgain,
+    // Bytes, and where they are at fault.
+    Fault(&'static [u8], u64),
+    WhereCut,
+    // The place of a byte of the segment of all types, another byte for it, and where the fault is.
+    Broken(usize, u8, u64),
+}
+
+fn holds(alloc: Global, case: &Case) -> Result<bool, Fail> {
+    match case {
+        Case::Spelled(sheet, bytes) => is_spelled(alloc, sheet, bytes),
+        Case::Seen(bytes, what) => Ok(is_seen(bytes, what)),
+        Case::SpelledAgain => is_spelled_again(alloc, ALL_TYPES),
+        Case::Fault(bytes, at) => Ok(fault_at(bytes) == Some(*at)),
+        Case::WhereCut => Ok(is_refused_where_cut()),
+        Case::Broken(place, byte, at) => is_at_fault(alloc, *place, *byte, *at),
+    }
+}
+
+const CASES: &[(&str, Case)] = &[
+    (
+        "one whole number has these 29 bytes",
+        Case::Spelled(&NUMBER, ONE_NUMBER),
+    ),
+    (
+        "one whole number is seen",
+        Case::Seen(ONE_NUMBER, Seen::Number),
+    ),
+    (
+        "a text and the empty text have these 38 bytes",
+        Case::Spelled(&TEXTS, TWO_TEXTS),
+    ),
+    (
+        "a text and the empty text are seen",
+        Case::Seen(TWO_TEXTS, Seen::Texts),
+    ),
+    (
+        "cells of each type are read",
+        Case::Seen(ALL_TYPES, Seen::EachType),
+    ),
+    ("a view in memory is spelled as before", Case::SpelledAgain),
+    (
+        "a byte more is a fault behind all",
+        Case::Fault(A_BYTE_MORE, 29),
+    ),
+    (
+        "a byte less is a fault at its field",
+        Case::Fault(A_BYTE_LESS, 21),
+    ),
+    (
+        "more than 8,000,000 cells are a fault at the columns",
+        Case::Fault(FIVE_COLUMNS, 8),
+    ),
+    ("a segment that is cut is refused", Case::WhereCut),
+    ("another magic", Case::Broken(3, b'2', 0)),
+    ("more than 2,000,000 rows", Case::Broken(4, 1, 4)),
+    ("more than 4,096 columns", Case::Broken(8, 16, 8)),
+    ("a stamp that falls", Case::Broken(17, 3, 18)),
+    ("no type in the first column", Case::Broken(26, 0, 26)),
+    ("no type in the second column", Case::Broken(45, 5, 45)),
+    ("a name without bytes", Case::Broken(27, 0, 27)),
+    ("a name that is not UTF-8", Case::Broken(28, 255, 28)),
+    ("the name of an earlier column", Case::Broken(47, b'a', 47)),
+    ("a flag that is neither 0 nor 1", Case::Broken(48, 2, 48)),
+    ("a text of more than 65,535 bytes", Case::Broken(54, 1, 53)),
+    ("an end that falls", Case::Broken(60, 0, 57)),
+    ("a text that is not UTF-8", Case::Broken(61, 255, 61)),
 ];
 
 #[test]
-fn each_broken_rule_is_a_fault_at_its_field(rt: HostRuntime) -> Result<(), Fail> {
-    for (place, byte, at) in BROKEN {
-        let fault = fault_with(rt.alloc(), *place, *byte)?;
-        assert!(rt; fault == Some(*at), "at {place}");
+fn segments_and_their_faults(rt: HostRuntime) -> Result<(), Fail> {
+    for (name, case) in CASES {
+        assert!(rt; holds(rt.alloc(), case)?, "{name}");
     }
     Ok(())
-}
-
-#[test]
-fn more_than_8000000_cells_are_a_fault_at_the_columns(rt: HostRuntime) {
-    // 2,000,000 rows of 5 columns
-    assert!(rt; fault_at(b"ASG1\0\x1e\x84\x80\0\x05") == Some(8));
 }
