@@ -1,13 +1,17 @@
 //! Commits of one change that makes no version: what is buried, held, released or consumed.
 
-ghost use Rattle.std.specs.Prelude.{◌≡◌, false, ◌∷◌, [], map, IfOk, IfSome};
+ghost use Rattle.std.specs.Prelude.{◌≡◌, false, ◌∷◌, [], map, IfOk, IfSome, OnOk, Ok};
 ghost use Rattle.std.specs.Arc.{arc_value};
 ghost use Rattle.bucket_core.specs.Calls.{IsSteady, put_event, drop_event};
+ghost use Rattle.key_kind.specs.Names.{IsName};
+ghost use Rattle.key_kind.specs.KeyText.{key_text};
+ghost use Rattle.store_model.specs.ChainText.{entry_of};
 ghost use Rattle.store_model.specs.declared.chain.LinkRow.{LinkRow as Row};
 ghost use Rattle.store_model.specs.declared.chain.ChainMark.TheVariants.{Tomb};
-ghost use Rattle.store_model.specs.Commits.{is_version, change_marks};
+ghost use Rattle.store_model.specs.Commits.{is_version, change_marks, marks_of as all_marks};
 ghost use Rattle.store_model.specs.Law.{MayPut};
-ghost use Rattle.version_chain.specs.Marking.{MayMark, DidMark};
+ghost use Rattle.version_chain.specs.Entries.{IsEntry};
+ghost use Rattle.version_chain.specs.Marking.{MayMark, DidMark, element_key};
 ghost use Rattle.version_chain.specs.MarkPlans.{IsElementKey, IsFormed, IsMarking, IsOwnEntry};
 ghost use Rattle.version_chain.specs.Stops.{refused_by};
 ghost use Rattle.version_chain.specs.StoreCalls.{DidCall};
@@ -140,7 +144,30 @@ fn prepare(
     requires formed { IsFormed change.now }
     ensures { IfOk result (IsMarking client serial symbol.now was.now change.now) }
 {
-    let entry = Key {
+    let (entry, mark) = spelled_key(alloc, client, serial, symbol)?;
+    let key = entry.copy(alloc)?;
+    let (body, changes) = contents_of(alloc, was, change)?;
+    Ok(Marking {
+        key,
+        body,
+        entry,
+        mark,
+        changes,
+    })
+}
+
+/// The key of an element, and its spelling.
+fn spelled_key(
+    alloc: Global,
+    client: u32,
+    serial: u64,
+    symbol: &Symbol,
+) -> Result<(Key, Arc<Body>), NoMemory>
+    ensures key { IfOk result (λ x. x.0 ≡ element_key client symbol.now serial) }
+    ensures mark { IfOk result (λ x. arc_value x.1 ≡ key_text x.0) }
+    ensures is_name { OnOk result (IsName symbol.now) }
+{
+    let key = Key {
         kind: KeyKind::Version,
         name: symbol.name().copy(alloc)?,
         client,
@@ -149,17 +176,36 @@ fn prepare(
         first: 0,
         last: 0,
     };
-    let element = Entry {
-        prev: copied(alloc, was)?,
-        changes: marks_of(alloc, change)?,
-    };
-    Ok(Marking {
-        key: entry.copy(alloc)?,
-        body: Arc::new(alloc, Body::make(entry_bytes(alloc, &element)?))?,
-        mark: Arc::new(alloc, Body::make(entry.bytes(alloc)?))?,
-        changes: changes_of(alloc, change)?,
-        entry,
-    })
+    let mark = Arc::new(alloc, Body::make(key.bytes(alloc)?))?;
+    Ok((key, mark))
+}
+
+/// The element of a change, and the change, for its Refer.
+fn contents_of(
+    alloc: Global,
+    was: &Option<Key>,
+    change: &Change,
+) -> Result<(Arc<Body>, Arc<Changes>), NoMemory>
+    requires makes_none { is_version change.now ≡ false }
+    requires entry { (row : Row) → IsEntry (record { prev = was.now; changes = change_marks row change.now }) }
+    ensures spelled { IfOk result (λ x. (row : Row) → entry_of (arc_value x.0) ≡ Ok (record { prev = was.now; changes = all_marks row (change.now ∷ []) })) }
+    ensures changes { IfOk result (λ x. arc_value x.1 ≡ change.now ∷ []) }
+{
+    let bytes = element_bytes(alloc, was, change)?;
+    let body = Arc::new(alloc, Body::make(bytes))?;
+    let changes = changes_of(alloc, change)?;
+    Ok((body, changes))
+}
+
+/// The element of a change, which stands on `was`, as bytes.
+fn element_bytes(alloc: Global, was: &Option<Key>, change: &Change) -> Result<Vec<u8>, NoMemory>
+    requires makes_none { is_version change.now ≡ false }
+    requires entry { (row : Row) → IsEntry (record { prev = was.now; changes = change_marks row change.now }) }
+    ensures { IfOk result (λ bytes. (row : Row) → entry_of bytes.items ≡ Ok (record { prev = was.now; changes = all_marks row (change.now ∷ []) })) }
+{
+    let changes = marks_of(alloc, change)?;
+    let prev = copied(alloc, was)?;
+    entry_bytes(alloc, &Entry { prev, changes })
 }
 
 /// A copy of a key, where there is one.
