@@ -240,6 +240,11 @@ dead_rows_put h1 h2 o2 symbol state at is2 law law2 rows parted = all_of (IsInde
     let l = row_dead at.before symbol state lawful at.is rows parted row c in
     index_put_later o2 h1 h2 row is2 law2 (index_put_later at.later at.before h1 row at.split law (subst (IsIndexPut at.before) l.2 (index_put_of at.before symbol l.0 lawful l.1))))
 
+-- and still are later
+pub rows_put_later : (more h new : History) (rows : List LinkRow) → new ≡ more ++ h → ∥ IsLawful new ∥₁ → AllByRecursion (IsIndexPut h) rows → AllByRecursion (IsIndexPut new) rows
+rows_put_later more h new [] is lawful p = tt
+rows_put_later more h new (row ∷ rows) is lawful p = (index_put_later more h new row is lawful p.0, rows_put_later more h new rows is lawful p.1)
+
 module _ (h0 h1 h2 h3 h4 : History) (symbol : Name) (state : SymbolState) (o2 o3 o4 : History) (from : length h0 ≤ state.place)
     (at : IsStateAt h1 symbol state) (is2 : h2 ≡ o2 ++ h1) (is3 : h3 ≡ o3 ++ h2) (is4 : h4 ≡ o4 ++ h3)
     (law1 : ∥ IsLawful h1 ∥₁) (law2 : ∥ IsLawful h2 ∥₁) (law3 : ∥ IsLawful h3 ∥₁) (law4 : ∥ IsLawful h4 ∥₁) (rows : Rows) (parted : AreParted state.links state.tombs state.holds rows) where

@@ -8,6 +8,8 @@
 --     has_number, keeps_in, PartsFrom      a row among those of kept versions, or the others
 --     keeps, AreParted      the rows of kept versions, and the others
 --     piece_name, has_piece, NotesPiece, NotesPieces, NotesStaged      consumed pieces among some keys, in a set
+--     IsPartOf, IsParted      the parts of a walked state, and of a symbol's
+--     ReachesKept, MissesKept, ReachesOnly, ReachesDead      what the rows of kept versions reach, and what only the others do
 --     FoundDead           the dead keys of a symbol at a place
 use Rattle.std.specs.Prelude.{◌≡◌, ◌⊎◌, ℕ, ◌≤◌, Bool, true, false, ◌||◌, ◌&&◌, not, List, [], ◌∷◌, ◌++◌, map, filter, reverse, length, Option, Some, None, Contains, nat_eq, is_some}
 use Rattle.std.specs.List.{list_any}
@@ -26,10 +28,12 @@ use Rattle.store_model.specs.declared.hold.HoldRow.{HoldRow}
 use Rattle.store_model.specs.Library.{state_of, same_piece}
 use Rattle.store_model.specs.Links.{Linked, links, reached, IsUnneeded}
 use Rattle.store_model.specs.PlainLinks.{flat_put}
-use Rattle.version_chain.specs.States.{is_tomb}
+use Rattle.version_chain.specs.declared.state.SymbolState.{SymbolState}
+use Rattle.version_chain.specs.States.{is_tomb, IsStateAt}
 use Rattle.reply_model.specs.Tries.{IsKeyOf}
 use Rattle.reply_model.specs.Drops.{IsDeadIndex, IsDeadTile, IsDeadPiece}
 use Rattle.prune_rule.specs.declared.finding.Dead.{Dead}
+use Rattle.prune_rule.specs.declared.finding.Parted.{Parted}
 use Rattle.prune_rule.specs.declared.parting.Rows.{Rows}
 use Rattle.prune_rule.specs.declared.reaching.Reached.{Reached}
 
@@ -136,6 +140,53 @@ NotesPieces listed consumed old new = (other : Key) → has_key new other ≡ (h
 abbrev pub NotesStaged : History → Name → List PieceName → BTreeSet Key → BTreeSet Key → Type 0
 NotesStaged h symbol consumed old new =
     (other : Key) → has_key new other ≡ (has_key old other || ((is_some (stored h other) && (same_kind other.kind kinds.Staged && same_name other.name symbol)) && list_any (same_piece (piece_name other)) consumed))
+
+-- ---- one try
+
+-- the rows of a state, its consumed pieces and its place
+pub record IsPartOf (state : SymbolState) (parted : Parted) : Type 0 where
+  pub rows : AreParted state.links state.tombs state.holds parted.rows
+  pub consumed : parted.consumed ≡ state.consumed
+  pub place : parted.place ≡ state.place
+
+-- the parts of the symbol's state at a place of the call, where it has a reference
+pub record IsParted (old new : History) (symbol : Name) (parted : Parted) : Type 0 where
+  pub state : SymbolState
+  pub at : IsStateAt new symbol state
+  pub from : length old ≤ state.place
+  pub referred : is_some state.was ≡ true
+  pub parts : IsPartOf state parted
+
+-- the keys that the rows of kept versions reach
+pub record ReachesKept (old new : History) (rows : Rows) (kept : Reached) : Type 0 where
+  pub none : BTreeSet Key
+  pub empty : (key : Key) → has_key none key ≡ false
+  pub reached : Reaches old new rows.kept none kept
+
+-- the index of such a row is gone
+pub record MissesKept (old new : History) (rows : Rows) : Type 0 where
+  pub kept : Reached
+  pub reached : ReachesKept old new rows kept
+  pub gone : kept.gone ≡ true
+
+-- of such rows no index was gone in the middle, and these keys only the others reach
+pub record ReachesOnly (old new : History) (rows : Rows) (keys : BTreeSet Key) : Type 0 where
+  pub middle : History
+  pub first : History
+  pub first_is : middle ≡ first ++ old
+  pub second : History
+  pub second_is : new ≡ second ++ middle
+  pub kept : Reached
+  pub reached : ReachesKept old middle rows kept
+  pub there : kept.gone ≡ false
+  pub dead : Reached
+  pub others : Reaches middle new rows.dead kept.keys dead
+  pub keys_are : keys ≡ dead.keys
+
+-- the keys that only the other rows reach, or the index of a kept row is gone
+abbrev pub ReachesDead : History → History → Rows → Option (BTreeSet Key) → Type 0
+ReachesDead old new rows None = MissesKept old new rows
+ReachesDead old new rows (Some keys) = ReachesOnly old new rows keys
 
 -- ---- all of them
 

@@ -2,19 +2,22 @@
 
 ghost use Rattle.std.specs.Prelude.{◌≤◌, option_copied};
 ghost use Rattle.bucket_core.specs.Calls.{IsSteady};
+ghost use Rattle.bucket_core.specs.declared.event.Change.TheVariants.{Removed};
 ghost use Rattle.expr_clause.specs.declared.command.Command.TheVariants.{Delete, Prune};
 ghost use Rattle.reply_model.specs.declared.outcome.Outcome.TheVariants.{Deleted, Pruned};
 ghost use Rattle.version_chain.specs.Traces.{GoesOn};
+ghost use Rattle.version_chain.specs.Marking.{MayMark, DidMark};
 ghost use Rattle.prune_rule.specs.Tries.{DidAttempt, DidTries, IsMetBy};
 ghost use Rattle.prune_rule.specs.Replies.{IsLegalBurial};
 
 use crate::choosing::{Wish, choose};
+use base_types::Items;
 use bucket_core::{Bucket, Change};
 use frame_core::{Refusal, Refused};
 use key_kind::Symbol;
 use std::alloc::Global;
 use std::sync::Wait;
-use version_chain::{StoreLaw, mark_on, walk};
+use version_chain::{StoreLaw, SymbolState, mark_on, walk};
 
 /// Versions that are buried. A place is a number of events.
 #[derive(Clone, Copy, PartialEq, Eq)]
@@ -131,8 +134,7 @@ fn attempt<R: Wait, B: Bucket<StoreLaw>>(
             commit: None,
         }));
     }
-    let change = Change::Removed { versions: numbers };
-    match mark_on(rt, alloc, bucket, symbol, &state, &change) {
+    match mark_chosen(rt, alloc, bucket, symbol, state, numbers) {
         Ok(place) => Ok(Tried::Done(Buried {
             versions,
             place,
@@ -140,6 +142,23 @@ fn attempt<R: Wait, B: Bucket<StoreLaw>>(
         })),
         Err(refused) => met_by(refused),
     }
+}
+
+/// Buries the chosen versions over a walked state, in one try.
+fn mark_chosen<R: Wait, B: Bucket<StoreLaw>>(
+    rt: &R,
+    alloc: Global,
+    bucket: &mut B,
+    symbol: &Symbol,
+    state: SymbolState,
+    numbers: Items<u64>,
+) -> Result<u64, Refused>
+    requires may { MayMark (B.seen bucket.old) (B.number bucket.old) symbol.now state (Removed numbers) }
+    ensures steady { IsSteady B.number B.limit B.faults B.sole bucket.old bucket.new }
+    ensures did { DidMark (B.number bucket.old) (B.sole bucket.old) symbol.now state.place (Removed numbers) (B.limit bucket.old) (B.faults bucket.old) (B.faults bucket.new) (B.seen bucket.old) (B.seen bucket.new) result }
+{
+    let change = Change::Removed { versions: numbers };
+    mark_on(rt, alloc, bucket, symbol, &state, &change)
 }
 
 /// A try that was met is made again; any other refusal is that of the command.

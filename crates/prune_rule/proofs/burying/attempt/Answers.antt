@@ -32,8 +32,8 @@ returns-then-is_empty-clause-did g c =
     nothing_chosen (g.B.Bucket.number c.args.bucket.now) (g.B.Bucket.sole c.args.bucket.now) c.args.symbol.now c.args.wish (g.B.Bucket.limit c.args.bucket.now) (g.B.Bucket.faults c.args.bucket.now) (g.B.Bucket.seen c.args.bucket.now) (g.B.Bucket.seen c.walk.new.bucket) c.in_ok-state.state c.walk.ensures.looks seen c.in_ok-state.ensures.place (g.B.Bucket.faults c.walk.new.bucket)
     _ (sym told ∙ (c.in-Ok.ensures.chosen ∙ ap Ok none)) (c.len-versions.ensures ∙ ap length none) refl refl
 
-pub mark_on-requires : goal.mark_on-requires
-mark_on-requires g c =
+pub mark_chosen-requires : goal.mark_chosen-requires
+mark_chosen-requires g c =
     let seen = c.in_ok-state.ensures.state in
     let told = answer_told seen.before c.args.symbol.now c.in_ok-state.state (walked_lawful _ seen.later seen.before seen.split (g.met.B.Bucket.lawful c.walk.new.bucket)) seen.is c.args.wish in
     let some : c.in-Ok.numbers ≡ [] → ⊥ = search rules in
@@ -43,22 +43,22 @@ mark_on-requires g c =
           c.in-Ok.numbers (filled_of c.in-Ok.numbers some) (sym told ∙ c.in-Ok.ensures.chosen));
     }
 
-pub returns-in-Ok-mark_on-clause-did : goal.returns-in-Ok-mark_on-clause-did
-returns-in-Ok-mark_on-clause-did g c =
+pub returns-in-Ok-mark_chosen-clause-did : goal.returns-in-Ok-mark_chosen-clause-did
+returns-in-Ok-mark_chosen-clause-did g c =
     let seen = c.in_ok-state.ensures.state in
     let told = answer_told seen.before c.args.symbol.now c.in_ok-state.state (walked_lawful _ seen.later seen.before seen.split (g.met.B.Bucket.lawful c.walk.new.bucket)) seen.is c.args.wish in
     let some : c.in-Ok.numbers ≡ [] → ⊥ = search rules in
     inl (mark_buries (g.B.Bucket.number c.args.bucket.now) (g.B.Bucket.sole c.args.bucket.now) c.args.symbol.now c.args.wish (g.B.Bucket.limit c.args.bucket.now) (g.B.Bucket.faults c.args.bucket.now) (g.B.Bucket.seen c.args.bucket.now) (g.B.Bucket.seen c.walk.new.bucket) c.in_ok-state.state c.walk.ensures.looks seen c.in_ok-state.ensures.place
-    c.in-Ok.numbers (filled_of c.in-Ok.numbers some) (sym told ∙ c.in-Ok.ensures.chosen) (g.B.Bucket.seen c.mark_on.new.bucket) c.in-Ok-mark_on.place
-    (mark_steady g.B.Bucket.number g.B.Bucket.limit g.B.Bucket.faults g.B.Bucket.sole c.args.bucket.now c.walk.new.bucket c.walk.ensures.steady c.args.symbol.now c.in_ok-state.state.place (changes.Removed c.in-Ok.numbers) (g.B.Bucket.faults c.mark_on.new.bucket) (g.B.Bucket.seen c.walk.new.bucket) (g.B.Bucket.seen c.mark_on.new.bucket) (Ok c.in-Ok-mark_on.place) c.in-Ok-mark_on.ensures.did)
+    c.in-Ok.numbers (filled_of c.in-Ok.numbers some) (sym told ∙ c.in-Ok.ensures.chosen) (g.B.Bucket.seen c.mark_chosen.new.bucket) c.in-Ok-mark_chosen.place
+    (mark_steady g.B.Bucket.number g.B.Bucket.limit g.B.Bucket.faults g.B.Bucket.sole c.args.bucket.now c.walk.new.bucket c.walk.ensures.steady c.args.symbol.now c.in_ok-state.state.place (changes.Removed c.in-Ok.numbers) (g.B.Bucket.faults c.mark_chosen.new.bucket) (g.B.Bucket.seen c.walk.new.bucket) (g.B.Bucket.seen c.mark_chosen.new.bucket) (Ok c.in-Ok-mark_chosen.place) c.in-Ok-mark_chosen.ensures.did)
     _ c.len-versions.ensures refl refl)
 
-pub returns-clause-did : goal.returns-clause-did
-returns-clause-did g c =
+pub returns-in-Err-mark_chosen-clause-did : goal.returns-in-Err-mark_chosen-clause-did
+returns-in-Err-mark_chosen-clause-did g c =
     let seen = c.in_ok-state.ensures.state in
     let told = answer_told seen.before c.args.symbol.now c.in_ok-state.state (walked_lawful _ seen.later seen.before seen.split (g.met.B.Bucket.lawful c.walk.new.bucket)) seen.is c.args.wish in
     let some : c.in-Ok.numbers ≡ [] → ⊥ = search rules in
     mark_judged (g.B.Bucket.number c.args.bucket.now) (g.B.Bucket.sole c.args.bucket.now) c.args.symbol.now c.args.wish (g.B.Bucket.limit c.args.bucket.now) (g.B.Bucket.faults c.args.bucket.now) (g.B.Bucket.seen c.args.bucket.now) (g.B.Bucket.seen c.walk.new.bucket) c.in_ok-state.state c.walk.ensures.looks seen c.in_ok-state.ensures.place
-    c.in-Ok.numbers (filled_of c.in-Ok.numbers some) (sym told ∙ c.in-Ok.ensures.chosen) (g.B.Bucket.faults c.mark_on.new.bucket) (g.B.Bucket.seen c.mark_on.new.bucket) c.in-Err-mark_on.refused c.met_by.result
-    (mark_steady g.B.Bucket.number g.B.Bucket.limit g.B.Bucket.faults g.B.Bucket.sole c.args.bucket.now c.walk.new.bucket c.walk.ensures.steady c.args.symbol.now c.in_ok-state.state.place (changes.Removed c.in-Ok.numbers) (g.B.Bucket.faults c.mark_on.new.bucket) (g.B.Bucket.seen c.walk.new.bucket) (g.B.Bucket.seen c.mark_on.new.bucket) (Err c.in-Err-mark_on.refused) c.in-Err-mark_on.ensures.did)
+    c.in-Ok.numbers (filled_of c.in-Ok.numbers some) (sym told ∙ c.in-Ok.ensures.chosen) (g.B.Bucket.faults c.mark_chosen.new.bucket) (g.B.Bucket.seen c.mark_chosen.new.bucket) c.in-Err-mark_chosen.refused c.met_by.result
+    (mark_steady g.B.Bucket.number g.B.Bucket.limit g.B.Bucket.faults g.B.Bucket.sole c.args.bucket.now c.walk.new.bucket c.walk.ensures.steady c.args.symbol.now c.in_ok-state.state.place (changes.Removed c.in-Ok.numbers) (g.B.Bucket.faults c.mark_chosen.new.bucket) (g.B.Bucket.seen c.walk.new.bucket) (g.B.Bucket.seen c.mark_chosen.new.bucket) (Err c.in-Err-mark_chosen.refused) c.in-Err-mark_chosen.ensures.did)
     c.met_by.ensures
