@@ -1,5 +1,5 @@
 // One thread pulls tasks and carries them out.
-ghost use Rattle.std.specs.Prelude.{◌≡◌, ◌≤◌, ◌++◌, [], ℕ, List, OnOk, IfOk};
+ghost use Rattle.std.specs.Prelude.{◌≡◌, [], OnOk, IfOk};
 ghost use Rattle.std.specs.List.Sorted.{IsPermutation};
 ghost use Rattle.task_queue.specs.Hands.{numbers};
 ghost use Rattle.task_queue.specs.Tasks.{taken, gathered, IsOf, IsLastOf};
@@ -23,8 +23,9 @@ fn pull_all<R: Wait, T: Drop, S: Drop, W: Work<T, S>>(
 ) -> Result<(), NoMemory>
     requires tasks { queue.now.tasks ≡ W.tasks work.now }
     requires puller { IsOf queue.now puller.old }
+    requires results { results.old.items ≡ results_of (W.gives work.now) (taken puller.old) }
     ensures puller { IsOf queue.now puller.new }
-    ensures more { OnOk result ((more : List ℕ) × (taken puller.new ≡ taken puller.old ++ more) × (results.new.items ≡ results.old.items ++ results_of (W.gives work.now) more)) }
+    ensures results { OnOk result (results.new.items ≡ results_of (W.gives work.now) (taken puller.new)) }
 {
     let mut scratch = work.scratch(alloc)?;
     for _ in rt.forever() {

@@ -28,7 +28,12 @@ fn both<T: Drop>(
 }
 
 /// Each puller pulls in a thread of its own, this one in the caller's. All have returned when this does.
-pub(crate) fn run_pullers<R: Threads + Wait + Sync, T: Send + Drop, S: Send + Drop, W: Work<T, S> + Sync>(
+pub(crate) fn run_pullers<
+    R: Threads + Wait + Sync,
+    T: Send + Drop,
+    S: Send + Drop,
+    W: Work<T, S> + Sync,
+>(
     rt: &R,
     alloc: Global,
     work: &W,
@@ -55,7 +60,7 @@ pub(crate) fn run_pullers<R: Threads + Wait + Sync, T: Send + Drop, S: Send + Dr
     let ((mut pullers, theirs), (puller, mine)) = join(
         rt,
         move || -> (Pullers, Result<Vec<Given<T>>, NoMemory>)
-            requires { IsSync R.row × IsSync W.row × IsSend T.row × IsSend S.row × (queue.now.tasks ≡ W.tasks work.now) × IsFresh queue.now other × AreFresh queue.now pullers }
+            requires { IsSync R.row × IsSync W.row × IsSend T.row × IsSend S.row × (queue.now.tasks ≡ W.tasks work.now) × AreFresh queue.now other pullers }
             ensures { CameBack queue.entry.now pullers result.0 × IfOk result.1 (λ v. v.items ≡ results_of (W.gives work.entry.now) (all_taken result.0)) }
         { run_pullers(rt, alloc, work, queue, pullers, other) },
         move || -> (Puller, Result<Vec<Given<T>>, NoMemory>)

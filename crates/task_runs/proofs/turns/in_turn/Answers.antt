@@ -1,4 +1,4 @@
-use Rattle.std.proofs.Common.{arith, ◌≡◌, ◌+◌, ◌++◌, ◌∷◌, [], sym, ap, ◌∙◌, map}
+use Rattle.std.proofs.Common.{arith, ◌+◌, ◌++◌, ◌∷◌, [], sym, ap, ◌∙◌, map}
 use Rattle.std.proofs.lemmas.List.{map-append}
 use Rattle.task_queue.specs.Hands.{numbers}
 use Rattle.task_queue.proofs.Balance.{numbers_more}
