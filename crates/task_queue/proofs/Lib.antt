@@ -1,3 +1,3 @@
-mod Balance
+pub mod Balance
 mod Dealing
 mod Told
