@@ -33,10 +33,42 @@ use Rattle.script_lang.specs.Fronts.{◌>>=◌}
 
 -- no outcome is want of memory, a failure without a cause, or a full store below the limit
 outcome-uncut : (h : History) (client : Client) (c : Command) (r : Reply) (w : Window) (o : Outcome) → IsLegalOutcome h client c r w o → r.place < client.limit → w.faulted ≡ false → wants_memory o ≡ false → is_cut o ≡ false
+outcome-uncut h client c r w (outcomes.Committed version) legal below calm memory = refl
+outcome-uncut h client c r w outcomes.Staged legal below calm memory = refl
+outcome-uncut h client c r w (outcomes.Finalized version pieces) legal below calm memory = refl
+outcome-uncut h client c r w (outcomes.Discarded pieces) legal below calm memory = refl
+outcome-uncut h client c r w (outcomes.Deleted versions) legal below calm memory = refl
+outcome-uncut h client c r w (outcomes.Pruned versions) legal below calm memory = refl
+outcome-uncut h client c r w (outcomes.Freed tiles indexes staged) legal below calm memory = refl
+outcome-uncut h client c r w (outcomes.Kept held) legal below calm memory = refl
+outcome-uncut h client c r w outcomes.Unkept legal below calm memory = refl
+outcome-uncut h client c r w (outcomes.Whole version frame) legal below calm memory = refl
+outcome-uncut h client c r w (outcomes.Versions rows) legal below calm memory = refl
+outcome-uncut h client c r w (outcomes.Symbols rows) legal below calm memory = refl
+outcome-uncut h client c r w (outcomes.Snapshots names) legal below calm memory = refl
+outcome-uncut h client c r w (outcomes.Keys tiles indexes versions refs staged) legal below calm memory = refl
+outcome-uncut h client c r w (outcomes.Refused refusals.NoSuchSymbol) legal below calm memory = refl
+outcome-uncut h client c r w (outcomes.Refused (refusals.NoSuchVersion asked)) legal below calm memory = refl
+outcome-uncut h client c r w (outcomes.Refused (refusals.VersionGone version)) legal below calm memory = refl
+outcome-uncut h client c r w (outcomes.Refused (refusals.Moved now)) legal below calm memory = refl
+outcome-uncut h client c r w (outcomes.Refused (refusals.Unsorted row)) legal below calm memory = refl
+outcome-uncut h client c r w (outcomes.Refused (refusals.SchemaDiffers column)) legal below calm memory = refl
+outcome-uncut h client c r w (outcomes.Refused (refusals.AppendBefore last first)) legal below calm memory = refl
+outcome-uncut h client c r w (outcomes.Refused (refusals.OutsideRange row)) legal below calm memory = refl
+outcome-uncut h client c r w (outcomes.Refused refusals.EmptyUpdate) legal below calm memory = refl
+outcome-uncut h client c r w (outcomes.Refused (refusals.NoSuchColumn clause position)) legal below calm memory = refl
+outcome-uncut h client c r w (outcomes.Refused (refusals.TypeMismatch clause)) legal below calm memory = refl
+outcome-uncut h client c r w (outcomes.Refused (refusals.Overflow clause row)) legal below calm memory = refl
+outcome-uncut h client c r w (outcomes.Refused (refusals.GroupOverflow clause group)) legal below calm memory = refl
+outcome-uncut h client c r w (outcomes.Refused (refusals.NotTimeIndexed clause)) legal below calm memory = refl
+outcome-uncut h client c r w (outcomes.Refused refusals.SnapshotExists) legal below calm memory = refl
+outcome-uncut h client c r w (outcomes.Refused refusals.NoSuchSnapshot) legal below calm memory = refl
+outcome-uncut h client c r w (outcomes.Refused refusals.NoStaged) legal below calm memory = refl
+outcome-uncut h client c r w (outcomes.Refused (refusals.StagedOverlap piece)) legal below calm memory = refl
+outcome-uncut h client c r w (outcomes.Refused (refusals.TooLarge what limit)) legal below calm memory = refl
 outcome-uncut h client c r w (outcomes.Refused refusals.NoMemory) legal below calm memory = absurd (true≢false memory)
 outcome-uncut h client c r w (outcomes.Refused refusals.StoreFault) legal below calm memory = absurd (true≢false (sym legal ∙ calm))
 outcome-uncut h client c r w (outcomes.Refused (refusals.Spent count)) legal below calm memory = absurd (omega (arith, legal.here, legal.full, below))
-outcome-uncut h client c r w outcome legal below calm memory = refl
 
 or-first : (a b : Bool) → (a || b) ≡ false → a ≡ false
 or-first true b is = is

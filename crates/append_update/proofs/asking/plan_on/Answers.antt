@@ -1,7 +1,8 @@
-use Rattle.std.proofs.Common.{rules, ◌≡◌, length, sym, subst, ap, ◌∙◌, inr, None, Some, Option, Result, Ok, Err, false, w64, to_z, of_z}
+use Rattle.std.proofs.Common.{rules, ◌≡◌, length, sym, subst, ap, ◌∙◌, inl, inr, None, Some, Option, Result, Ok, Err, false, w64, to_z, of_z}
 use Rattle.std.specs.List.{list_any}
 use Rattle.std.specs.Prelude.{IfOk, IfErr, IfSome}
 use Rattle.bucket_core.specs.History.{AllByOthers, history_at}
+use Rattle.version_chain.proofs.SteadyLemmas.{on_err}
 use Rattle.version_chain.specs.Tips.{IsTipOf}
 use Rattle.version_chain.specs.Marking.{own_refers}
 use Rattle.frame_write.specs.declared.pieces.LinkPlan.{LinkPlan}
@@ -11,9 +12,9 @@ use Rattle.frame_read.specs.Fetches.{IsTargetIndex}
 use Rattle.frame_read.proofs.LoopLemmas.{looks_more}
 use Rattle.append_update.specs.declared.base.Base.{Base}
 use Rattle.append_update.specs.Asking.{answer_to, IsPlanOf, IsAlone, FitsBase}
-use Rattle.append_update.specs.Looking.{RefusesPlan}
+use Rattle.append_update.specs.Looking.{NoBase, RefusesBase, RefusesPlan}
 use Rattle.append_update.specs.Newest.{IsBase}
-use Rattle.append_update.proofs.LaterLemmas.{if_err}
+use Rattle.append_update.proofs.LaterLemmas.{if_err, base_fits}
 use Rattle.append_update.proofs.BaseLemmas.{walked_here}
 use Rattle.append_update.proofs.PlanLemmas.{base_found, alone_plan, alone_refused}
 use Rattle.append_update.proofs.TryLemmas.{plan_wider}
@@ -107,3 +108,15 @@ returns-in-Ok-None-clause-refused g c =
           (subst (λ (o : Option LinkPlan). IsAlone c.args.wish.now (to_z w64 (of_z w64 c.stamp_of.result)) o) c.in-Ok-None.field-0-is c.in-Ok-None.ensures))
           ∙ ap Err (sym c.missing.ensures);
     })
+
+pub returns-in_err-base-clause-refused : goal.returns-in_err-base-clause-refused
+returns-in_err-base-clause-refused g c =
+    let old = g.B.Bucket.seen c.args.bucket.now in
+    let new = g.B.Bucket.seen c.base_of.new.bucket in
+    let h = history_at old c.args.tip.now.place in
+    let at = c.requires.walked.0 in
+    let place : c.args.tip.now.place ≡ length h = at.place ∙ ap length (sym (walked_here old c.args.symbol.now c.args.options.now.prune c.args.tip.now at)) in
+    on_err (λ r. IfErr r (RefusesPlan (g.B.Bucket.number c.args.bucket.now) c.args.symbol.now (FitsBase c.args.wish.now) (answer_to c.args.wish.now c.args.options.now.prune c.args.options.now.at) h (g.B.Bucket.faults c.args.bucket.now) (g.B.Bucket.faults c.base_of.new.bucket) old new))
+    c.from_residual.result c.in_err-base.field-0.0 c.from_residual.ensures.0 c.from_residual.ensures.1
+    (inl (base_fits (g.B.Bucket.number c.args.bucket.now) c.args.symbol.now NoBase (FitsBase c.args.wish.now) (length h) (g.B.Bucket.faults c.args.bucket.now) (g.B.Bucket.faults c.base_of.new.bucket) old new c.in_err-base.field-0.0 (λ v e none. absurd none)
+    (subst (λ n. RefusesBase (g.B.Bucket.number c.args.bucket.now) c.args.symbol.now NoBase n (g.B.Bucket.faults c.args.bucket.now) (g.B.Bucket.faults c.base_of.new.bucket) old new c.in_err-base.field-0.0) place c.in_err-base.ensures.refused)))

@@ -10,7 +10,7 @@ use Rattle.frame_read.proofs.LoopLemmas.{looks_more, steady_more}
 use Rattle.frame_write.specs.Links.{FitsPlan, IsLinkMade}
 use Rattle.frame_write.proofs.MeetLemmas.{later_not_own, none_in_both, others_refer_not}
 use Rattle.frame_write.proofs.TriesLemmas.{try_steady}
-use Rattle.append_update.specs.Asking.{answer_to, IsPlanOf}
+use Rattle.append_update.specs.Asking.{answer_to, IsPlanOf, FitsBase}
 use Rattle.append_update.specs.Looking.{RefusesPlan}
 use Rattle.append_update.proofs.BaseLemmas.{walked_here}
 use Rattle.append_update.proofs.TryLemmas.{tip_later, Did, look_ends, plan_wider, plan_ends, commit_ends}
@@ -59,13 +59,13 @@ returns-in_err-plan-clause-did g c =
     (g.B.Bucket.seen c.args.bucket.now) (g.B.Bucket.seen c.walk_tip.new.bucket) (g.B.Bucket.seen c.plan_on.new.bucket) c.walk_tip.ensures.steady.same_number c.walk_tip.ensures.steady.stays_sole c.walk_tip.ensures.looks c.plan_on.ensures.looks in
     let here = walked_here (g.B.Bucket.seen c.walk_tip.new.bucket) c.args.symbol.now c.args.options.now.prune c.in_ok-tip.tip walked in
     let answer = answer_to c.args.wish.now c.args.options.now.prune c.args.options.now.at in
-    let refuses = subst (λ n. RefusesPlan n c.args.symbol.now answer walked.before (g.B.Bucket.faults c.walk_tip.new.bucket) (g.B.Bucket.faults c.plan_on.new.bucket) (g.B.Bucket.seen c.walk_tip.new.bucket) (g.B.Bucket.seen c.plan_on.new.bucket) c.in_err-plan.field-0.0) c.walk_tip.ensures.steady.same_number
-    (subst (λ h. RefusesPlan (g.B.Bucket.number c.walk_tip.new.bucket) c.args.symbol.now answer h (g.B.Bucket.faults c.walk_tip.new.bucket) (g.B.Bucket.faults c.plan_on.new.bucket) (g.B.Bucket.seen c.walk_tip.new.bucket) (g.B.Bucket.seen c.plan_on.new.bucket) c.in_err-plan.field-0.0) here c.in_err-plan.ensures.refused) in
+    let refuses = subst (λ n. RefusesPlan n c.args.symbol.now (FitsBase c.args.wish.now) answer walked.before (g.B.Bucket.faults c.walk_tip.new.bucket) (g.B.Bucket.faults c.plan_on.new.bucket) (g.B.Bucket.seen c.walk_tip.new.bucket) (g.B.Bucket.seen c.plan_on.new.bucket) c.in_err-plan.field-0.0) c.walk_tip.ensures.steady.same_number
+    (subst (λ h. RefusesPlan (g.B.Bucket.number c.walk_tip.new.bucket) c.args.symbol.now (FitsBase c.args.wish.now) answer h (g.B.Bucket.faults c.walk_tip.new.bucket) (g.B.Bucket.faults c.plan_on.new.bucket) (g.B.Bucket.seen c.walk_tip.new.bucket) (g.B.Bucket.seen c.plan_on.new.bucket) c.in_err-plan.field-0.0) here c.in_err-plan.ensures.refused) in
     on_err (Did (g.B.Bucket.number c.args.bucket.now) (g.B.Bucket.sole c.args.bucket.now) c.args.symbol.now c.args.wish.now c.args.options.now (g.B.Bucket.limit c.args.bucket.now) (g.B.Bucket.faults c.args.bucket.now) (g.B.Bucket.faults c.plan_on.new.bucket) (g.B.Bucket.seen c.args.bucket.now) (g.B.Bucket.seen c.plan_on.new.bucket))
     c.from_residual-in_err-plan.result c.in_err-plan.field-0.0 c.from_residual-in_err-plan.ensures.0 c.from_residual-in_err-plan.ensures.1
     (plan_ends (g.B.Bucket.number c.args.bucket.now) (g.B.Bucket.sole c.args.bucket.now) c.args.symbol.now c.args.wish.now c.args.options.now (g.B.Bucket.limit c.args.bucket.now) (g.B.Bucket.faults c.args.bucket.now) (g.B.Bucket.faults c.plan_on.new.bucket) (g.B.Bucket.seen c.args.bucket.now) (g.B.Bucket.seen c.plan_on.new.bucket)
     c.in_ok-tip.tip c.in_err-plan.field-0.0 looks (tip_later (g.B.Bucket.seen c.walk_tip.new.bucket) (g.B.Bucket.seen c.plan_on.new.bucket) c.plan_on.ensures.looks.others c.args.symbol.now c.args.options.now.prune c.in_ok-tip.tip c.plan_on.ensures.looks.is walked) c.in_ok-tip.ensures.place.from
-    (plan_wider (g.B.Bucket.number c.args.bucket.now) c.args.symbol.now answer walked.before (g.B.Bucket.faults c.args.bucket.now) (g.B.Bucket.faults c.walk_tip.new.bucket) (g.B.Bucket.faults c.plan_on.new.bucket) c.walk_tip.ensures.looks.others
+    (plan_wider (g.B.Bucket.number c.args.bucket.now) c.args.symbol.now (FitsBase c.args.wish.now) answer walked.before (g.B.Bucket.faults c.args.bucket.now) (g.B.Bucket.faults c.walk_tip.new.bucket) (g.B.Bucket.faults c.plan_on.new.bucket) c.walk_tip.ensures.looks.others
     (g.B.Bucket.seen c.args.bucket.now) (g.B.Bucket.seen c.walk_tip.new.bucket) (g.B.Bucket.seen c.plan_on.new.bucket) c.in_err-plan.field-0.0 c.walk_tip.ensures.steady.faults_rise c.walk_tip.ensures.looks.is refuses))
 
 pub returns-clause-did : goal.returns-clause-did
