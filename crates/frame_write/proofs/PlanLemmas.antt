@@ -302,18 +302,17 @@ buries_staging st more _ (buries_live some) = buries_live some
 pub record IsMade (client : ℕ) (symbol : Name) (version serial : ℕ) (frame : Frame) (tiles : List Tile) (at : ℤ) (tip : ChainTip) (plan : Plan) : Type 0 where
   pub made : List Prepared
   pub index : Prepared
-  pub element : Prepared
+  pub element : Bytes
   pub row : LinkRow
   pub version_is : version ≡ tip.next
   pub made_are : puts_seen made ≡ tile_puts (placed client symbol version serial tiles)
-  pub puts_are : plan.puts ≡ (made ++ index ∷ []) ++ element ∷ []
+  pub puts_are : puts_seen plan.puts ≡ puts_seen (made ++ index ∷ []) ++ (element_key client symbol (suc (serial + length tiles)), element) ∷ []
   pub index_key_is : index.key ≡ index_key client symbol version (serial + length tiles) frame
   pub index_spelled : index_of (arc_value index.body) ≡ Ok (record { schema = frame.schema; rows = length frame.rows; slots = slots_of (placed client symbol version serial tiles) })
-  pub element_key_is : element.key ≡ element_key client symbol (suc (serial + length tiles))
-  pub element_spelled : entry_of (arc_value element.body) ≡ Ok (record { prev = tip.was; changes = marks.Link row ∷ map marks.Tomb tip.buried })
+  pub element_spelled : entry_of element ≡ Ok (record { prev = tip.was; changes = marks.Link row ∷ map marks.Tomb tip.buried })
   pub was_is : plan.was ≡ tip.was
   pub number_is : plan.version ≡ version
-  pub entry_is : plan.entry ≡ element.key
+  pub entry_is : plan.entry ≡ element_key client symbol (suc (serial + length tiles))
   pub mark_is : arc_value plan.mark ≡ key_text plan.entry
   pub changes_are : arc_value plan.changes ≡ changes.Wrote frame at ∷ removed tip.buried
   pub row_number : row.version ≡ version
@@ -326,23 +325,26 @@ module _ (client serial : ℕ) (symbol : Name) (version : ℕ) (frame : Frame) (
     (at : ℤ) (prune : Bool) (tip : ChainTip) (plan : Plan) (m : IsMade client symbol version serial frame tiles at tip plan)
     (before : History) (walked : IsTipOf before symbol prune tip) where
   puts_seen_are : puts_seen plan.puts ≡ tile_puts (placed client symbol version serial tiles) ++ (index_key client symbol version (serial + length tiles) frame, arc_value m.index.body)
-      ∷ (element_key client symbol (suc (serial + length tiles)), arc_value m.element.body) ∷ []
+      ∷ (element_key client symbol (suc (serial + length tiles)), m.element) ∷ []
   puts_seen_are =
-      ap puts_seen (m.puts_are ∙ append_assoc m.made (m.index ∷ []) (m.element ∷ []))
-      ∙ (seen_append m.made (m.index ∷ m.element ∷ [])
-      ∙ (ap (λ ps. ps ++ put_seen m.index ∷ put_seen m.element ∷ []) m.made_are
-      ∙ (ap (λ k. tile_puts (placed client symbol version serial tiles) ++ (k, arc_value m.index.body) ∷ put_seen m.element ∷ []) m.index_key_is
-      ∙ ap (λ k. tile_puts (placed client symbol version serial tiles) ++ (index_key client symbol version (serial + length tiles) frame, arc_value m.index.body) ∷ (k, arc_value m.element.body) ∷ []) m.element_key_is)))
+      m.puts_are
+      ∙ (ap (λ ps. ps ++ entered ∷ []) (seen_append m.made (m.index ∷ []))
+      ∙ (append_assoc (puts_seen m.made) (put_seen m.index ∷ []) (entered ∷ [])
+      ∙ (ap (λ ps. ps ++ put_seen m.index ∷ entered ∷ []) m.made_are
+      ∙ ap (λ k. tile_puts (placed client symbol version serial tiles) ++ (k, arc_value m.index.body) ∷ entered ∷ []) m.index_key_is)))
+    where
+      entered : Key × Bytes
+      entered = (element_key client symbol (suc (serial + length tiles)), m.element)
 
   removed_are : removed tip.buried ≡ pruned (state_of before symbol) prune
   removed_are = pruned_is (state_of before symbol) prune tip.buried walked.buried
 
-  element_spells : entry_of (arc_value m.element.body) ≡ Ok (record { prev = reference before symbol; changes = marks_of m.row (changes_on before symbol frame at prune) })
+  element_spells : entry_of (m.element) ≡ Ok (record { prev = reference before symbol; changes = marks_of m.row (changes_on before symbol frame at prune) })
   element_spells = m.element_spelled ∙ (ap (λ was. Ok (record { prev = was; changes = marks.Link m.row ∷ map marks.Tomb tip.buried })) walked.was
       ∙ ap (λ ms. Ok (record { prev = reference before symbol; changes = ms })) (marks_are m.row frame at tip.buried ∙ ap (λ rest. marks_of m.row (changes.Wrote frame at ∷ rest)) removed_are))
 
   key_is : plan.entry ≡ element_key client symbol (suc (serial + length tiles))
-  key_is = m.entry_is ∙ m.element_key_is
+  key_is = m.entry_is
 
   index_row : m.row.index ≡ index_key client symbol version (serial + length tiles) frame
   index_row = m.row_index ∙ m.index_key_is
@@ -360,17 +362,17 @@ module _ (client serial : ℕ) (symbol : Name) (version : ℕ) (frame : Frame) (
       mark = m.mark_is;
       is_try = subst (λ ps. IsTry symbol true ps plan.entry) (sym puts_seen_are)
           (subst (IsTry symbol true _) (sym key_is)
-          (try_is client serial symbol version frame cutting tiles storable tiled try_fits small (arc_value m.index.body) (arc_value m.element.body) m.index_spelled m.row tip.was (map marks.Tomb tip.buried) index_row m.element_spelled));
+          (try_is client serial symbol version frame cutting tiles storable tiled try_fits small (arc_value m.index.body) (m.element) m.index_spelled m.row tip.was (map marks.Tomb tip.buried) index_row m.element_spelled));
       index_put = record {
         tiles = tile_puts (placed client symbol version serial tiles);
         key = index_key client symbol version (serial + length tiles) frame;
         body = arc_value m.index.body;
-        element = (element_key client symbol (suc (serial + length tiles)), arc_value m.element.body);
+        element = (element_key client symbol (suc (serial + length tiles)), m.element);
         is = puts_seen_are;
         spelled = m.index_spelled;
       };
       puts = subst (ArePutsFrom client serial) (sym puts_seen_are)
-          (puts_from client serial symbol version frame cutting tiles storable tiled try_fits small (arc_value m.index.body) (arc_value m.element.body) m.index_spelled (ok_is_ok (entry_of (arc_value m.element.body)) _ m.element_spelled));
+          (puts_from client serial symbol version frame cutting tiles storable tiled try_fits small (arc_value m.index.body) (m.element) m.index_spelled (ok_is_ok (entry_of (m.element)) _ m.element_spelled));
       may_refer = λ more unreferred lawful own.
           let same = as_it_was before more symbol unreferred in
           let standing = subst (AreOwnPuts (more ++ before) client) puts_seen_are own in
@@ -378,9 +380,9 @@ module _ (client serial : ℕ) (symbol : Name) (version : ℕ) (frame : Frame) (
           (wrote_may_follow (more ++ before) client symbol frame at (reference before symbol) plan.entry (pruned (state_of before symbol) prune) m.row storable
           (m.row_number ∙ (number ∙ sym (ap next_number same.state_is))) m.row_stamp m.row_rows
           (subst (λ st. BuriesLive st (pruned (state_of before symbol) prune)) (sym same.state_is) (buries_staging (state_of before symbol) same.more (pruned (state_of before symbol) prune) (buries_pruned (state_of before symbol) prune)))
-          (link_put client serial symbol version frame cutting tiles storable tiled try_fits small (arc_value m.index.body) (arc_value m.element.body) m.index_spelled (more ++ before) m.row m.row_number index_row standing)
+          (link_put client serial symbol version frame cutting tiles storable tiled try_fits small (arc_value m.index.body) (m.element) m.index_spelled (more ++ before) m.row m.row_number index_row standing)
           (subst (λ k. IsPutEntry (more ++ before) client symbol k (record { prev = reference before symbol; changes = marks_of m.row (changes_on before symbol frame at prune) })) (sym key_is)
-          (entry_put client serial symbol version frame cutting tiles storable tiled try_fits small (arc_value m.index.body) (arc_value m.element.body) m.index_spelled (more ++ before) (reference before symbol) (marks_of m.row (changes_on before symbol frame at prune)) element_spells standing)));
+          (entry_put client serial symbol version frame cutting tiles storable tiled try_fits small (arc_value m.index.body) (m.element) m.index_spelled (more ++ before) (reference before symbol) (marks_of m.row (changes_on before symbol frame at prune)) element_spells standing)));
     };
     changes = changes_are ∙ (λ i. changes.Wrote frame (sym at_is i) ∷ pruned (state_of before symbol) (sym prune_is i));
     puts = ap length puts_seen_are ∙ (length-append (tile_puts (placed client symbol version serial tiles)) _ ∙ ap (λ n. n + 2) (tiles_counted ∙ ap (λ c. length (parts (grid_of frame c))) (sym cutting_is)));

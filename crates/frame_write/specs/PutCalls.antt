@@ -1,7 +1,9 @@
 -- What several calls of a try did.
 --     StoppedCalls        several calls of which one was refused
 --     DidPuts, DidDrops   what several puts and several drops did
-use Rattle.std.specs.Prelude.{ℕ, Bool, List, map, take, Result, Ok, Err}
+--     DidUndo             how a try ended that was met and drops its keys again
+use Rattle.std.specs.Prelude.{◌≡◌, ◌⊎◌, ℕ, Bool, List, map, take, Result, Ok, Err}
+use Rattle.frame_core.specs.declared.refusal.Refusal.TheVariants as refusals
 use Rattle.frame_core.specs.declared.refusal.Refused.{Refused}
 use Rattle.key_kind.specs.declared.key.Key.{Key}
 use Rattle.bucket_core.specs.declared.event.Event.{Event}
@@ -32,3 +34,9 @@ DidPuts client sole limit before now old new puts (Err refused) = StoppedCalls c
 abbrev pub DidDrops : ℕ → Bool → ℕ → ℕ → ℕ → History → History → List (Key × Bytes) → Result Unit Refused → Type 0
 DidDrops client sole limit before now old new puts (Ok done) = Went client sole old new (map (drop_of client) puts)
 DidDrops client sole limit before now old new puts (Err refused) = StoppedCalls client sole limit before now old new (map (drop_of client) puts) refused
+
+-- the keys were dropped, and the try was met by the commit of this place; or a drop was refused
+abbrev pub DidUndo : ℕ → Bool → ℕ → ℕ → ℕ → History → History → List (Key × Bytes) → ℕ → Refused → Type 0
+DidUndo client sole limit before now old new puts met refused =
+    (Went client sole old new (map (drop_of client) puts) × (refused ≡ record { place = met; why = refusals.Moved met }))
+    ⊎ StoppedCalls client sole limit before now old new (map (drop_of client) puts) refused

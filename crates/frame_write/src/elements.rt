@@ -5,14 +5,14 @@ ghost use Rattle.key_kind.specs.KeyText.{key_text};
 ghost use Rattle.store_model.specs.Commits.{Rising};
 ghost use Rattle.store_model.specs.ChainText.{entry_of};
 ghost use Rattle.store_model.specs.declared.chain.ChainMark.TheVariants.{Link, Tomb};
-ghost use Rattle.version_chain.specs.Entries.{IsLink};
+ghost use Rattle.version_chain.specs.Entries.{IsEntry, IsLink};
 ghost use Rattle.version_chain.specs.Marking.{element_key};
 ghost use Rattle.version_chain.specs.MarkPlans.{IsElementKey};
 
 use crate::puts::Prepared;
 use base_types::{Items, Keep, NoMemory};
 use bucket_core::Body;
-use key_kind::{Key, KeyKind, Symbol};
+use key_kind::{Key, KeyKind, Name, Symbol};
 use std::alloc::Global;
 use std::sync::Arc;
 use store_model::{ChainMark, Entry, LinkRow};
@@ -24,31 +24,61 @@ pub(crate) fn place_element(
     client: u32,
     serial: u64,
     symbol: &Symbol,
-    was: Option<Key>,
+    was: &Option<Key>,
     row: LinkRow,
     buried: &[u64],
 ) -> Result<Prepared, NoMemory>
-    requires was { IfSome was (IsElementKey symbol.now) }
+    requires was { IfSome was.now (IsElementKey symbol.now) }
     requires link { IsLink row }
     requires rising { Rising buried.now }
     ensures key { IfOk result (λ put. put.key ≡ element_key client symbol.now serial) }
-    ensures body { IfOk result (λ put. entry_of (arc_value put.body) ≡ Ok (record { prev = was; changes = Link row ∷ map Tomb buried.now })) }
+    ensures body { IfOk result (λ put. entry_of (arc_value put.body) ≡ Ok (record { prev = was.now; changes = Link row ∷ map Tomb buried.now })) }
 {
-    let key = Key {
+    let name = symbol.name();
+    let body = element_body(alloc, was, row, buried)?;
+    let key = key_of(alloc, client, serial, name)?;
+    Ok(Prepared { key, body })
+}
+
+/// The key of an element.
+fn key_of(alloc: Global, client: u32, serial: u64, name: &Name) -> Result<Key, NoMemory>
+    ensures { IfOk result (λ key. key ≡ element_key client name.now serial) }
+{
+    Ok(Key {
         kind: KeyKind::Version,
-        name: symbol.name().copy(alloc)?,
+        name: name.copy(alloc)?,
         client,
         serial,
         version: 0,
         first: 0,
         last: 0,
-    };
-    let entry = Entry {
-        prev: was,
-        changes: marks_of(alloc, row, buried)?,
-    };
-    let body = Arc::new(alloc, Body::make(entry_bytes(alloc, &entry)?))?;
-    Ok(Prepared { key, body })
+    })
+}
+
+/// The element of a new version, as bytes.
+fn element_body(
+    alloc: Global,
+    was: &Option<Key>,
+    row: LinkRow,
+    buried: &[u64],
+) -> Result<Arc<Body>, NoMemory>
+    requires { IsEntry (record { prev = was.now; changes = Link row ∷ map Tomb buried.now }) }
+    ensures { IfOk result (λ body. entry_of (arc_value body) ≡ Ok (record { prev = was.now; changes = Link row ∷ map Tomb buried.now })) }
+{
+    let changes = marks_of(alloc, row, buried)?;
+    let prev = copied(alloc, was)?;
+    let bytes = entry_bytes(alloc, &Entry { prev, changes })?;
+    Ok(Arc::new(alloc, Body::make(bytes))?)
+}
+
+/// A copy of a key, where there is one.
+pub(crate) fn copied(alloc: Global, key: &Option<Key>) -> Result<Option<Key>, NoMemory>
+    ensures { IfOk result (λ copy. copy ≡ key.now) }
+{
+    match key {
+        None => Ok(None),
+        Some(key) => Ok(Some(key.copy(alloc)?)),
+    }
 }
 
 /// The marks of a new version: its link, and the tombs of these versions.

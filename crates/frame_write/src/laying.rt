@@ -14,6 +14,7 @@ ghost use Rattle.frame_write.specs.SlotKeys.{first_of, last_of, slots_key};
 ghost use Rattle.frame_write.specs.Versions.{index_with};
 
 use crate::pieces::Piece;
+use crate::placing::{tile_key, tile_put};
 use crate::puts::Prepared;
 use crate::tiles::{Tile, tiles_of};
 use base_types::{Items, Keep, NoMemory};
@@ -74,19 +75,8 @@ impl Layout {
         let Some(next) = self.next.checked_add(1) else {
             return Err(NoMemory);
         };
-        let key = Key {
-            kind: KeyKind::TableData,
-            name: name.copy(alloc)?,
-            client,
-            serial: self.next,
-            version,
-            first: tile.first,
-            last: tile.last,
-        };
-        self.puts.push(Prepared {
-            key: key.copy(alloc)?,
-            body: Arc::try_clone(&tile.body)?,
-        })?;
+        let key = tile_key(alloc, client, name, version, self.next, tile)?;
+        self.puts.push(tile_put(alloc, &key, tile)?)?;
         self.next = next;
         Ok(Slot {
             key,
@@ -94,6 +84,33 @@ impl Layout {
             first: tile.first,
             last: tile.last,
         })
+    }
+
+    /// Adds what is put for the new tiles of a frame, which begins behind the rows so far, and gives their slots.
+    fn add_tiles(
+        &mut self,
+        alloc: Global,
+        client: u32,
+        name: &Name,
+        version: u64,
+        tiles: &[Tile],
+    ) -> Result<Items<Slot>, NoMemory>
+        requires is_name { IsName name.now }
+        requires each { AllByRecursion (FitsAt self.old.rows) tiles.now }
+        ensures fresh { IfOk result (λ fresh. fresh ≡ slots_laid (fresh_laid client name.now version self.old.rows self.old.next tiles.now)) }
+        ensures fit { IfOk result (λ fresh. AllByRecursion FitsSlot fresh) }
+        ensures slots { OnOk result (self.new.slots ≡ self.old.slots) }
+        ensures puts { OnOk result (puts_seen self.new.puts ≡ puts_seen self.old.puts ++ puts_laid (fresh_laid client name.now version self.old.rows self.old.next tiles.now)) }
+        ensures rows { OnOk result (self.new.rows ≡ self.old.rows) }
+        ensures next { OnOk result (self.new.next ≡ self.old.next + length tiles.now) }
+        ensures fits { OnOk result (self.old.next < 2 ^ 64 → self.new.next < 2 ^ 64) }
+    {
+        let begin = self.rows;
+        let mut fresh = Items::with_capacity(alloc, tiles.len())?;
+        for tile in tiles {
+            fresh.push(self.add_tile(alloc, client, name, version, begin, tile)?)?;
+        }
+        Ok(fresh)
     }
 
     /// Adds the new tiles of a frame of so many rows, which begins behind the rows so far.
@@ -115,13 +132,9 @@ impl Layout {
         ensures next { OnOk result (self.new.next ≡ self.old.next + length tiles.now) }
         ensures fits { OnOk result (self.old.next < 2 ^ 64 → self.new.next < 2 ^ 64) }
     {
-        let begin = self.rows;
-        let mut fresh = Items::with_capacity(alloc, tiles.len())?;
-        for tile in tiles {
-            fresh.push(self.add_tile(alloc, client, name, version, begin, tile)?)?;
-        }
+        let fresh = self.add_tiles(alloc, client, name, version, tiles)?;
         self.slots.push(SlotText::of(alloc, fresh.items())?)?;
-        self.rows = begin + rows;
+        self.rows += rows;
         Ok(())
     }
 

@@ -29,7 +29,7 @@ pub(crate) struct Placed {
 }
 
 /// The key of a tile under this serial.
-fn tile_key(
+pub(crate) fn tile_key(
     alloc: Global,
     client: u32,
     name: &Name,
@@ -51,7 +51,7 @@ fn tile_key(
 }
 
 /// A tile as it is put under this key.
-fn tile_put(alloc: Global, key: &Key, tile: &Tile) -> Result<Prepared, NoMemory>
+pub(crate) fn tile_put(alloc: Global, key: &Key, tile: &Tile) -> Result<Prepared, NoMemory>
     ensures key { IfOk result (λ put. put.key ≡ key.now) }
     ensures body { IfOk result (λ put. arc_value put.body ≡ arc_value tile.now.body) }
 {

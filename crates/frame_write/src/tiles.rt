@@ -1,6 +1,8 @@
-ghost use Rattle.std.specs.Prelude.{◌≡◌, ◌≤◌, ◌<◌, ◌++◌, map, IfOk, OnOk};
+ghost use Rattle.std.specs.Prelude.{◌≡◌, ◌≤◌, ◌<◌, ◌++◌, map, IfOk, OnOk, Ok};
+ghost use Rattle.std.specs.Arc.{arc_value};
 ghost use Rattle.std.specs.List.{AllByRecursion};
 ghost use Rattle.frame_core.specs.Limits.{IsStorable};
+ghost use Rattle.segment_bytes.specs.Segments.{segment_of};
 ghost use Rattle.segment_cut.specs.Tiles.{LiesIn};
 ghost use Rattle.segment_cut.specs.Grids.{row_blocks, block_parts, grid_of};
 ghost use Rattle.frame_write.specs.Placing.{IsTileOf, AreTilesOf};
@@ -83,12 +85,19 @@ fn tile_of(alloc: Global, frame: &Frame, part: Part) -> Result<Tile, NoMemory>
     let tile = cut(alloc, frame, part)?;
     let first = tile.first_stamp().unwrap_or(0);
     let last = tile.last_stamp().unwrap_or(0);
-    let bytes = encode(alloc, &tile)?;
-    let body = Arc::new(alloc, Body::make(bytes))?;
+    let body = segment_body(alloc, &tile)?;
     Ok(Tile {
         part,
         first,
         last,
         body,
     })
+}
+
+/// The segment of a frame.
+fn segment_body(alloc: Global, frame: &Frame) -> Result<Arc<Body>, NoMemory>
+    requires { IsStorable frame.now }
+    ensures { IfOk result (λ body. segment_of (arc_value body) ≡ Ok frame.now) }
+{
+    Ok(Arc::new(alloc, Body::make(encode(alloc, frame)?))?)
 }

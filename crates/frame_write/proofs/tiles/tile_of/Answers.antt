@@ -8,8 +8,8 @@ use Rattle.frame_write.proofs.tiles.tile_of.Goals as goal
 some_of : (o : Option ℤ) (k x : ℤ) → o ≡ Some k → x ≡ unwrap_or o (pos 0) → o ≡ Some x
 some_of o k x is e = is ∙ ap (λ (n : ℤ). Some n) (sym (e ∙ ap (λ p. unwrap_or p (pos 0)) is))
 
-pub encode-requires : goal.encode-requires
-encode-requires c = subst IsStorable (sym c.in_ok-tile.ensures) (storable_cut c.args.frame.now c.args.part c.requires.storable c.requires.lies)
+pub segment_body-requires : goal.segment_body-requires
+segment_body-requires c = subst IsStorable (sym c.in_ok-tile.ensures) (storable_cut c.args.frame.now c.args.part c.requires.storable c.requires.lies)
 
 pub returns-clause-tile : goal.returns-clause-tile
 returns-clause-tile c =

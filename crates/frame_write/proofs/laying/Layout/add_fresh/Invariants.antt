@@ -3,7 +3,7 @@ use Rattle.std.specs.List.{AllByRecursion}
 use Rattle.index_tree.specs.IndexRules.{FitsSlot}
 use Rattle.frame_write.specs.Plans.{puts_seen}
 use Rattle.frame_write.specs.Laying.{fresh_laid, slots_laid, puts_laid}
-use Rattle.frame_write.proofs.laying.Layout.add_fresh.Given as goal
+use Rattle.frame_write.proofs.laying.Layout.add_tiles.Given as goal
 
 -- the slots and the puts so far, and behind them what the other tiles will be
 abbrev pub invariant-loop-tile : goal.invariant-loop-tile
