@@ -51,7 +51,7 @@ links_later (events.Unname c snap ∷ more) h symbol l there = links_later more 
 links_later (events.Drop c key ∷ more) h symbol l there = links_later more h symbol l there
 
 -- what a link reaches it reaches in each longer history
-pub reaches_later : (more h new : History) (symbol : Name) (version : ℕ) (key : Key) → new ≡ more ++ h → Reaches h symbol version key → Reaches new symbol version key
+abbrev pub reaches_later : (more h new : History) (symbol : Name) (version : ℕ) (key : Key) → new ≡ more ++ h → Reaches h symbol version key → Reaches new symbol version key
 reaches_later more h new symbol version key is r = record {
   link = r.link;
   link_is = subst (λ g. Contains (links g symbol) r.link) (sym is) (links_later more h symbol r.link r.link_is);
@@ -141,6 +141,7 @@ target_reaches h target there =
 
 -- which has that key
 pub target_named : (h : History) (target : Target) (there : has_index (links h target.symbol) target.version target.index ≡ true) → target.index ≡ (target_reaches h target there).link.row.index
+unfolding target_reaches
 target_named h target there =
     let found = one_passes (λ (l : Linked). nat_eq target.version l.row.version && same_key target.index l.row.index) (links h target.symbol) there in
     let parts = and_parts (nat_eq target.version found.0.row.version) (same_key target.index found.0.row.index) found.2 in

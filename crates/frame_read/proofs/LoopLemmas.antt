@@ -76,7 +76,7 @@ refuses_wider before mid now others old between new symbol version refused le is
 
 -- ---- the index and its tiles
 
-pub index_later : (more h new : History) (target : Target) (index : Index) → new ≡ more ++ h → IsTargetIndex h target index → IsTargetIndex new target index
+abbrev pub index_later : (more h new : History) (target : Target) (index : Index) → new ≡ more ++ h → IsTargetIndex h target index → IsTargetIndex new target index
 index_later more h new target index is i = record {
   link = i.link;
   link_is = subst (λ g. Contains (links g target.symbol) i.link) (sym is) (links_later more h target.symbol i.link i.link_is);
@@ -101,7 +101,7 @@ key_of_all (s ∷ slots) all key within there = elim (contains_cases key s.key (
 ]
 
 -- the target's link reaches the tile of each slot
-pub slot_reached : (h : History) (target : Target) (index : Index) (slot : Slot) → IsTargetIndex h target index → Contains index.slots slot → Reaches h target.symbol target.version slot.key
+abbrev pub slot_reached : (h : History) (target : Target) (index : Index) (slot : Slot) → IsTargetIndex h target index → Contains index.slots slot → Reaches h target.symbol target.version slot.key
 slot_reached h target index slot i there = record {
   link = i.link;
   link_is = i.link_is;
