@@ -1,8 +1,10 @@
-ghost use Rattle.std.specs.Prelude.{◌≡◌, true, length, reverse, IfOk, OnErr};
+ghost use Rattle.std.specs.Prelude.{◌≡◌, ◌≤◌, [], true, length, map, reverse, IfOk, OnErr};
 ghost use Rattle.std.specs.List.{AllByRecursion};
+ghost use Rattle.std.specs.Vec.{vec_capacity};
 ghost use Rattle.bucket_shared.specs.Passes.{store_of};
 ghost use Rattle.library_api.specs.Libraries.{AreSettings};
 ghost use Rattle.reply_model.specs.Blocks.{run_cutting};
+ghost use Rattle.client_sessions.specs.Rooms.{counts};
 ghost use Rattle.client_sessions.specs.Blocks.{clients_of};
 ghost use Rattle.client_sessions.specs.Sessions.{AreNamed};
 ghost use Rattle.client_sessions.specs.Parts.{IsRun};
@@ -31,6 +33,42 @@ pub struct PartReplies {
     pub blocks: Items<Items<Reply>>,
     /// Those of the last commands.
     pub last: Items<Reply>,
+}
+
+/// Memory for the replies of the parts of a script.
+#[derive(Drop)]
+struct PartRooms {
+    first: Room,
+    last: Room,
+    /// For those of each block, that of the first block last.
+    blocks: Vec<Room>,
+    /// For a list of them for each block.
+    told: Vec<Items<Reply>>,
+}
+
+/// The memory, before the first command is carried out.
+fn rooms_for(
+    alloc: Global,
+    first: &[Command],
+    blocks: &[Items<Command>],
+    last: &[Command],
+) -> Result<PartRooms, NoMemory>
+    ensures first { IfOk result (λ rooms. rooms.first.count ≡ length first.now) }
+    ensures last { IfOk result (λ rooms. rooms.last.count ≡ length last.now) }
+    ensures blocks { IfOk result (λ rooms. counts rooms.blocks.items ≡ reverse (map length blocks.now)) }
+    ensures none { IfOk result (λ rooms. rooms.told.items ≡ []) }
+    ensures space { IfOk result (λ rooms. length blocks.now ≤ vec_capacity rooms.told) }
+{
+    let told = Vec::with_capacity(alloc, blocks.len())?;
+    let blocks = make_rooms(alloc, blocks)?;
+    let first = Room::make(alloc, first.len())?;
+    let last = Room::make(alloc, last.len())?;
+    Ok(PartRooms {
+        first,
+        last,
+        blocks,
+        told,
+    })
 }
 
 /// The settings, copied.
@@ -78,18 +116,15 @@ pub fn run_parts<R: Threads + Wait + Sync, G: Gate>(
     ensures sole { ⟦<Pass as Bucket<StoreLaw>>⟧.sole result.0 ≡ true }
     ensures store { store_of result.0 ≡ store_of pass }
 {
-    let Ok(first_room) = Room::make(alloc, first.len()) else {
+    let Ok(rooms) = rooms_for(alloc, first, blocks, last) else {
         return (pass, Err(NoMemory));
     };
-    let Ok(last_room) = Room::make(alloc, last.len()) else {
-        return (pass, Err(NoMemory));
-    };
-    let Ok(rooms) = make_rooms(alloc, blocks) else {
-        return (pass, Err(NoMemory));
-    };
-    let Ok(told) = Vec::with_capacity(alloc, blocks.len()) else {
-        return (pass, Err(NoMemory));
-    };
+    let PartRooms {
+        first: first_room,
+        last: last_room,
+        blocks: rooms,
+        told,
+    } = rooms;
     let (pass, begun) = session(
         rt,
         alloc,

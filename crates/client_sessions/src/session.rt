@@ -5,6 +5,7 @@ ghost use Rattle.library_api.specs.Steps.{client_of};
 ghost use Rattle.reply_model.specs.Blocks.{run_cutting};
 ghost use Rattle.client_sessions.specs.Sessions.{AreNamed, IsSession};
 
+use crate::room::noted;
 use base_types::Items;
 use bucket_core::Bucket;
 use expr_clause::Command;
@@ -37,9 +38,7 @@ pub fn carry_out<R: Wait, B: Bucket<StoreLaw>>(
     runs_alone_are_sole();
     for command in commands {
         let reply = library.step(rt, alloc, command, frames);
-        let Ok(()) = replies.push(reply) else {
-            unreachable!();
-        };
+        replies = noted(replies, reply);
     }
     Items::from_vec(replies)
 }

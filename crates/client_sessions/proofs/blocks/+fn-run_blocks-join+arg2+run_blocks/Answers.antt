@@ -10,16 +10,11 @@ use Rattle.client_sessions.specs.Blocks.{clients_of, IsSessionOf, AreRun}
 use Rattle.client_sessions.proofs.BlockRuns.{run_none, run_here, run_beside}
 use Rattle.client_sessions.proofs.blocks.+fn-run_blocks-join+arg2+run_blocks.Goals as goal
 
-no_blocks : (blocks : List (List Command)) → length blocks ≡ 0 → blocks ≡ []
-no_blocks [] size = refl
-no_blocks (block ∷ blocks) size = absurd (omega (arith, size))
-
 -- no blocks
 pub returns-in_default-clause-run : goal.returns-in_default-clause-run
 returns-in_default-clause-run g t c =
     let client = clients_of c.args.frames.now c.args.settings (limit_of c.args.pass) in
-    let size : length c.args.blocks.now ≡ 0 = search rules in
-    let none : c.args.blocks.now ≡ [] = no_blocks c.args.blocks.now size in
+    let none : c.args.blocks.now ≡ [] = search rules in
     subst (λ (bs : List (List Command)). AreRun (run_cutting c.args.settings.cutting) client bs (reverse c.args.told.items) c.args.pass c.args.pass) (sym none)
     (subst (λ (ts : List (List Reply)). AreRun (run_cutting c.args.settings.cutting) client [] (reverse ts) c.args.pass c.args.pass) (sym c.requires.none) (run_none (run_cutting c.args.settings.cutting) client c.args.pass))
 
@@ -30,13 +25,13 @@ returns-in_default-split-clause-run g t c =
     let client = clients_of c.args.frames.now c.args.settings (limit_of c.args.pass) in
     let replies = c.session-pass.result.1 in
     let told = c.run_blocks-pass.result.1.items in
-    let blocks : c.items-commands.result.now ∷ c.in-Some.rest.now ≡ c.args.blocks.now = search rules in
-    let ready : AllByRecursion (AreNamed (length c.args.frames.now)) (c.items-commands.result.now ∷ c.in-Some.rest.now) = subst (λ (bs : List (List Command)). AllByRecursion (AreNamed (length c.args.frames.now)) bs) (sym blocks) c.requires.named in
+    let blocks : c.in-Some.commands.now ∷ c.in-Some.rest.now ≡ c.args.blocks.now = search rules in
+    let ready : AllByRecursion (AreNamed (length c.args.frames.now)) (c.in-Some.commands.now ∷ c.in-Some.rest.now) = subst (λ (bs : List (List Command)). AllByRecursion (AreNamed (length c.args.frames.now)) bs) (sym blocks) c.requires.named in
     let again : reverse c.noted.result.items ≡ replies ∷ reverse told = ap reverse c.noted.ensures.items ∙ reverse-append told (replies ∷ []) in
-    let s = subst (λ (n : ℕ). IsSessionOf cutting (clients_of c.args.frames.now c.args.settings n) c.items-commands.result.now replies c.split.new.self c.session-pass.result.0) c.split.ensures.limit c.session-pass.ensures in
+    let s = subst (λ (n : ℕ). IsSessionOf cutting (clients_of c.args.frames.now c.args.settings n) c.in-Some.commands.now replies c.split.new.self c.session-pass.result.0) c.split.ensures.limit c.session-pass.ensures in
     let r = subst (λ (n : ℕ). AreRun (run_cutting c.args.settings.cutting) (clients_of c.args.frames.now c.args.settings n) c.in-Some.rest.now (reverse told) c.session-pass.result.0 c.run_blocks-pass.result.0) (s.limit ∙ c.split.ensures.limit) c.run_blocks-pass.ensures.run in
     subst (λ (z : List (List Command) × List (List Reply)). AreRun (run_cutting c.args.settings.cutting) client z.0 z.1 c.args.pass c.run_blocks-pass.result.0) (λ i. (blocks i, sym again i))
-    (run_here cutting client (λ n. refl) (λ m n. refl) (length c.args.frames.now) c.items-commands.result.now ready.0 replies c.in-Some.rest.now (reverse told) c.args.pass c.split.new.self c.session-pass.result.0 c.run_blocks-pass.result.0
+    (run_here cutting client (λ n. refl) (λ m n. refl) (length c.args.frames.now) c.in-Some.commands.now ready.0 replies c.in-Some.rest.now (reverse told) c.args.pass c.split.new.self c.session-pass.result.0 c.run_blocks-pass.result.0
     c.split.ensures.store c.in_default-split.ensures.badge c.split.ensures.limit c.split.ensures.looks s r)
 
 -- the block with a pass of its own, beside the others
@@ -46,13 +41,13 @@ returns-clause-run g t c =
     let client = clients_of c.args.frames.now c.args.settings (limit_of c.args.pass) in
     let replies = c.join-pass.result.1.1 in
     let told = c.join-pass.result.0.1.items in
-    let blocks : c.items-commands.result.now ∷ c.in-Some.rest.now ≡ c.args.blocks.now = search rules in
-    let ready : AllByRecursion (AreNamed (length c.args.frames.now)) (c.items-commands.result.now ∷ c.in-Some.rest.now) = subst (λ (bs : List (List Command)). AllByRecursion (AreNamed (length c.args.frames.now)) bs) (sym blocks) c.requires.named in
-    let again : reverse c.noted-2.result.items ≡ replies ∷ reverse told = ap reverse c.noted-2.ensures.items ∙ reverse-append told (replies ∷ []) in
+    let blocks : c.in-Some.commands.now ∷ c.in-Some.rest.now ≡ c.args.blocks.now = search rules in
+    let ready : AllByRecursion (AreNamed (length c.args.frames.now)) (c.in-Some.commands.now ∷ c.in-Some.rest.now) = subst (λ (bs : List (List Command)). AllByRecursion (AreNamed (length c.args.frames.now)) bs) (sym blocks) c.requires.named in
+    let again : reverse c.joined.result.1.items ≡ replies ∷ reverse told = ap reverse c.joined.ensures.items ∙ reverse-append told (replies ∷ []) in
     let split = c.in-Ok.ensures.split in
     let r = subst (λ (n : ℕ). AreRun (run_cutting c.args.settings.cutting) (clients_of c.args.frames.now c.args.settings n) c.in-Some.rest.now (reverse told) c.split.new.self c.join-pass.result.0.0) c.split.ensures.limit c.join-pass.ensures.first.0 in
-    let s = subst (λ (n : ℕ). IsSessionOf cutting (clients_of c.args.frames.now c.args.settings n) c.items-commands.result.now replies c.in-Ok.other c.join-pass.result.1.0) split.limit c.join-pass.ensures.second in
-    subst (λ (z : List (List Command) × List (List Reply)). AreRun (run_cutting c.args.settings.cutting) client z.0 z.1 c.args.pass c.join.new.self) (λ i. (blocks i, sym again i))
-    (run_beside cutting client (λ n. refl) (λ m n. refl) (length c.args.frames.now) c.items-commands.result.now ready.0 replies c.in-Some.rest.now (reverse told) c.args.pass c.split.new.self c.in-Ok.other c.join-pass.result.0.0 c.join-pass.result.1.0 c.join.new.self
+    let s = subst (λ (n : ℕ). IsSessionOf cutting (clients_of c.args.frames.now c.args.settings n) c.in-Some.commands.now replies c.in-Ok.other c.join-pass.result.1.0) split.limit c.join-pass.ensures.second in
+    subst (λ (z : List (List Command) × List (List Reply)). AreRun (run_cutting c.args.settings.cutting) client z.0 z.1 c.args.pass c.joined.result.0) (λ i. (blocks i, sym again i))
+    (run_beside cutting client (λ n. refl) (λ m n. refl) (length c.args.frames.now) c.in-Some.commands.now ready.0 replies c.in-Some.rest.now (reverse told) c.args.pass c.split.new.self c.in-Ok.other c.join-pass.result.0.0 c.join-pass.result.1.0 c.joined.result.0
     c.split.ensures.store c.split.ensures.client c.split.ensures.limit c.split.ensures.looks split r s
-    c.join.ensures.store c.join.ensures.client c.join.ensures.limit c.join.ensures.badge c.join.ensures.looks c.join.ensures.other_looks c.join.ensures.awaits)
+    c.joined.ensures.store c.joined.ensures.client c.joined.ensures.limit c.joined.ensures.badge c.joined.ensures.looks c.joined.ensures.other_looks c.joined.ensures.awaits)

@@ -28,7 +28,7 @@ loop-command-preserved g c =
     let same = same_client c.args.frames.now mid.settings was.settings (g.B.Bucket.number mid.bucket) (g.B.Bucket.number was.bucket) (g.B.Bucket.limit mid.bucket) (g.B.Bucket.limit was.bucket)
     c.loop-command.invariant.settings c.loop-command.invariant.steady.same_number c.loop-command.invariant.steady.same_limit in
     record {
-      session = subst (λ (rs : List Reply). IsSession (run_cutting was.settings.cutting) now (g.B.Bucket.sole was.bucket) (g.B.Bucket.faults was.bucket) (g.B.Bucket.faults new.bucket) (take (c.loop-command.command-index + 1) c.args.commands.now) rs (g.B.Bucket.seen was.bucket) (g.B.Bucket.seen new.bucket)) (sym c.in-Ok.ensures.items)
+      session = subst (λ (rs : List Reply). IsSession (run_cutting was.settings.cutting) now (g.B.Bucket.sole was.bucket) (g.B.Bucket.faults was.bucket) (g.B.Bucket.faults new.bucket) (take (c.loop-command.command-index + 1) c.args.commands.now) rs (g.B.Bucket.seen was.bucket) (g.B.Bucket.seen new.bucket)) (sym c.noted-replies.ensures.items)
           (session_at (run_cutting was.settings.cutting) c.runs_alone_are_sole.ensures.grow now c.args.commands.now c.loop-command.command-index c.loop-command.replies.items c.command-item.result c.step-reply.result
           (g.B.Bucket.seen was.bucket) (g.B.Bucket.seen mid.bucket) (g.B.Bucket.seen new.bucket)
           (g.B.Bucket.faults was.bucket) (g.B.Bucket.faults mid.bucket) (g.B.Bucket.faults new.bucket) (g.B.Bucket.sole was.bucket) (g.B.Bucket.sole mid.bucket)
@@ -44,8 +44,8 @@ loop-command-preserved g c =
         stays_sole = λ s. c.step-reply.ensures.steady.stays_sole (c.loop-command.invariant.steady.stays_sole s);
       };
       settings = c.step-reply.ensures.settings ∙ c.loop-command.invariant.settings;
-      count = omega (arith, c.in-Ok.ensures.len, c.loop-command.invariant.count);
-      room = omega (arith, c.loop-command.invariant.room, c.push.ensures.capacity);
+      count = omega (arith, c.noted-replies.ensures.len, c.loop-command.invariant.count);
+      room = omega (arith, c.loop-command.invariant.room, c.noted-replies.ensures.space);
     }
 
 pub returns-clause-session : goal.returns-clause-session
