@@ -1,13 +1,13 @@
 -- The plan of an update or a delete of a range over the newest live version.
 use Rattle.std.proofs.Common.{◌≡◌, ℕ, Bool, true, false, cond, [], ◌∷◌, refl, sym, ap, ◌∙◌, subst, inl, inr, Option, Some, None, Result, Ok, Err}
-use Rattle.std.specs.Prelude.{IfOk, IfErr, option_map}
+use Rattle.std.specs.Prelude.{◌⊎◌, IfOk, IfErr, option_map}
 use Rattle.std.proofs.lemmas.Bool.{true≢false}
 use Rattle.frame_core.specs.declared.refusal.Extent.{Extent}
 use Rattle.frame_core.specs.declared.refusal.Refusal.{Refusal}
 use Rattle.frame_core.specs.declared.refusal.Refused.{Refused}
 use Rattle.frame_core.specs.Ranges.{Range}
 use Rattle.frame_core.specs.Frames.{Frame}
-use Rattle.frame_core.specs.Limits.{IsStorable, refuse_large}
+use Rattle.frame_core.specs.Limits.{IsStorable, frame_too_large, refuse_large}
 use Rattle.key_kind.specs.Names.{Name, same_name}
 use Rattle.bucket_core.specs.declared.event.Change.TheVariants as changes
 use Rattle.bucket_core.specs.declared.event.Event.TheVariants as events
@@ -25,6 +25,7 @@ use Rattle.append_update.specs.Bases.{Divides}
 use Rattle.append_update.specs.Looking.{AnyBase, RefusesPlan}
 use Rattle.append_update.specs.Newest.{IsNewest}
 use Rattle.append_update.specs.Replacing.{replaced, AreEdges}
+use Rattle.append_update.specs.TooLarge.{IsTooLarge, IsJudged}
 use Rattle.append_update.proofs.PlanLemmas.{inside_range}
 use Rattle.append_update.proofs.UpdateAnswers.{MayReplace, update_plan_fits, update_answers}
 use Rattle.append_update.proofs.ReplacedParts.{replaced_parts, replaced_keep}
@@ -107,3 +108,18 @@ large_none (Some x) e = absurd (some_is e)
   where
     some_is : {a : Refusal} → Some a ≡ None → ⊥
     some_is e = cc
+
+-- ---- a judged frame
+
+-- what holds of edges holds of the same ones
+pub same_edges : (P : Edges → Type 0) (edges : Edges) (r : Result Edges Refused) → P edges → IfOk r (λ same. same ≡ edges) → IfOk r P
+same_edges P edges (Ok same) p is = subst P (sym is) p
+same_edges P edges (Err refused) p is = tt
+
+pub judged_small : (place : ℕ) (frame : Frame) (r : Result Edges Refused) → IsJudged place frame r → IfOk r (λ _edges. frame_too_large frame ≡ None)
+judged_small place frame (Ok edges) j = j
+judged_small place frame (Err refused) j = tt
+
+pub judged_large : (P : Refused → Type 0) (place : ℕ) (frame : Frame) (r : Result Edges Refused) → IsJudged place frame r → IfErr r (λ refused. P refused ⊎ IsTooLarge place frame refused)
+judged_large P place frame (Ok edges) j = tt
+judged_large P place frame (Err refused) j = inr j

@@ -4,11 +4,12 @@
 --     MayStandBehind, HasColumnsOf, FitsBase      whether what is asked fits the base, as its index tells
 --     IsAnswered, Declines, Wants, Loses      a commit that makes what is asked; a refusal; a history in which there is a version to make; a base that is lost
 --     IsPlanOf            a plan of what is asked
---     IsAlone, why_missing        the plan where there is no live version; why there is none
-use Rattle.std.specs.Prelude.{◌≡◌, ℕ, ℤ, Bool, true, false, if◌then◌else◌, [], ◌∷◌, Option, Some, None, Result, Ok, Err}
+--     IsAlone, why_missing, IsMissing     the plan where there is no live version; why there is none, and the refusal
+use Rattle.std.specs.Prelude.{◌≡◌, ℕ, ℤ, Bool, true, false, if◌then◌else◌, [], ◌∷◌, Option, Some, None, Result, Ok, Err, is_some}
 use Rattle.frame_core.specs.declared.refusal.Asked.TheVariants as asks
 use Rattle.frame_core.specs.declared.refusal.Refusal.{Refusal}
 use Rattle.frame_core.specs.declared.refusal.Refusal.TheVariants as refusals
+use Rattle.frame_core.specs.declared.refusal.Refused.{Refused}
 use Rattle.frame_core.specs.Ranges.{IsRange}
 use Rattle.frame_core.specs.Frames.{Frame}
 use Rattle.frame_core.specs.Limits.{IsStorable}
@@ -22,6 +23,7 @@ use Rattle.reply_model.specs.Answering.{Answer, committed, pruned, may_append, f
 use Rattle.reply_model.specs.CommitAnswers.{append_answer, update_answer, clear_answer, outside}
 use Rattle.reply_model.specs.Losses.{LosesBase}
 use Rattle.reply_model.specs.Standing.{parts_laid}
+use Rattle.version_chain.specs.declared.tip.ChainTip.{ChainTip}
 use Rattle.frame_write.specs.declared.options.Options.{Options}
 use Rattle.frame_write.specs.declared.pieces.LinkPlan.{LinkPlan}
 use Rattle.frame_write.specs.declared.pieces.Piece.TheVariants as pieces
@@ -100,3 +102,9 @@ IsAlone (wishes.Clear range) at plan = plan ≡ None
 abbrev pub why_missing : Bool → Refusal
 why_missing true = refusals.NoSuchVersion (asks.Back 1)
 why_missing false = refusals.NoSuchSymbol
+
+-- there is no plan on this tip, and the refusal says why
+pub record IsMissing (tip : ChainTip) (found : Option LinkPlan) (refused : Refused) : Type 0 where
+  pub none : found ≡ None
+  pub place : refused.place ≡ tip.place
+  pub why : refused.why ≡ why_missing (is_some tip.was)

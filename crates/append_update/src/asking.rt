@@ -1,6 +1,6 @@
 //! The plan of what is asked, on a walked tip.
 
-ghost use Rattle.std.specs.Prelude.{◌≡◌, ◌<◌, ◌+◌, ◌↔◌, Bool, [], Some, None, false, is_some, IsTrue, IfOk, IfErr, IfSome};
+ghost use Rattle.std.specs.Prelude.{◌≡◌, ◌≤◌, ◌<◌, ◌+◌, ◌↔◌, Bool, [], Some, None, false, is_some, IsTrue, IfOk, IfErr, IfSome};
 ghost use Rattle.std.specs.List.{list_any};
 ghost use Rattle.frame_core.specs.Ranges.{IsRange};
 ghost use Rattle.frame_core.specs.Schemas.{AreColumns};
@@ -12,7 +12,7 @@ ghost use Rattle.store_model.specs.Law.{IsClaimed};
 ghost use Rattle.version_chain.specs.Marking.{own_refers};
 ghost use Rattle.version_chain.specs.Tips.{IsTipAt};
 ghost use Rattle.reply_model.specs.CommitAnswers.{append_answer, update_answer, outside};
-ghost use Rattle.append_update.specs.Asking.{answer_to, IsWish, IsPlanOf, IsAlone, why_missing, MayStandBehind, HasColumnsOf, FitsBase};
+ghost use Rattle.append_update.specs.Asking.{answer_to, IsWish, IsPlanOf, IsAlone, why_missing, IsMissing, MayStandBehind, HasColumnsOf, FitsBase};
 ghost use Rattle.append_update.specs.Looking.{AnyBase, RefusesBase, RefusesPlan};
 ghost use Rattle.append_update.specs.Newest.{IsBaseAt};
 ghost use Rattle.append_update.specs.Sizes.{text_total, kept_rows};
@@ -59,13 +59,23 @@ pub(crate) fn plan_on<R: Wait, B: Bucket<StoreLaw>>(
     match base {
         Some(base) => plan_over(rt, alloc, bucket, symbol, &base, wish, options),
         None => match plan_without(alloc, wish, stamp_of(options)) {
-            Ok(Some(plan)) => Ok(plan),
-            Ok(None) => Err(Refused {
-                place: tip.place,
-                why: missing(tip),
-            }),
+            Ok(found) => or_missing(tip, found),
             Err(_) => Err(out_of_memory(bucket.place())),
         },
+    }
+}
+
+/// The plan, or why there is none, on a tip without a live version.
+fn or_missing(tip: &ChainTip, found: Option<LinkPlan>) -> Result<LinkPlan, Refused>
+    ensures plan { IfOk result (λ plan. found ≡ Some plan) }
+    ensures refused { IfErr result (IsMissing tip.now found) }
+{
+    match found {
+        Some(plan) => Ok(plan),
+        None => Err(Refused {
+            place: tip.place,
+            why: missing(tip),
+        }),
     }
 }
 
@@ -345,10 +355,30 @@ pub(crate) fn exceeds_texts<R: Wait, B: Bucket<StoreLaw>>(
     if frame.rows() == 0 || !has_texts(base.index.schema.columns()) {
         return Ok(false);
     }
+    let kept = base_text_bytes(rt, alloc, bucket, symbol, base, range)?;
+    Ok(kept + text_bytes(frame) > TEXT_LIMIT)
+}
+
+/// The bytes of all texts of those rows of the base that lie outside a range, or of all. It may wait for the store.
+fn base_text_bytes<R: Wait, B: Bucket<StoreLaw>>(
+    rt: &R,
+    alloc: Global,
+    bucket: &mut B,
+    symbol: &Symbol,
+    base: &Base,
+    range: Option<Range>,
+) -> Result<u64, Refused>
+    requires base { IsBaseAt (B.number bucket.old) (B.seen bucket.old) symbol.now base.now }
+    ensures looks { Looks IsClaimed (B.number bucket.old) (B.sole bucket.old) (B.seen bucket.old) (B.seen bucket.new) }
+    ensures steady { IsSteady B.number B.limit B.faults B.sole bucket.old bucket.new }
+    ensures bytes { (b : IsBaseAt (B.number bucket.old) (B.seen bucket.old) symbol.now base.now) → IfOk result (λ bytes. bytes ≡ text_total (kept_rows range b.version.frame.rows)) }
+    ensures most { IfOk result (λ bytes. bytes ≤ 134217728) }
+    ensures refused { IfErr result (RefusesBase (B.number bucket.old) symbol.now AnyBase base.now.target.place (B.faults bucket.old) (B.faults bucket.new) (B.seen bucket.old) (B.seen bucket.new)) }
+{
     let slots = base.index.slots.len();
     let whole = block_frame(rt, alloc, bucket, symbol, base, 0, slots)?;
     match kept_text_bytes(alloc, &whole, range) {
-        Ok(kept) => Ok(kept + text_bytes(frame) > TEXT_LIMIT),
+        Ok(bytes) => Ok(bytes),
         Err(_) => Err(out_of_memory(bucket.place())),
     }
 }

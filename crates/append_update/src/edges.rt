@@ -69,7 +69,7 @@ fn edge_below<R: Wait, B: Bucket<StoreLaw>>(
         return Ok(None);
     }
     let block = block_frame(rt, alloc, bucket, symbol, base, cuts.below, cuts.begun)?;
-    match rows_below(alloc, &block, range) {
+    match rows_below(alloc, block, range) {
         Ok(frame) => Ok(Some(frame)),
         Err(_) => Err(out_of_memory(bucket.place())),
     }
@@ -96,25 +96,25 @@ fn edge_above<R: Wait, B: Bucket<StoreLaw>>(
         return Ok(None);
     }
     let block = block_frame(rt, alloc, bucket, symbol, base, cuts.ended, cuts.reached)?;
-    match rows_above(alloc, &block, range) {
+    match rows_above(alloc, block, range) {
         Ok(frame) => Ok(Some(frame)),
         Err(_) => Err(out_of_memory(bucket.place())),
     }
 }
 
 /// The rows of a frame that lie below a range.
-fn rows_below(alloc: Global, frame: &Frame, range: Range) -> Result<Frame, NoMemory>
-    requires storable { IsStorable frame.now }
-    ensures { IfOk result (λ made. made ≡ record frame.now { rows = rows_below range frame.now.rows }) }
+fn rows_below(alloc: Global, frame: Frame, range: Range) -> Result<Frame, NoMemory>
+    requires storable { IsStorable frame }
+    ensures { IfOk result (λ made. made ≡ record frame { rows = rows_below range frame.rows }) }
 {
     let (below, _) = frame.rows_between(range);
     frame.slice(alloc, 0, below)
 }
 
 /// The rows of a frame that lie above a range.
-fn rows_above(alloc: Global, frame: &Frame, range: Range) -> Result<Frame, NoMemory>
-    requires storable { IsStorable frame.now }
-    ensures { IfOk result (λ made. made ≡ record frame.now { rows = rows_above range frame.now.rows }) }
+fn rows_above(alloc: Global, frame: Frame, range: Range) -> Result<Frame, NoMemory>
+    requires storable { IsStorable frame }
+    ensures { IfOk result (λ made. made ≡ record frame { rows = rows_above range frame.rows }) }
 {
     let (_, reached) = frame.rows_between(range);
     frame.slice(alloc, reached, frame.rows())

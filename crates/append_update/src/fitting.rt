@@ -1,17 +1,17 @@
 //! The edges of an update, where the new version is not too large.
 
 ghost use Rattle.std.specs.Prelude.{◌≡◌, ◌⊎◌, None, IfOk, IfErr};
-ghost use Rattle.frame_core.specs.Frames.{replace_range};
+ghost use Rattle.frame_core.specs.Frames.{Frame as Table, replace_range};
 ghost use Rattle.frame_core.specs.Limits.{IsStorable, frame_too_large};
-ghost use Rattle.frame_core.specs.Ranges.{IsRange};
+ghost use Rattle.frame_core.specs.Ranges.{Range as Ends, IsRange};
 ghost use Rattle.bucket_core.specs.Laws.{Looks};
 ghost use Rattle.bucket_core.specs.Calls.{IsSteady};
 ghost use Rattle.store_model.specs.Law.{IsClaimed};
 ghost use Rattle.append_update.specs.Bases.{Divides};
 ghost use Rattle.append_update.specs.Looking.{AnyBase, RefusesBase};
 ghost use Rattle.append_update.specs.Newest.{IsBaseAt};
-ghost use Rattle.append_update.specs.Replacing.{AreEdges};
-ghost use Rattle.append_update.specs.TooLarge.{IsTooLarge};
+ghost use Rattle.append_update.specs.Replacing.{AreEdges, Replaces};
+ghost use Rattle.append_update.specs.TooLarge.{IsTooLarge, TellsMany, IsJudged};
 
 use crate::asking::exceeds_texts;
 use crate::base::Base;
@@ -53,6 +53,23 @@ pub(crate) fn small_edges<R: Wait, B: Bucket<StoreLaw>>(
         Ok(edges) => edges,
         Err(refused) => return Err(refused),
     };
+    unless_too_large(base, cuts, edges, frame, many)
+}
+
+/// The edges again, where the frame whose rows replace those of a base in a range is not too large; `many` tells whether its texts
+/// have too many bytes in all.
+fn unless_too_large(
+    base: &Base,
+    cuts: Cuts,
+    edges: Edges,
+    frame: &Frame,
+    many: bool,
+) -> Result<Edges, Refused>
+    requires storable { IsStorable frame.now }
+    requires replaces { (table : Table) × (range : Ends) × Replaces table range base.now.index cuts edges }
+    ensures same { IfOk result (λ same. same ≡ edges) }
+    ensures judged { (table : Table) (range : Ends) → Replaces table range base.now.index cuts edges → TellsMany table range frame.now many → IsJudged base.now.target.place (record frame.now { rows = replace_range range frame.now.rows table.rows }) result }
+{
     match replaced_too_large(&base.index, cuts, &edges, frame, many) {
         Some(why) => Err(Refused {
             place: base.target.place,

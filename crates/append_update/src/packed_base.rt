@@ -45,17 +45,37 @@ impl PackedBase {
     pub(crate) fn unpacked(&self, alloc: Global) -> Result<Base, NoMemory>
         ensures { IfOk result (λ base. base ≡ self.now) }
     {
-        let target = Target {
-            symbol: self.target.symbol.copy(alloc)?,
+        let target = self.target_copy(alloc)?;
+        match self.index_copy(alloc) {
+            Ok(index) => Ok(Base { target, index }),
+            Err(why) => Err(why),
+        }
+    }
+
+    /// A copy of the version.
+    fn target_copy(&self, alloc: Global) -> Result<Target, NoMemory>
+        ensures { IfOk result (λ target. target ≡ self.now.target) }
+    {
+        let symbol = self.target.symbol.copy(alloc)?;
+        let index = self.target.index.copy(alloc)?;
+        Ok(Target {
+            symbol,
             version: self.target.version,
-            index: self.target.index.copy(alloc)?,
+            index,
             place: self.target.place,
-        };
-        let index = Index {
-            schema: self.index.schema().copy(alloc)?,
+        })
+    }
+
+    /// Its index, with each slot.
+    fn index_copy(&self, alloc: Global) -> Result<Index, NoMemory>
+        ensures { IfOk result (λ index. index ≡ self.now.index) }
+    {
+        let schema = self.index.schema().copy(alloc)?;
+        let slots = self.index.slots().to_slots(alloc)?;
+        Ok(Index {
+            schema,
             rows: self.index.rows(),
-            slots: self.index.slots().to_slots(alloc)?,
-        };
-        Ok(Base { target, index })
+            slots,
+        })
     }
 }

@@ -24,6 +24,10 @@ use Rattle.append_update.proofs.asking.plan_on.Goals as goal
 if_some : (P : Base → Type 0) (o : Option Base) (base : Base) → o ≡ Some base → IfSome o P → P base
 if_some P o base is p = subst (λ (x : Option Base). IfSome x P) is p
 
+if_ok : {A E : Type 0} (P Q : A → Type 0) (r : Result A E) → ((a : A) → P a → Q a) → IfOk r P → IfOk r Q
+if_ok P Q (Ok a) f p = f a p
+if_ok P Q (Err e) f p = tt
+
 pub base_of-requires : goal.base_of-requires
 base_of-requires g c = record { walked = (c.args.options.now.prune, c.requires.walked.0, c.requires.walked.1) }
 
@@ -82,32 +86,33 @@ returns-in-Some-clause-refused g c =
     (subst (λ h. RefusesPlan number c.args.symbol.now (FitsBase c.args.wish.now) answer h (g.B.Bucket.faults c.base_of.new.bucket) (g.B.Bucket.faults c.plan_over.new.bucket) (g.B.Bucket.seen c.base_of.new.bucket) (g.B.Bucket.seen c.plan_over.new.bucket) e)
     (sym (walked_here (g.B.Bucket.seen c.args.bucket.now) c.args.symbol.now c.args.options.now.prune c.args.tip.now at)) p))) (c.plan_over.ensures.refused b)
 
-pub returns-in-Ok-Some-clause-plan : goal.returns-in-Ok-Some-clause-plan
-returns-in-Ok-Some-clause-plan g c =
+pub returns-in-Ok-clause-plan : goal.returns-in-Ok-clause-plan
+returns-in-Ok-clause-plan g c =
     let h = history_at (g.B.Bucket.seen c.args.bucket.now) c.args.tip.now.place in
     let at = c.requires.walked.0 in
     let walked = subst (λ x. IsTipOf x c.args.symbol.now c.args.options.now.prune c.args.tip.now) (sym (walked_here (g.B.Bucket.seen c.args.bucket.now) c.args.symbol.now c.args.options.now.prune c.args.tip.now at)) at.is in
     let none = subst (IsBase h c.args.symbol.now) c.in-None.is c.in_ok-base.ensures.base in
     let stamp : to_z w64 (of_z w64 c.stamp_of.result) ≡ c.args.options.now.at = search rules in
-    alone_plan h c.args.symbol.now c.args.options.now.prune c.args.tip.now walked c.args.options.now none c.args.wish.now c.in-Ok-Some.plan c.requires.wish
-    (subst (λ t. IsAlone c.args.wish.now t (Some c.in-Ok-Some.plan)) stamp
-    (subst (λ (o : Option LinkPlan). IsAlone c.args.wish.now (to_z w64 (of_z w64 c.stamp_of.result)) o) c.in-Ok-Some.field-0-is c.in-Ok-Some.ensures))
+    if_ok _ _ c.or_missing.result (λ plan is.
+    alone_plan h c.args.symbol.now c.args.options.now.prune c.args.tip.now walked c.args.options.now none c.args.wish.now plan c.requires.wish
+    (subst (λ t. IsAlone c.args.wish.now t (Some plan)) stamp
+    (subst (λ (o : Option LinkPlan). IsAlone c.args.wish.now (to_z w64 (of_z w64 c.stamp_of.result)) o) is c.in-Ok.ensures))) c.or_missing.ensures.plan
 
-pub returns-in-Ok-None-clause-refused : goal.returns-in-Ok-None-clause-refused
-returns-in-Ok-None-clause-refused g c =
+pub returns-in-Ok-clause-refused : goal.returns-in-Ok-clause-refused
+returns-in-Ok-clause-refused g c =
     let h = history_at (g.B.Bucket.seen c.args.bucket.now) c.args.tip.now.place in
     let at = c.requires.walked.0 in
     let here = walked_here (g.B.Bucket.seen c.args.bucket.now) c.args.symbol.now c.args.options.now.prune c.args.tip.now at in
     let walked = subst (λ x. IsTipOf x c.args.symbol.now c.args.options.now.prune c.args.tip.now) (sym here) at.is in
     let none = subst (IsBase h c.args.symbol.now) c.in-None.is c.in_ok-base.ensures.base in
     let stamp : to_z w64 (of_z w64 c.stamp_of.result) ≡ c.args.options.now.at = search rules in
-    inr (record {
-      place = at.place ∙ ap length (sym here);
+    if_err _ _ c.or_missing.result (λ refused m. inr (record {
+      place = m.place ∙ (at.place ∙ ap length (sym here));
       answered = alone_refused h c.args.symbol.now c.args.options.now.prune c.args.tip.now walked c.args.options.now none c.args.wish.now c.requires.wish
           (subst (λ t. IsAlone c.args.wish.now t None) stamp
-          (subst (λ (o : Option LinkPlan). IsAlone c.args.wish.now (to_z w64 (of_z w64 c.stamp_of.result)) o) c.in-Ok-None.field-0-is c.in-Ok-None.ensures))
-          ∙ ap Err (sym c.missing.ensures);
-    })
+          (subst (λ (o : Option LinkPlan). IsAlone c.args.wish.now (to_z w64 (of_z w64 c.stamp_of.result)) o) m.none c.in-Ok.ensures))
+          ∙ ap Err (sym m.why);
+    })) c.or_missing.ensures.refused
 
 pub returns-in_err-base-clause-refused : goal.returns-in_err-base-clause-refused
 returns-in_err-base-clause-refused g c =
