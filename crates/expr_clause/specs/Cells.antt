@@ -6,7 +6,7 @@
 --     if_whole                a number as a cell, where it is an i64
 --     calculate, calculate_one, compare, combine      operators of arithmetic, comparisons and operators on flags
 --     answered                the cell that is answered
-use Rattle.std.specs.Prelude.{ℕ, ◌^◌, ℤ, pos, neg_ℤ, Bool, true, false, ◌&&◌, if◌then◌else◌, int_le, int_lt, Option, Some, None, Result, Ok, Err}
+use Rattle.std.specs.Prelude.{ℕ, ◌^◌, ℤ, pos, neg_ℤ, Bool, false, ◌&&◌, if◌then◌else◌, int_le, int_lt, Option, Some, None, Result, Ok, Err}
 use Rattle.std.specs.Cmp.Lexicographic.{slice_cmp}
 use Rattle.std.specs.declared.cmp.Ordering.{Ordering}
 use Rattle.std.specs.Ordering.{nat_cmp, int_cmp, bool_cmp, is_eq, flip_args}

@@ -1,5 +1,4 @@
 use Rattle.std.proofs.Common.{◌≡◌, ◌++◌, take}
-use Rattle.frame_core.specs.Schemas.{Schema}
 use Rattle.expr_clause.proofs.typing.add_columns.Given as goal
 
 -- the columns so far were added

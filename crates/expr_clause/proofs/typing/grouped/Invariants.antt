@@ -1,5 +1,4 @@
-use Rattle.std.proofs.Common.{◌≡◌, Bool, false, Option, drop, List}
-use Rattle.frame_core.specs.Schemas.{Head}
+use Rattle.std.proofs.Common.{◌≡◌, false, drop}
 use Rattle.expr_clause.specs.Typing.{group_columns, with_outs}
 use Rattle.expr_clause.proofs.typing.grouped.Given as goal
 
