@@ -1,0 +1,6 @@
+pub mod Levels
+pub mod Values
+pub mod Names
+pub mod ViewLemmas
+pub mod ColumnLemmas
+mod WorkedRows

@@ -1,0 +1,6 @@
+pub mod Order
+pub mod Merging
+pub mod Keys
+pub mod Grouping
+pub mod TallyLaws
+pub mod RisingMerge

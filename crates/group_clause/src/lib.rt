@@ -1,0 +1,8 @@
+//! Groups of a read, made part by part: what a group keeps of the lines that were added, in whichever order.
+#![tactic(auto)]
+
+mod laws;
+mod tally;
+
+pub use laws::{groups_merge_in_any_order, parts_merge};
+pub use tally::Tally;
