@@ -2,6 +2,7 @@
 
 ghost use Rattle.std.specs.Prelude.{◌≡◌, false, ◌∷◌, [], map, IfOk, IfSome, OnOk, Ok};
 ghost use Rattle.std.specs.Arc.{arc_value};
+ghost use Rattle.bucket_core.specs.declared.event.Change.{Change as SeenChange};
 ghost use Rattle.bucket_core.specs.Calls.{IsSteady, put_event, drop_event};
 ghost use Rattle.key_kind.specs.Names.{IsName};
 ghost use Rattle.key_kind.specs.KeyText.{key_text};
@@ -12,9 +13,9 @@ ghost use Rattle.store_model.specs.Commits.{is_version, change_marks, marks_of a
 ghost use Rattle.store_model.specs.Law.{MayPut};
 ghost use Rattle.version_chain.specs.Entries.{IsEntry};
 ghost use Rattle.version_chain.specs.Marking.{MayMark, DidMark, element_key};
-ghost use Rattle.version_chain.specs.MarkPlans.{IsElementKey, IsFormed, IsMarking, IsOwnEntry};
+ghost use Rattle.version_chain.specs.MarkPlans.{IsElementKey, IsFormed, IsMarking, IsOwnEntry, IsPrepared};
 ghost use Rattle.version_chain.specs.Stops.{refused_by};
-ghost use Rattle.version_chain.specs.StoreCalls.{DidCall};
+ghost use Rattle.version_chain.specs.StoreCalls.{DidCall, DidUndo};
 
 use crate::elements::entry_bytes;
 use crate::law::StoreLaw;
@@ -73,6 +74,21 @@ pub fn mark_on<R: Wait, B: Bucket<StoreLaw>>(
             why: Refusal::NoMemory,
         });
     };
+    commit_mark(rt, bucket, symbol, state, marking)
+}
+
+/// Puts what is prepared, and then sets the symbol's reference. Where another's commit came between, the element is dropped again.
+fn commit_mark<R: Wait, B: Bucket<StoreLaw>>(
+    rt: &R,
+    bucket: &mut B,
+    symbol: &Symbol,
+    state: &SymbolState,
+    marking: Marking,
+) -> Result<u64, Refused>
+    requires prepared { (change : SeenChange) × IsPrepared (B.seen bucket.old) (B.number bucket.old) symbol.now state.now change marking }
+    ensures steady { IsSteady B.number B.limit B.faults B.sole bucket.old bucket.new }
+    ensures did { (change : SeenChange) → IsPrepared (B.seen bucket.old) (B.number bucket.old) symbol.now state.now change marking → DidMark (B.number bucket.old) (B.sole bucket.old) symbol.now state.now.place change (B.limit bucket.old) (B.faults bucket.old) (B.faults bucket.new) (B.seen bucket.old) (B.seen bucket.new) result }
+{
     let Marking {
         key,
         body,
@@ -89,11 +105,22 @@ pub fn mark_on<R: Wait, B: Bucket<StoreLaw>>(
     let StoreErr::Moved { now } = err else {
         return Err(refused_by(place, err));
     };
-    drop_element(rt, bucket, &entry)?;
-    Err(Refused {
-        place: now,
-        why: Refusal::Moved { now },
-    })
+    Err(undo(rt, bucket, &entry, now))
+}
+
+/// Drops the element of a try that was met by the commit of this place, and answers how the try ended.
+fn undo<R: Wait, B: Bucket<StoreLaw>>(rt: &R, bucket: &mut B, entry: &Key, now: u64) -> Refused
+    requires own { IsOwnEntry (B.seen bucket.old) (B.number bucket.old) entry.now }
+    ensures steady { IsSteady B.number B.limit B.faults B.sole bucket.old bucket.new }
+    ensures did { DidUndo (B.number bucket.old) (B.sole bucket.old) (B.limit bucket.old) (B.faults bucket.old) (B.faults bucket.new) (B.seen bucket.old) (B.seen bucket.new) (drop_event (B.number bucket.old) entry.now) now result }
+{
+    match drop_element(rt, bucket, entry) {
+        Ok(()) => Refused {
+            place: now,
+            why: Refusal::Moved { now },
+        },
+        Err(refused) => refused,
+    }
 }
 
 /// Puts an element.
