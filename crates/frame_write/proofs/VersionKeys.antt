@@ -19,7 +19,7 @@ use Rattle.reply_model.specs.Answering.{removed}
 use Rattle.frame_write.specs.declared.laying.Layout.{Layout}
 use Rattle.frame_write.specs.declared.options.Options.{Options}
 use Rattle.frame_write.specs.declared.plan.Plan.{Plan}
-use Rattle.frame_write.specs.declared.plan.Entered.{Entered}
+use Rattle.frame_write.specs.declared.plan.Linked.{Linked}
 use Rattle.frame_write.specs.declared.puts.Prepared.{Prepared}
 use Rattle.frame_write.specs.Plans.{put_seen, puts_seen}
 use Rattle.frame_write.specs.SlotKeys.{slots_key}
@@ -36,20 +36,20 @@ seen_more (x ∷ xs) ys = ap (λ l. put_seen x ∷ l) (seen_more xs ys)
 
 -- the index behind the new tiles, and the element of its link behind it, are the plan of the version
 pub version_plan : (client version : ℕ) (symbol : Name) (tip : ChainTip) (layout : Layout) (schema : Schema) (change : Change) (options : Options) (puts : List Prepared) (index : Prepared) (stamp : ℤ) (key : Key) (last : ℕ) (plan : Plan)
-    → (entered : Entered) → plan.was ≡ entered.was → plan.entry ≡ entered.entry → arc_value plan.mark ≡ arc_value entered.mark → plan.version ≡ version → arc_value plan.changes ≡ change ∷ removed tip.buried
+    → (linked : Linked) → plan.puts ≡ linked.puts → plan.was ≡ linked.entered.was → plan.entry ≡ linked.entered.entry → arc_value plan.mark ≡ arc_value linked.entered.mark → plan.version ≡ version → arc_value plan.changes ≡ change ∷ removed tip.buried
     → puts ≡ layout.puts ++ index ∷ [] → index.key ≡ slots_key client symbol version layout.next layout.slots → index_of (arc_value index.body) ≡ Ok (index_with schema layout) → IsName symbol → stamp ≡ options.at → key ≡ index.key
-    → last ≡ suc layout.next → last < 2 ^ 64 → AddsElement client last symbol tip (record { version = version; stamp = stamp; rows = layout.rows; index = key }) puts plan.puts entered
+    → last ≡ suc layout.next → last < 2 ^ 64 → AddsElement client last symbol tip (record { version = version; stamp = stamp; rows = layout.rows; index = key }) puts linked
     → IsVersionPlan client version symbol tip layout schema change options plan
-version_plan client version symbol tip layout schema change options puts index stamp key last plan entered was_is entry_is mark_is number_is changes_are puts_are key_is spelled name stamp_is same last_is small p =
+version_plan client version symbol tip layout schema change options puts index stamp key last plan linked linked_is was_is entry_is mark_is number_is changes_are puts_are key_is spelled name stamp_is same last_is small p =
     let row_is : record { version = version; stamp = stamp; rows = layout.rows; index = key } ≡ row_of client symbol version layout options = (λ i. record { version = version; stamp = stamp_is i; rows = layout.rows; index = (same ∙ key_is) i }) in
     record {
       index = arc_value index.body;
       element = p.element;
-      puts = p.puts_are
+      puts = ap puts_seen linked_is ∙ (p.puts_are
           ∙ (ap (λ (ps : List Prepared). puts_seen ps ++ (element_key client symbol last, p.element) ∷ []) puts_are
           ∙ (ap (λ (ps : List (Key × Bytes)). ps ++ (element_key client symbol last, p.element) ∷ []) (seen_more layout.puts (index ∷ []))
           ∙ (append_assoc (puts_seen layout.puts) (put_seen index ∷ []) ((element_key client symbol last, p.element) ∷ [])
-          ∙ (λ i. puts_seen layout.puts ++ (key_is i, arc_value index.body) ∷ (element_key client symbol (last_is i), p.element) ∷ []))));
+          ∙ (λ i. puts_seen layout.puts ++ (key_is i, arc_value index.body) ∷ (element_key client symbol (last_is i), p.element) ∷ [])))));
       index_spelled = spelled;
       element_spelled = p.spelled ∙ ap (λ (row : LinkRow). Ok (record { prev = tip.was; changes = marks.Link row ∷ map marks.Tomb tip.buried })) row_is;
       was = was_is ∙ p.was;

@@ -1,7 +1,8 @@
 -- The plan of a new version.
 --     row_of, index_with      the row of the version's link, and its index
 --     IsVersionPlan       how a plan is made of slots that are laid out, on a walked tip
---     AddsIndex, AddsElement      an index, an element, put behind other puts
+--     IsLaidTable         the new tiles of a layout and their index, as they are put
+--     AddsElement         an element put behind other puts
 --     MayPlan             the walked tip is the symbol's, and the next serials are free
 --     IsPlanOf            the plan of a change in pieces
 use Rattle.std.specs.Prelude.{◌≡◌, ◌<◌, ◌≤◌, ◌^◌, ◌+◌, ℕ, suc, Bool, List, [], ◌∷◌, ◌++◌, map, length, Ok}
@@ -9,7 +10,6 @@ use Rattle.std.specs.Arc.{arc_value}
 use Rattle.frame_core.specs.Schemas.{Schema}
 use Rattle.index_tree.specs.declared.index.Index.{Index}
 use Rattle.index_tree.specs.IndexText.{index_of}
-use Rattle.key_kind.specs.declared.key.Key.{Key}
 use Rattle.key_kind.specs.Names.{Name, IsName}
 use Rattle.key_kind.specs.KeyText.{key_text}
 use Rattle.bucket_core.specs.declared.event.Change.{Change}
@@ -27,7 +27,8 @@ use Rattle.frame_write.specs.declared.laying.Layout.{Layout}
 use Rattle.frame_write.specs.declared.options.Options.{Options}
 use Rattle.frame_write.specs.declared.pieces.Piece.{Piece}
 use Rattle.frame_write.specs.declared.plan.Plan.{Plan}
-use Rattle.frame_write.specs.declared.plan.Entered.{Entered}
+use Rattle.frame_write.specs.declared.plan.Linked.{Linked}
+use Rattle.frame_write.specs.declared.plan.Table.{Table}
 use Rattle.frame_write.specs.declared.puts.Prepared.{Prepared}
 use Rattle.frame_write.specs.Pieces.{laid, new_tiles}
 use Rattle.frame_write.specs.Plans.{IsPlan, puts_seen}
@@ -56,21 +57,24 @@ pub record IsVersionPlan (client version : ℕ) (symbol : Name) (tip : ChainTip)
   pub is_name : IsName symbol
   pub serials_fit : suc layout.next < 2 ^ 64
 
--- an index is put behind these
-pub record AddsIndex (key : Key) (index : Index) (old new : List Prepared) : Type 0 where
+-- the tiles of a layout, and behind them its index under the next serial
+pub record IsLaidTable (client : ℕ) (symbol : Name) (version : ℕ) (schema : Schema) (layout : Layout) (table : Table) : Type 0 where
   pub put : Prepared
-  pub puts_are : new ≡ old ++ put ∷ []
-  pub key_is : put.key ≡ key
-  pub spelled : index_of (arc_value put.body) ≡ Ok index
+  pub puts_are : table.puts ≡ layout.puts ++ put ∷ []
+  pub key_is : put.key ≡ slots_key client symbol version layout.next layout.slots
+  pub spelled : index_of (arc_value put.body) ≡ Ok (index_with schema layout)
+  pub key : table.index ≡ put.key
+  pub next : table.next ≡ suc layout.next
+  pub fits : suc layout.next < 2 ^ 64
 
 -- an element is put behind these, which stands on the walked reference, has this link and buries what is to be buried
-pub record AddsElement (client serial : ℕ) (symbol : Name) (tip : ChainTip) (row : LinkRow) (old new : List Prepared) (entered : Entered) : Type 0 where
+pub record AddsElement (client serial : ℕ) (symbol : Name) (tip : ChainTip) (row : LinkRow) (old : List Prepared) (linked : Linked) : Type 0 where
   pub element : Bytes
-  pub puts_are : puts_seen new ≡ puts_seen old ++ (element_key client symbol serial, element) ∷ []
+  pub puts_are : puts_seen linked.puts ≡ puts_seen old ++ (element_key client symbol serial, element) ∷ []
   pub spelled : entry_of element ≡ Ok (record { prev = tip.was; changes = marks.Link row ∷ map marks.Tomb tip.buried })
-  pub was : entered.was ≡ tip.was
-  pub entry : entered.entry ≡ element_key client symbol serial
-  pub mark : arc_value entered.mark ≡ key_text entered.entry
+  pub was : linked.entered.was ≡ tip.was
+  pub entry : linked.entered.entry ≡ element_key client symbol serial
+  pub mark : arc_value linked.entered.mark ≡ key_text linked.entered.entry
 
 -- the tip is the symbol's in the lawful history, walked for what it buries, and the client's next serial is no lower than it was there
 pub record MayPlan (client serial : ℕ) (before : History) (symbol : Name) (prune : Bool) (tip : ChainTip) : Type 0 where

@@ -1,5 +1,8 @@
 ghost use Rattle.std.specs.Prelude.{◌≡◌, [], ◌∷◌, ◌++◌, IfOk, IfSome, OnOk};
+ghost use Rattle.std.specs.Arc.{arc_value};
 ghost use Rattle.frame_core.specs.Limits.{IsStorable};
+ghost use Rattle.key_kind.specs.Keys.{IsKey};
+ghost use Rattle.key_kind.specs.KeyText.{key_text};
 ghost use Rattle.bucket_core.specs.History.{History};
 ghost use Rattle.segment_cut.specs.Cuttings.{Cutting};
 ghost use Rattle.index_tree.specs.IndexRules.{IsIndex};
@@ -8,10 +11,9 @@ ghost use Rattle.version_chain.specs.MarkPlans.{IsElementKey};
 ghost use Rattle.version_chain.specs.Tips.{IsTipOf};
 ghost use Rattle.version_chain.specs.Entries.{IsLink};
 ghost use Rattle.frame_write.specs.Placing.{AreTilesOf};
-ghost use Rattle.frame_write.specs.SlotKeys.{slots_key};
 ghost use Rattle.frame_write.specs.WritePlans.{IsTable, IsWritePlan};
 ghost use Rattle.frame_write.specs.Links.{FitsPlan};
-ghost use Rattle.frame_write.specs.Versions.{index_with, AddsElement, AddsIndex, MayPlan, IsPlanOf};
+ghost use Rattle.frame_write.specs.Versions.{index_with, AddsElement, IsLaidTable, MayPlan, IsPlanOf};
 
 use crate::changes::{changes_of, changes_with};
 use crate::elements::{copied, mark_of, place_element};
@@ -69,6 +71,15 @@ struct Entered {
     mark: Arc<Body>,
 }
 
+/// A table, and behind its puts the element that links its index.
+#[derive(Drop)]
+struct Linked {
+    /// The puts of the table, and then the element.
+    puts: Items<Prepared>,
+    /// The element.
+    entered: Entered,
+}
+
 /// The plan of a try on the symbol's tip, for the client's puts from this serial on.
 pub(crate) fn plan_write(
     alloc: Global,
@@ -87,24 +98,22 @@ pub(crate) fn plan_write(
     ensures { IfOk result (λ plan. (before : History) → IsTipOf before symbol.now options.now.prune tip.now → IsWritePlan client serial before symbol.now frame.now options.now plan) }
 {
     let version = tip.next;
-    let Table {
-        mut puts,
-        index,
-        next,
-    } = put_table(alloc, client, serial, symbol, version, frame, tiles)?;
-    let row = LinkRow {
-        version,
-        stamp: options.stamp(),
-        rows: frame.rows(),
-        index,
-    };
-    let element = add_element(alloc, client, next, symbol, tip, row, &mut puts)?;
+    let table = put_table(alloc, client, serial, symbol, version, frame, tiles)?;
+    let linked = link_table(
+        alloc,
+        client,
+        symbol,
+        tip,
+        options.stamp(),
+        frame.rows(),
+        table,
+    )?;
     let changes = changes_of(alloc, frame, options.stamp(), tip.buried.items())?;
     Ok(Plan {
-        puts,
-        was: element.was,
-        entry: element.entry,
-        mark: element.mark,
+        puts: linked.puts,
+        was: linked.entered.was,
+        entry: linked.entered.entry,
+        mark: linked.entered.mark,
         changes,
         version,
     })
@@ -168,7 +177,7 @@ pub(crate) fn plan_link(
     ensures { IfOk result (λ made. (before : History) → MayPlan client serial before symbol.now options.now.prune tip.now → FitsPlan before symbol.now options.now.at link.now → IsPlanOf client serial before symbol.now options.now link.now.change link.now.pieces made) }
 {
     let version = tip.next;
-    let mut layout = lay_out(
+    let layout = lay_out(
         alloc,
         client,
         serial,
@@ -177,71 +186,86 @@ pub(crate) fn plan_link(
         link.pieces.items(),
         options.cutting,
     )?;
-    let Some(last) = layout.next.checked_add(1) else {
-        return Err(NoMemory);
-    };
-    let row = LinkRow {
-        version,
-        stamp: options.stamp(),
-        rows: layout.rows,
-        index: add_slots(alloc, client, symbol, version, &link.schema, &mut layout)?,
-    };
-    let element = add_element(alloc, client, last, symbol, tip, row, &mut layout.puts)?;
+    let rows = layout.rows;
+    let table = lay_table(alloc, client, symbol, version, &link.schema, layout)?;
+    let linked = link_table(alloc, client, symbol, tip, options.stamp(), rows, table)?;
     let changes = changes_with(alloc, &link.change, tip.buried.items())?;
     Ok(Plan {
-        puts: layout.puts,
-        was: element.was,
-        entry: element.entry,
-        mark: element.mark,
+        puts: linked.puts,
+        was: linked.entered.was,
+        entry: linked.entered.entry,
+        mark: linked.entered.mark,
         changes,
         version,
     })
 }
 
-/// Adds the index of what was laid out behind the tiles, and gives its key.
-fn add_slots(
+/// The tiles that were laid out, and behind them their index.
+fn lay_table(
     alloc: Global,
     client: u32,
     symbol: &Symbol,
     version: u64,
     schema: &Schema,
-    layout: &mut Layout,
-) -> Result<Key, NoMemory>
-    requires { IsIndex (index_with schema.now layout.old) }
-    ensures key { IfOk result (λ key. key ≡ slots_key client symbol.now version layout.old.next layout.old.slots) }
-    ensures added { OnOk result (AddsIndex (slots_key client symbol.now version layout.old.next layout.old.slots) (index_with schema.now layout.old) layout.old.puts layout.new.puts) }
+    layout: Layout,
+) -> Result<Table, NoMemory>
+    requires { IsIndex (index_with schema.now layout) }
+    ensures { IfOk result (IsLaidTable client symbol.now version schema.now layout) }
 {
-    let put = place_slots(alloc, client, symbol, version, schema, layout)?;
-    let index = add_put(alloc, put, &mut layout.puts)?;
-    Ok(index)
+    let Some(last) = layout.next.checked_add(1) else {
+        return Err(NoMemory);
+    };
+    let put = place_slots(alloc, client, symbol, version, schema, &layout)?;
+    let mut puts = layout.puts;
+    let index = add_put(alloc, put, &mut puts)?;
+    Ok(Table {
+        puts,
+        index,
+        next: last,
+    })
 }
 
-/// Adds the element that links this row behind the other puts. It stands on the symbol's tip.
-fn add_element(
+/// Adds the element that links the version of an index behind the puts of its table. It stands on the symbol's tip.
+fn link_table(
     alloc: Global,
     client: u32,
-    serial: u64,
     symbol: &Symbol,
     tip: &ChainTip,
-    row: LinkRow,
-    puts: &mut Items<Prepared>,
-) -> Result<Entered, NoMemory>
+    stamp: i64,
+    rows: u64,
+    table: Table,
+) -> Result<Linked, NoMemory>
     requires was { IfSome tip.now.was (IsElementKey symbol.now) }
     requires rising { Rising tip.now.buried }
-    requires link { IsLink row }
-    ensures { IfOk result (AddsElement client serial symbol.now tip.now row puts.old puts.new) }
+    requires link { IsLink (record { version = tip.now.next; stamp = stamp; rows = rows; index = table.index }) }
+    ensures { IfOk result (AddsElement client table.next symbol.now tip.now (record { version = tip.now.next; stamp = stamp; rows = rows; index = table.index }) table.puts) }
 {
-    let put = place_element(
-        alloc,
-        client,
-        serial,
-        symbol,
-        &tip.was,
-        row,
-        tip.buried.items(),
-    )?;
-    let entry = add_put(alloc, put, puts)?;
+    let Table {
+        mut puts,
+        index,
+        next,
+    } = table;
+    let row = LinkRow {
+        version: tip.next,
+        stamp,
+        rows,
+        index,
+    };
+    let buried = tip.buried.items();
+    let put = place_element(alloc, client, next, symbol, &tip.was, row, buried)?;
+    let entry = add_put(alloc, put, &mut puts)?;
+    let entered = enter(alloc, &tip.was, entry)?;
+    Ok(Linked { puts, entered })
+}
+
+/// What a Refer names of the element under this key, which stands on `was`.
+fn enter(alloc: Global, was: &Option<Key>, entry: Key) -> Result<Entered, NoMemory>
+    requires { IsKey entry }
+    ensures was { IfOk result (λ entered. entered.was ≡ was.now) }
+    ensures entry { IfOk result (λ entered. entered.entry ≡ entry) }
+    ensures mark { IfOk result (λ entered. arc_value entered.mark ≡ key_text entry) }
+{
     let mark = mark_of(alloc, &entry)?;
-    let was = copied(alloc, &tip.was)?;
+    let was = copied(alloc, was)?;
     Ok(Entered { was, entry, mark })
 }

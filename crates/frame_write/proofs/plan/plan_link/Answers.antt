@@ -21,15 +21,15 @@ lay_out-requires c =
       few = subst (λ (ps : List Piece). rows_in ps ≤ 2000000) (sym c.items.ensures) (few_rows r.0 r.1.lawful c.args.symbol.now c.args.options.now.at c.args.link.now r.2);
     }
 
-pub add_slots-requires : goal.add_slots-requires
-add_slots-requires c =
+pub lay_table-requires : goal.lay_table-requires
+lay_table-requires c =
     let r = c.requires.fits in
     let fits : FitsTry c.args.client c.args.symbol.now c.args.tip.now.next = record { client_fits = c.ranges.client.fits; is_name = c.in_ok-layout.ensures.is_name; version_fits = omega (arith, c.ranges) } in
     let laid = subst (λ (ps : List Piece). IsLaid c.args.client c.args.symbol.now c.args.tip.now.next c.args.options.now.cutting c.args.serial ps c.in_ok-layout.layout) c.items.ensures c.in_ok-layout.ensures.laid in
     link_index c.args.client c.args.serial c.args.symbol.now c.args.tip.now.next r.0 c.args.options.now.prune c.args.tip.now c.args.options.now.at c.args.link.now c.args.options.now.cutting c.in_ok-layout.layout fits r.1 r.2 laid
 
-pub add_element-requires : goal.add_element-requires
-add_element-requires c =
+pub link_table-requires : goal.link_table-requires
+link_table-requires c =
     let r = c.requires.fits in
     let fits : FitsTry c.args.client c.args.symbol.now c.args.tip.now.next = record { client_fits = c.ranges.client.fits; is_name = c.in_ok-layout.ensures.is_name; version_fits = omega (arith, c.ranges) } in
     let laid = subst (λ (ps : List Piece). IsLaid c.args.client c.args.symbol.now c.args.tip.now.next c.args.options.now.cutting c.args.serial ps c.in_ok-layout.layout) c.items.ensures c.in_ok-layout.ensures.laid in
@@ -39,7 +39,7 @@ add_element-requires c =
       rising = c.requires.rising;
       link = record {
         rows = index.few_rows;
-        index = slots_key_of c.args.client c.in_ok-layout.layout.next c.args.symbol.now c.args.tip.now.next c.in_ok-layout.layout.slots c.in_ok-add_slots.field-0 c.in_ok-layout.ensures.is_name c.in_ok-add_slots.ensures.key;
+        index = slots_key_of c.args.client c.in_ok-layout.layout.next c.args.symbol.now c.args.tip.now.next c.in_ok-layout.layout.slots c.in_ok-table.table.index c.in_ok-layout.ensures.is_name (c.in_ok-table.ensures.key ∙ c.in_ok-table.ensures.key_is);
       };
     }
 
@@ -49,22 +49,20 @@ changes_with-requires c = is_made c.requires.fits.0 c.requires.fits.1.lawful c.a
 pub returns : goal.returns
 returns c = λ before may fit.
     let layout : Layout = c.in_ok-layout.layout in
-    let added = c.in_ok-add_slots.ensures.added in
+    let table = c.in_ok-table.ensures in
     let version_fits : c.args.tip.now.next < 2 ^ 64 = omega (arith, c.ranges) in
     let plan : Plan = record {
-      puts = c.add_element.new.puts;
-      was = c.in_ok-element.element.was;
-      entry = c.in_ok-element.element.entry;
-      mark = c.in_ok-element.element.mark;
+      puts = c.in_ok-linked.linked.puts;
+      was = c.in_ok-linked.linked.entered.was;
+      entry = c.in_ok-linked.linked.entered.entry;
+      mark = c.in_ok-linked.linked.entered.mark;
       changes = c.in_ok-changes.changes;
       version = c.args.tip.now.next;
     } in
     let laid = subst (λ (ps : List Piece). IsLaid c.args.client c.args.symbol.now c.args.tip.now.next c.args.options.now.cutting c.args.serial ps layout) c.items.ensures c.in_ok-layout.ensures.laid in
-    let last : c.in-Some.last ≡ suc layout.next = omega (arith, c.in-Some.ensures.1) in
-    let small : c.in-Some.last < 2 ^ 64 = omega (arith, c.in-Some.ensures.0, c.in-Some.ensures.1) in
-    let row : LinkRow = record { version = c.args.tip.now.next; stamp = c.stamp.result; rows = layout.rows; index = c.in_ok-add_slots.field-0 } in
-    let e = c.in_ok-element.ensures in
-    let element : AddsElement c.args.client c.in-Some.last c.args.symbol.now c.args.tip.now row c.add_slots.new.layout.puts c.add_element.new.puts c.in_ok-element.element = record {
+    let row : LinkRow = record { version = c.args.tip.now.next; stamp = c.stamp.result; rows = layout.rows; index = c.in_ok-table.table.index } in
+    let e = c.in_ok-linked.ensures in
+    let element : AddsElement c.args.client c.in_ok-table.table.next c.args.symbol.now c.args.tip.now row c.in_ok-table.table.puts c.in_ok-linked.linked = record {
       element = e.element;
       puts_are = e.puts_are;
       spelled = search rules;
@@ -73,6 +71,6 @@ returns c = λ before may fit.
       mark = e.mark;
     } in
     plan_of c.args.client c.args.serial c.args.symbol.now c.args.tip.now.next before c.args.tip.now c.args.link.now c.args.options.now layout plan c.ranges.client.fits version_fits refl may fit laid
-    (version_plan c.args.client c.args.tip.now.next c.args.symbol.now c.args.tip.now layout c.args.link.now.schema c.args.link.now.change c.args.options.now _ added.put c.stamp.result c.in_ok-add_slots.field-0 c.in-Some.last plan
-    c.in_ok-element.element refl refl refl refl (c.in_ok-changes.ensures ∙ ap (λ (ns : List ℕ). c.args.link.now.change ∷ removed ns) c.items-2.ensures)
-    added.puts_are added.key_is added.spelled c.in_ok-layout.ensures.is_name c.stamp.ensures (c.in_ok-add_slots.ensures.key ∙ sym added.key_is) last small element)
+    (version_plan c.args.client c.args.tip.now.next c.args.symbol.now c.args.tip.now layout c.args.link.now.schema c.args.link.now.change c.args.options.now c.in_ok-table.table.puts table.put c.stamp.result c.in_ok-table.table.index c.in_ok-table.table.next plan
+    c.in_ok-linked.linked refl refl refl refl refl (c.in_ok-changes.ensures ∙ ap (λ (ns : List ℕ). c.args.link.now.change ∷ removed ns) c.items-2.ensures)
+    table.puts_are table.key_is table.spelled c.in_ok-layout.ensures.is_name c.stamp.ensures table.key table.next (subst (λ n. n < 2 ^ 64) (sym table.next) table.fits) element)

@@ -9,28 +9,28 @@ use Rattle.frame_write.proofs.plan.plan_write.Goals as goal
 pub put_table-requires : goal.put_table-requires
 put_table-requires c = record { storable = c.requires.storable; tiles = (c.args.options.now.cutting, c.requires.tiles) }
 
-pub add_element-requires : goal.add_element-requires
-add_element-requires c =
-    let table = c.in_ok-puts.ensures in
+pub link_table-requires : goal.link_table-requires
+link_table-requires c =
+    let table = c.in_ok-table.ensures in
     record {
       was = c.requires.was;
       rising = c.requires.rising;
       link = record {
         rows = small_rows c.args.frame.now c.requires.storable c.rows.result c.rows.ensures.rows;
-        index = index_key_of c.args.client _ c.args.symbol.now c.args.tip.now.next c.args.frame.now c.in_ok-puts.field-0.index table.is_name (table.key ∙ table.index_key_is);
+        index = index_key_of c.args.client _ c.args.symbol.now c.args.tip.now.next c.args.frame.now c.in_ok-table.table.index table.is_name (table.key ∙ table.index_key_is);
       };
     }
 
 pub returns : goal.returns
 returns c = λ before walked.
-    let table = c.in_ok-puts.ensures in
-    let element = c.in_ok-element.ensures in
+    let table = c.in_ok-table.ensures in
+    let element = c.in_ok-linked.ensures in
     let fits : FitsTry c.args.client c.args.symbol.now c.args.tip.now.next = record { client_fits = c.ranges.client.fits; is_name = table.is_name; version_fits = omega (arith, c.ranges) } in
     let plan : Plan = record {
-      puts = c.add_element.new.puts;
-      was = c.in_ok-element.element.was;
-      entry = c.in_ok-element.element.entry;
-      mark = c.in_ok-element.element.mark;
+      puts = c.in_ok-linked.linked.puts;
+      was = c.in_ok-linked.linked.entered.was;
+      entry = c.in_ok-linked.linked.entered.entry;
+      mark = c.in_ok-linked.linked.entered.mark;
       changes = c.in_ok-changes.changes;
       version = c.args.tip.now.next;
     } in
@@ -39,11 +39,11 @@ returns c = λ before walked.
       made = table.made;
       index = table.index;
       element = element.element;
-      row = record { version = c.args.tip.now.next; stamp = c.stamp.result; rows = c.rows.result; index = c.in_ok-puts.field-0.index };
+      row = record { version = c.args.tip.now.next; stamp = c.stamp.result; rows = c.rows.result; index = c.in_ok-table.table.index };
       version_is = refl;
       made_are = table.made_are;
       puts_are = element.puts_are
-          ∙ (ap (λ (l : List Prepared). puts_seen l ++ (element_key c.args.client c.args.symbol.now c.in_ok-puts.field-0.next, element.element) ∷ []) table.puts
+          ∙ (ap (λ (l : List Prepared). puts_seen l ++ (element_key c.args.client c.args.symbol.now c.in_ok-table.table.next, element.element) ∷ []) table.puts
           ∙ ap (λ n. puts_seen (table.made ++ table.index ∷ []) ++ (element_key c.args.client c.args.symbol.now n, element.element) ∷ []) table.next);
       index_key_is = table.index_key_is;
       index_spelled = table.index_spelled;
