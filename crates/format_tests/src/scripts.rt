@@ -2,6 +2,7 @@ use frame_core::Column;
 use script_lang::{
     AsOf, ColType, Command, CsvFault, RawFrame, Script, ScriptFault, read_frame, read_script,
 };
+use std::alloc::Global;
 use std::test::Fail;
 
 const INT: ColType = ColType::Int;
@@ -39,62 +40,75 @@ fn is_worked(raw: &RawFrame) -> bool {
         && raw.names.len() == 2
 }
 
-#[test]
-fn the_worked_file_gives_its_columns(rt: HostRuntime) {
-    let file = b"time,price,size\n1,100,5\n2,101,7\n2,102,1\n4,99,3\n9,105,2\n";
-    let worked = read_frame(rt.alloc(), &[INT, INT], file);
-    assert!(rt; matches!(&worked, Ok(raw) if is_worked(raw)));
+// What a file gives.
+enum Columns {
+    Worked,
+    // The stamps and the numbers of its one column.
+    One(&'static [i64], &'static [i64]),
+    Nothing,
 }
 
-// Whether these are the stamps and the numbers of the one column of a file.
-fn has_one(rt: &HostRuntime, file: &[u8], stamps: &[i64], numbers: &[i64]) -> bool {
-    matches!(&read_frame(rt.alloc(), &[INT], file), Ok(raw) if has(raw, stamps, numbers, None))
+fn is_given(raw: &RawFrame, what: &Columns) -> bool {
+    match what {
+        Columns::Worked => is_worked(raw),
+        Columns::One(stamps, numbers) => has(raw, stamps, numbers, None),
+        Columns::Nothing => false,
+    }
 }
 
-#[test]
-fn numbers_have_a_sign_leading_zeros_and_up_to_18_digits(rt: HostRuntime) {
-    let file = b"time,price\n-0,-999999999999999999\n-3,000000000000000012\n";
-    assert!(rt; has_one(&rt, file, &[0, -3], &[-999_999_999_999_999_999, 12]));
+fn gives(alloc: Global, types: &[ColType], file: &str, what: &Columns) -> bool {
+    match &read_frame(alloc, types, file.as_bytes()) {
+        Ok(raw) => is_given(raw, what),
+        Err(CsvFault::BadCsv) => matches!(what, Columns::Nothing),
+        Err(_) => false,
+    }
 }
 
-#[test]
-fn a_file_may_have_a_header_alone(rt: HostRuntime) {
-    assert!(rt; has_one(&rt, b"time,price\n", &[], &[]));
-}
-
-const BAD_FILES: &[&[u8]] = &[
-    b"",
-    b"time,price",
-    b"time,price\n1,2",
-    b"time,price\n1\n",
-    b"time,price\n1,2,3\n",
-    b"time\n1,2\n",
-    b"time,price,size\n1,2\n",
-    b"time,true\n1,2\n",
-    b"time,9a\n1,2\n",
-    b"1time,price\n1,2\n",
-    b"time,p q\n1,2\n",
-    b"time,price\r\n1,2\r\n",
-    b"time,price\n\n",
-    b"time,price\n1,\n",
-    b"time,price\n1,-\n",
-    b"time,price\n1,+2\n",
-    b"time,price\n1, 2\n",
-    b"time,price\n1,2.5\n",
-    b"time,price\n1,1234567890123456789\n",
-    b"time,price\n1,2\n\n",
+// The types of its columns, a file, and what it gives. Numbers have a sign, leading zeros and up to 18 digits, and a header may stand alone.
+const FILES: &[(&[ColType], &str, Columns)] = &[
+    (
+        &[INT, INT],
+        "time,price,size\n1,100,5\n2,101,7\n2,102,1\n4,99,3\n9,105,2\n",
+        Columns::Worked,
+    ),
+    (
+        &[INT],
+        "time,price\n-0,-999999999999999999\n-3,000000000000000012\n",
+        Columns::One(&[0, -3], &[-999_999_999_999_999_999, 12]),
+    ),
+    (&[INT], "time,price\n", Columns::One(&[], &[])),
+    (&[ColType::Flag], "time,up\n", Columns::Nothing),
+    (&[INT], "", Columns::Nothing),
+    (&[INT], "time,price", Columns::Nothing),
+    (&[INT], "time,price\n1,2", Columns::Nothing),
+    (&[INT], "time,price\n1\n", Columns::Nothing),
+    (&[INT], "time,price\n1,2,3\n", Columns::Nothing),
+    (&[INT], "time\n1,2\n", Columns::Nothing),
+    (&[INT], "time,price,size\n1,2\n", Columns::Nothing),
+    (&[INT], "time,true\n1,2\n", Columns::Nothing),
+    (&[INT], "time,9a\n1,2\n", Columns::Nothing),
+    (&[INT], "1time,price\n1,2\n", Columns::Nothing),
+    (&[INT], "time,p q\n1,2\n", Columns::Nothing),
+    (&[INT], "time,price\r\n1,2\r\n", Columns::Nothing),
+    (&[INT], "time,price\n\n", Columns::Nothing),
+    (&[INT], "time,price\n1,\n", Columns::Nothing),
+    (&[INT], "time,price\n1,-\n", Columns::Nothing),
+    (&[INT], "time,price\n1,+2\n", Columns::Nothing),
+    (&[INT], "time,price\n1, 2\n", Columns::Nothing),
+    (&[INT], "time,price\n1,2.5\n", Columns::Nothing),
+    (
+        &[INT],
+        "time,price\n1,1234567890123456789\n",
+        Columns::Nothing,
+    ),
+    (&[INT], "time,price\n1,2\n\n", Columns::Nothing),
 ];
 
-fn is_bad_file(rt: &HostRuntime, types: &[ColType], file: &[u8]) -> bool {
-    matches!(read_frame(rt.alloc(), types, file), Err(CsvFault::BadCsv))
-}
-
 #[test]
-fn each_file_outside_its_form_is_bad(rt: HostRuntime) {
-    for (place, file) in BAD_FILES.iter().enumerate() {
-        assert!(rt; is_bad_file(&rt, &[INT], file), "file {place}");
+fn files_give_their_columns_or_are_bad(rt: HostRuntime) {
+    for (types, file, what) in FILES {
+        assert!(rt; gives(rt.alloc(), types, file, what), "{file}");
     }
-    assert!(rt; is_bad_file(&rt, &[ColType::Flag], b"time,up\n"));
 }
 
 fn is_write(command: &Command) -> bool {
@@ -139,72 +153,8 @@ fn is_worked_script(script: &Script) -> bool {
     }
 }
 
-#[test]
-fn the_worked_script_gives_its_load_and_commands(rt: HostRuntime) {
-    let text = b"load t t.csv int,int\nfirst\nwrite S t\nread S\nread X\n";
-    let script = read_script(rt.alloc(), text);
-    assert!(rt; matches!(&script, Ok(script) if is_worked_script(script)));
-}
-
 fn writes_the_second(script: &Script) -> bool {
     matches!(script.first.items(), [Command::Write { frame: 1, .. }])
-}
-
-#[test]
-fn a_frame_is_named_by_its_place_among_the_loads(rt: HostRuntime) {
-    let text = b"load a a.csv int\nload b b.csv int\nfirst\nwrite S b\n";
-    let script = read_script(rt.alloc(), text);
-    assert!(rt; matches!(&script, Ok(script) if writes_the_second(script)));
-}
-
-const BAD_SCRIPTS: &[&[u8]] = &[
-    b"first",
-    b"first\r\n",
-    b"first\n\n",
-    b" first\n",
-    b"first \n",
-    b"first now\n",
-    b"first\nfirst\n",
-    b"read S\n",
-    b"load t t.csv int\nwrite S t\n",
-    b"first\nload t t.csv int\n",
-    b"load t t.csv int\nload t u.csv int\nfirst\n",
-    b"load true t.csv int\nfirst\n",
-    b"load 1t t.csv int\nfirst\n",
-    b"load t a/b.csv int\nfirst\n",
-    b"load t t.csv\nfirst\n",
-    b"load t t.csv int int\nfirst\n",
-    b"load t t.csv text\nfirst\n",
-    b"load t t.csv int,\nfirst\n",
-    b"load t t.csv -\nfirst\n",
-    b"load  t t.csv int\nfirst\n",
-    b"load t t.csv int\nfirst\nwrite  S t\n",
-    b"load t t.csv int\nfirst\nwrite S u\n",
-    b"first\nread a-b\n",
-    b"first\nread aaaaaaaaaaaaaaaaaaaaaaaaaaaaaaaaa\n",
-    b"first\nwrote S t\n",
-    b"first\n# read S\n",
-    b"client a\nfirst\n",
-    b"client a\nload t t.csv int\n",
-    b"last\nclient a\n",
-    b"last\nlast\n",
-    b"client\n",
-    b"client a b\n",
-    b"client a.b\n",
-    b"client last\n",
-    b"client aaaaaaaaaaaaaaaaaaaaaaaaaaaaaaaaa\n",
-    b"client a\nclient b\nclient a\n",
-];
-
-fn is_bad_script(rt: &HostRuntime, text: &[u8]) -> bool {
-    matches!(read_script(rt.alloc(), text), Err(ScriptFault::BadScript))
-}
-
-#[test]
-fn each_script_outside_its_form_is_bad(rt: HostRuntime) {
-    for (place, text) in BAD_SCRIPTS.iter().enumerate() {
-        assert!(rt; is_bad_script(&rt, text), "script {place}");
-    }
 }
 
 fn has_two_clients(script: &Script) -> bool {
@@ -226,78 +176,6 @@ fn has_parts(script: &Script) -> bool {
     script.first.len() == 1
         && has_two_clients(script)
         && matches!(script.last.items(), [Command::Versions { .. }])
-}
-
-#[test]
-fn each_part_has_its_commands(rt: HostRuntime) {
-    let text =
-        b"load t t.csv int\nfirst\nwrite S t\nclient a\nread S\nkeys S\nclient b-2\nlast\nversions S\n";
-    let script = read_script(rt.alloc(), text);
-    assert!(rt; matches!(&script, Ok(script) if has_parts(script)));
-}
-
-const PARTS_LEFT_OUT: &[&[u8]] = &[
-    b"",
-    b"load t t.csv int\n",
-    b"client a\nread S\n",
-    b"first\nlast\nread S\n",
-];
-
-#[test]
-fn each_part_may_be_left_out(rt: HostRuntime) {
-    for text in PARTS_LEFT_OUT {
-        assert!(rt; read_script(rt.alloc(), text).is_ok());
-    }
-}
-
-/// The script of this command behind the loads of `s` and `t`.
-fn script_of_command(rt: &HostRuntime, line: &[u8]) -> Result<Script, ScriptFault> {
-    let mut text = Vec::new(rt.alloc());
-    if text
-        .extend_from_slice(b"load s s.csv int\nload t t.csv int\nfirst\n")
-        .is_err()
-        || text.extend_from_slice(line).is_err()
-        || text.push(b'\n').is_err()
-    {
-        return Err(ScriptFault::NoMemory);
-    }
-    read_script(rt.alloc(), text.as_slice())
-}
-
-const COMMANDS: &[&[u8]] = &[
-    b"write S t at=50",
-    b"write S t at=60 prune",
-    b"write S t prune at=-0",
-    b"append S t",
-    b"append S t prune at=-9223372036854775808",
-    b"append S t at=0009223372036854775807",
-    b"update S t",
-    b"update S t range=2..10",
-    b"update X t upsert",
-    b"update S t prune at=7 upsert range=..-3",
-    b"update S t range=5..",
-    b"delete_range S range=2..4",
-    b"delete_range S range=4..4 prune at=1",
-    b"delete S",
-    b"delete S version=0",
-    b"delete S version=1,000000000000000002,1",
-    b"prune S",
-    b"reclaim S",
-    b"versions S",
-    b"keys S",
-    b"read S as_of=7",
-    b"read S as_of=0",
-    b"read S as_of=-2",
-    b"read S as_of=time:-49",
-    b"read S range=9..9 columns=price",
-    b"read S columns=price,size,_x9 as_of=-1 range=..-7",
-];
-
-#[test]
-fn each_command_takes_its_options_in_any_order(rt: HostRuntime) {
-    for (place, line) in COMMANDS.iter().enumerate() {
-        assert!(rt; script_of_command(&rt, line).is_ok(), "line {place}");
-    }
 }
 
 fn is_append(command: &Command) -> bool {
@@ -377,76 +255,216 @@ fn are_the_options(script: &Script) -> bool {
     }
 }
 
-#[test]
-fn the_options_give_their_values(rt: HostRuntime) {
-    let text = b"load s s.csv int\nload t t.csv int\nfirst\n\
+// What a script is to have.
+enum Wanted {
+    Worked,
+    // A write of the second of its loads.
+    Second,
+    Parts,
+    Options,
+    // What it may have, as it is one.
+    Anything,
+    Nothing,
+}
+
+fn is_so(script: &Script, what: &Wanted) -> bool {
+    match what {
+        Wanted::Worked => is_worked_script(script),
+        Wanted::Second => writes_the_second(script),
+        Wanted::Parts => has_parts(script),
+        Wanted::Options => are_the_options(script),
+        Wanted::Anything => true,
+        Wanted::Nothing => false,
+    }
+}
+
+fn is_read_as(alloc: Global, text: &[u8], what: &Wanted) -> bool {
+    match &read_script(alloc, text) {
+        Ok(script) => is_so(script, what),
+        Err(ScriptFault::BadScript) => matches!(what, Wanted::Nothing),
+        Err(_) => false,
+    }
+}
+
+// A script, and what it has. Each part may be left out.
+const SCRIPTS: &[(&str, Wanted)] = &[
+    (
+        "load t t.csv int,int\nfirst\nwrite S t\nread S\nread X\n",
+        Wanted::Worked,
+    ),
+    (
+        "load a a.csv int\nload b b.csv int\nfirst\nwrite S b\n",
+        Wanted::Second,
+    ),
+    (
+        "load t t.csv int\nfirst\nwrite S t\nclient a\nread S\nkeys S\nclient b-2\nlast\nversions S\n",
+        Wanted::Parts,
+    ),
+    (
+        "load s s.csv int\nload t t.csv int\nfirst\n\
         append S t prune at=-5\n\
         update S s upsert range=-3..10\n\
         delete S version=4,0\n\
         read S columns=price,size range=..9 as_of=time:55\n\
-        read S as_of=-2\n";
-    let script = read_script(rt.alloc(), text);
-    assert!(rt; matches!(&script, Ok(script) if are_the_options(script)));
-}
-
-const BAD_COMMANDS: &[&[u8]] = &[
-    b"write S t at=5 at=5",
-    b"write S t prune prune",
-    b"write S t prune=",
-    b"write S t at",
-    b"write S t at=",
-    b"write S t at=-",
-    b"write S t at=+5",
-    b"write S t at=9223372036854775808",
-    b"write S t at=-9223372036854775809",
-    b"write S t at=2024-01-02",
-    b"write S t upsert",
-    b"write S t  prune",
-    b"append S u",
-    b"append S",
-    b"append t S",
-    b"update S t range=5..3",
-    b"update S t range=..",
-    b"update S t range=5",
-    b"update S t range=1..2 range=1..2",
-    b"update S t columns=price",
-    b"delete_range S",
-    b"delete_range S prune range=2..4",
-    b"delete_range S range=1...4",
-    b"delete S version=",
-    b"delete S version=-1",
-    b"delete S version=1,,2",
-    b"delete S version=1234567890123456789",
-    b"delete S version=1 version=2",
-    b"prune",
-    b"prune S S",
-    b"keys S at=5",
-    b"read S as_of=-0",
-    b"read S as_of=snap:k",
-    b"read S as_of=time:",
-    b"read S columns=",
-    b"read S columns=price,true",
-    b"read S columns=`price`",
-    b"read S prune",
-    b"read S |> date_range 1..2",
-    b"stage S t",
-    b"symbols",
+        read S as_of=-2\n",
+        Wanted::Options,
+    ),
+    ("", Wanted::Anything),
+    ("load t t.csv int\n", Wanted::Anything),
+    ("client a\nread S\n", Wanted::Anything),
+    ("first\nlast\nread S\n", Wanted::Anything),
+    ("first", Wanted::Nothing),
+    ("first\r\n", Wanted::Nothing),
+    ("first\n\n", Wanted::Nothing),
+    (" first\n", Wanted::Nothing),
+    ("first \n", Wanted::Nothing),
+    ("first now\n", Wanted::Nothing),
+    ("first\nfirst\n", Wanted::Nothing),
+    ("read S\n", Wanted::Nothing),
+    ("load t t.csv int\nwrite S t\n", Wanted::Nothing),
+    ("first\nload t t.csv int\n", Wanted::Nothing),
+    (
+        "load t t.csv int\nload t u.csv int\nfirst\n",
+        Wanted::Nothing,
+    ),
+    ("load true t.csv int\nfirst\n", Wanted::Nothing),
+    ("load 1t t.csv int\nfirst\n", Wanted::Nothing),
+    ("load t a/b.csv int\nfirst\n", Wanted::Nothing),
+    ("load t t.csv\nfirst\n", Wanted::Nothing),
+    ("load t t.csv int int\nfirst\n", Wanted::Nothing),
+    ("load t t.csv text\nfirst\n", Wanted::Nothing),
+    ("load t t.csv int,\nfirst\n", Wanted::Nothing),
+    ("load t t.csv -\nfirst\n", Wanted::Nothing),
+    ("load  t t.csv int\nfirst\n", Wanted::Nothing),
+    ("load t t.csv int\nfirst\nwrite  S t\n", Wanted::Nothing),
+    ("load t t.csv int\nfirst\nwrite S u\n", Wanted::Nothing),
+    ("first\nread a-b\n", Wanted::Nothing),
+    (
+        "first\nread aaaaaaaaaaaaaaaaaaaaaaaaaaaaaaaaa\n",
+        Wanted::Nothing,
+    ),
+    ("first\nwrote S t\n", Wanted::Nothing),
+    ("first\n# read S\n", Wanted::Nothing),
+    ("client a\nfirst\n", Wanted::Nothing),
+    ("client a\nload t t.csv int\n", Wanted::Nothing),
+    ("last\nclient a\n", Wanted::Nothing),
+    ("last\nlast\n", Wanted::Nothing),
+    ("client\n", Wanted::Nothing),
+    ("client a b\n", Wanted::Nothing),
+    ("client a.b\n", Wanted::Nothing),
+    ("client last\n", Wanted::Nothing),
+    (
+        "client aaaaaaaaaaaaaaaaaaaaaaaaaaaaaaaaa\n",
+        Wanted::Nothing,
+    ),
+    ("client a\nclient b\nclient a\n", Wanted::Nothing),
 ];
 
-// Whether the command is refused.
-fn is_bad(rt: &HostRuntime, line: &[u8]) -> bool {
-    matches!(script_of_command(rt, line), Err(ScriptFault::BadScript))
-}
-
 #[test]
-fn each_command_outside_its_form_is_bad(rt: HostRuntime) {
-    for (place, line) in BAD_COMMANDS.iter().enumerate() {
-        assert!(rt; is_bad(&rt, line), "line {place}");
+fn scripts_have_their_parts_or_are_bad(rt: HostRuntime) {
+    for (text, what) in SCRIPTS {
+        assert!(rt; is_read_as(rt.alloc(), text.as_bytes(), what), "{text}");
     }
 }
 
-fn script_of(rt: &HostRuntime, types: usize, reads: usize) -> Result<Vec<u8>, Fail> {
-    let mut text = Vec::new(rt.alloc());
+// A script of this command behind the loads of `s` and `t`.
+fn script_of_command(alloc: Global, line: &str) -> Result<Vec<u8>, Fail> {
+    let mut text = Vec::new(alloc);
+    text.extend_from_slice(b"load s s.csv int\nload t t.csv int\nfirst\n")?;
+    text.extend_from_slice(line.as_bytes())?;
+    text.push(b'\n')?;
+    Ok(text)
+}
+
+fn is_command(alloc: Global, line: &str, what: &Wanted) -> Result<bool, Fail> {
+    let text = script_of_command(alloc, line)?;
+    Ok(is_read_as(alloc, &text, what))
+}
+
+// A command, and whether it makes a script: its options stand in any order.
+const COMMANDS: &[(&str, Wanted)] = &[
+    ("write S t at=50", Wanted::Anything),
+    ("write S t at=60 prune", Wanted::Anything),
+    ("write S t prune at=-0", Wanted::Anything),
+    ("append S t", Wanted::Anything),
+    ("append S t prune at=-9223372036854775808", Wanted::Anything),
+    ("append S t at=0009223372036854775807", Wanted::Anything),
+    ("update S t", Wanted::Anything),
+    ("update S t range=2..10", Wanted::Anything),
+    ("update X t upsert", Wanted::Anything),
+    ("update S t prune at=7 upsert range=..-3", Wanted::Anything),
+    ("update S t range=5..", Wanted::Anything),
+    ("delete_range S range=2..4", Wanted::Anything),
+    ("delete_range S range=4..4 prune at=1", Wanted::Anything),
+    ("delete S", Wanted::Anything),
+    ("delete S version=0", Wanted::Anything),
+    ("delete S version=1,000000000000000002,1", Wanted::Anything),
+    ("prune S", Wanted::Anything),
+    ("reclaim S", Wanted::Anything),
+    ("versions S", Wanted::Anything),
+    ("keys S", Wanted::Anything),
+    ("read S as_of=7", Wanted::Anything),
+    ("read S as_of=0", Wanted::Anything),
+    ("read S as_of=-2", Wanted::Anything),
+    ("read S as_of=time:-49", Wanted::Anything),
+    ("read S range=9..9 columns=price", Wanted::Anything),
+    (
+        "read S columns=price,size,_x9 as_of=-1 range=..-7",
+        Wanted::Anything,
+    ),
+    ("write S t at=5 at=5", Wanted::Nothing),
+    ("write S t prune prune", Wanted::Nothing),
+    ("write S t prune=", Wanted::Nothing),
+    ("write S t at", Wanted::Nothing),
+    ("write S t at=", Wanted::Nothing),
+    ("write S t at=-", Wanted::Nothing),
+    ("write S t at=+5", Wanted::Nothing),
+    ("write S t at=9223372036854775808", Wanted::Nothing),
+    ("write S t at=-9223372036854775809", Wanted::Nothing),
+    ("write S t at=2024-01-02", Wanted::Nothing),
+    ("write S t upsert", Wanted::Nothing),
+    ("write S t  prune", Wanted::Nothing),
+    ("append S u", Wanted::Nothing),
+    ("append S", Wanted::Nothing),
+    ("append t S", Wanted::Nothing),
+    ("update S t range=5..3", Wanted::Nothing),
+    ("update S t range=..", Wanted::Nothing),
+    ("update S t range=5", Wanted::Nothing),
+    ("update S t range=1..2 range=1..2", Wanted::Nothing),
+    ("update S t columns=price", Wanted::Nothing),
+    ("delete_range S", Wanted::Nothing),
+    ("delete_range S prune range=2..4", Wanted::Nothing),
+    ("delete_range S range=1...4", Wanted::Nothing),
+    ("delete S version=", Wanted::Nothing),
+    ("delete S version=-1", Wanted::Nothing),
+    ("delete S version=1,,2", Wanted::Nothing),
+    ("delete S version=1234567890123456789", Wanted::Nothing),
+    ("delete S version=1 version=2", Wanted::Nothing),
+    ("prune", Wanted::Nothing),
+    ("prune S S", Wanted::Nothing),
+    ("keys S at=5", Wanted::Nothing),
+    ("read S as_of=-0", Wanted::Nothing),
+    ("read S as_of=snap:k", Wanted::Nothing),
+    ("read S as_of=time:", Wanted::Nothing),
+    ("read S columns=", Wanted::Nothing),
+    ("read S columns=price,true", Wanted::Nothing),
+    ("read S columns=`price`", Wanted::Nothing),
+    ("read S prune", Wanted::Nothing),
+    ("read S |> date_range 1..2", Wanted::Nothing),
+    ("stage S t", Wanted::Nothing),
+    ("symbols", Wanted::Nothing),
+];
+
+#[test]
+fn commands_take_their_options_or_are_bad(rt: HostRuntime) -> Result<(), Fail> {
+    for (line, what) in COMMANDS {
+        assert!(rt; is_command(rt.alloc(), line, what)?, "{line}");
+    }
+    Ok(())
+}
+
+fn script_of(alloc: Global, types: usize, reads: usize) -> Result<Vec<u8>, Fail> {
+    let mut text = Vec::new(alloc);
     text.extend_from_slice(b"load t t.csv int")?;
     for _ in 1..types {
         text.extend_from_slice(b",int")?;
@@ -458,8 +476,8 @@ fn script_of(rt: &HostRuntime, types: usize, reads: usize) -> Result<Vec<u8>, Fa
     Ok(text)
 }
 
-fn clients_up_to(rt: &HostRuntime, last: u8) -> Result<Vec<u8>, Fail> {
-    let mut text = Vec::new(rt.alloc());
+fn clients_up_to(alloc: Global, last: u8) -> Result<Vec<u8>, Fail> {
+    let mut text = Vec::new(alloc);
     for letter in b'a'..=last {
         text.extend_from_slice(b"client ")?;
         text.push(letter)?;
@@ -468,30 +486,43 @@ fn clients_up_to(rt: &HostRuntime, last: u8) -> Result<Vec<u8>, Fail> {
     Ok(text)
 }
 
-fn is_script(rt: &HostRuntime, text: &Vec<u8>) -> bool {
-    read_script(rt.alloc(), text.as_slice()).is_ok()
+enum Size {
+    // A load of so many types, and so many commands.
+    Lines(usize, usize),
+    // Clients from `a` up to this letter.
+    Clients(u8),
 }
 
-// How many types the load of a script has, how many commands stand behind it, and whether it is one.
-const SIZES: &[(usize, usize, bool)] = &[(127, 998, true), (128, 0, false), (1, 999, false)];
-
-#[test]
-fn a_script_has_at_most_1000_lines_and_127_types_a_load(rt: HostRuntime) -> Result<(), Fail> {
-    for (types, reads, good) in SIZES {
-        let text = script_of(&rt, *types, *reads)?;
-        assert!(rt;
-            is_script(&rt, &text) == *good,
-            "{types} types and {reads} reads"
-        );
+fn script_of_size(alloc: Global, size: &Size) -> Result<Vec<u8>, Fail> {
+    match size {
+        Size::Lines(types, reads) => script_of(alloc, *types, *reads),
+        Size::Clients(last) => clients_up_to(alloc, *last),
     }
-    Ok(())
 }
 
+fn is_within(alloc: Global, size: &Size, what: &Wanted) -> Result<bool, Fail> {
+    let text = script_of_size(alloc, size)?;
+    Ok(is_read_as(alloc, &text, what))
+}
+
+const SIZES: &[(&str, Size, Wanted)] = &[
+    (
+        "127 types and 1,000 lines",
+        Size::Lines(127, 998),
+        Wanted::Anything,
+    ),
+    ("128 types", Size::Lines(128, 0), Wanted::Nothing),
+    ("1,001 lines", Size::Lines(1, 999), Wanted::Nothing),
+    ("16 clients", Size::Clients(b'p'), Wanted::Anything),
+    ("17 clients", Size::Clients(b'q'), Wanted::Nothing),
+];
+
 #[test]
-fn a_script_has_at_most_16_clients(rt: HostRuntime) -> Result<(), Fail> {
-    for (last, good) in [(b'p', true), (b'q', false)] {
-        let text = clients_up_to(&rt, last)?;
-        assert!(rt; is_script(&rt, &text) == good, "clients up to {last}");
+fn a_script_has_at_most_1000_lines_127_types_a_load_and_16_clients(
+    rt: HostRuntime,
+) -> Result<(), Fail> {
+    for (name, size, what) in SIZES {
+        assert!(rt; is_within(rt.alloc(), size, what)?, "{name}");
     }
     Ok(())
 }
