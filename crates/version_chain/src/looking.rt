@@ -1,4 +1,5 @@
 ghost use Rattle.std.specs.Prelude.{◌≡◌, ℕ, true, length, Some, IfOk, IfErr};
+ghost use Rattle.key_kind.specs.Keys.{reference_key};
 ghost use Rattle.bucket_core.specs.History.{reference};
 ghost use Rattle.bucket_core.specs.Laws.{Looks};
 ghost use Rattle.bucket_core.specs.Calls.{IsSteady, IsFound, RefusesLook};
@@ -73,6 +74,27 @@ pub(crate) fn read_element<R: Wait, B: Bucket<StoreLaw>>(
     }
 }
 
+/// What stands at a symbol's reference.
+fn look_reference<R: Wait, B: Bucket<StoreLaw>>(
+    rt: &R,
+    alloc: Global,
+    bucket: &mut B,
+    symbol: &Symbol,
+) -> Result<Found, Refused>
+    ensures looks { Looks IsClaimed (B.number bucket.old) (B.sole bucket.old) (B.seen bucket.old) (B.seen bucket.new) }
+    ensures steady { IsSteady B.number B.limit B.faults B.sole bucket.old bucket.new }
+    ensures found { IfOk result (IsFound (B.seen bucket.new) (reference_key symbol.now)) }
+    ensures refused { IfErr result (RefusesWalk (B.faults bucket.old) (B.faults bucket.new) (B.seen bucket.old) (B.seen bucket.new)) }
+{
+    let Ok(key) = Key::reference(alloc, symbol) else {
+        return Err(Refused {
+            place: bucket.place(),
+            why: Refusal::NoMemory,
+        });
+    };
+    look(rt, bucket, &key)
+}
+
 /// The newest entry of a symbol's chain, if it has one, and the place of the look.
 pub(crate) fn read_reference<R: Wait, B: Bucket<StoreLaw>>(
     rt: &R,
@@ -86,13 +108,7 @@ pub(crate) fn read_reference<R: Wait, B: Bucket<StoreLaw>>(
     ensures place { IfOk result (λ x. x.1 ≡ length (B.seen bucket.new)) }
     ensures refused { IfErr result (RefusesWalk (B.faults bucket.old) (B.faults bucket.new) (B.seen bucket.old) (B.seen bucket.new)) }
 {
-    let Ok(key) = Key::reference(alloc, symbol) else {
-        return Err(Refused {
-            place: bucket.place(),
-            why: Refusal::NoMemory,
-        });
-    };
-    let found = match look(rt, bucket, &key) {
+    let found = match look_reference(rt, alloc, bucket, symbol) {
         Ok(found) => found,
         Err(refused) => return Err(refused),
     };

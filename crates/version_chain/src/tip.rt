@@ -157,6 +157,22 @@ fn live_numbers(alloc: Global, links: &[LinkRow], tombs: &[u64]) -> Result<Items
     Ok(numbers)
 }
 
+/// What a new version buries: with `prune` each of these links that is live, else none.
+fn buried_by(
+    alloc: Global,
+    links: &[LinkRow],
+    tombs: &[u64],
+    prune: bool,
+) -> Result<Items<u64>, NoMemory>
+    ensures { IfOk result (λ numbers. numbers ≡ (if prune then live_among tombs.now links.now else [])) }
+{
+    if prune {
+        live_numbers(alloc, links, tombs)
+    } else {
+        Ok(Items::new(alloc))
+    }
+}
+
 /// The last of these links that is not buried. It is moved and not copied.
 fn take_newest(links: Items<LinkRow>, tombs: &[u64]) -> Option<LinkRow>
     ensures { result ≡ find (is_unburied tombs.now) (reverse links) }
@@ -182,15 +198,13 @@ fn tip_of(
 {
     let tombs = find_tombs(alloc, elements.items())?;
     let links = take_links(alloc, elements)?;
-    let buried = if prune {
-        live_numbers(alloc, links.items(), tombs.items())?
-    } else {
-        Items::new(alloc)
-    };
+    let next = next_number(links.items())?;
+    let buried = buried_by(alloc, links.items(), tombs.items(), prune)?;
+    let newest = take_newest(links, tombs.items());
     Ok(ChainTip {
         was,
-        next: next_number(links.items())?,
-        newest: take_newest(links, tombs.items()),
+        next,
+        newest,
         buried,
         place,
     })

@@ -9,22 +9,22 @@ use Rattle.version_chain.proofs.looking.read_reference.Goals as goal
 
 pub returns-in-Ok-read-clause-reference : goal.returns-in-Ok-read-clause-reference
 returns-in-Ok-read-clause-reference g c =
-    let h = g.B.Bucket.seen c.look.new.bucket in
+    let h = g.B.Bucket.seen c.look_reference.new.bucket in
     let stands : stored h (reference_key c.args.symbol.now) ≡ Some (arc_value c.in-Some.body) =
-    ap (stored h) (sym c.in-Ok.ensures.key) ∙ (sym c.in-Ok-look.ensures.found.body ∙ ap (option_map arc_value) c.in-Some.is) in
+    sym c.in-Ok.ensures.found.body ∙ ap (option_map arc_value) c.in-Some.is in
     let bytes : c.bytes.result.now ≡ arc_value c.in-Some.body = c.bytes.ensures ∙ (c.deref.ensures ∙ ap arc_value c.in-Some.body-is) in
-    sym (reference_told h c.args.symbol.now (arc_value c.in-Some.body) c.in-Ok-read.entry _ (g.met.B.Bucket.lawful c.look.new.bucket) stands (ap key_at (sym bytes) ∙ c.in-Ok-read.ensures.read))
+    sym (reference_told h c.args.symbol.now (arc_value c.in-Some.body) c.in-Ok-read.entry _ (g.met.B.Bucket.lawful c.look_reference.new.bucket) stands (ap key_at (sym bytes) ∙ c.in-Ok-read.ensures.read))
 
 pub unreachable-requires : goal.unreachable-requires
 unreachable-requires g c =
-    let h = g.B.Bucket.seen c.look.new.bucket in
+    let h = g.B.Bucket.seen c.look_reference.new.bucket in
     let stands : stored h (reference_key c.args.symbol.now) ≡ Some (arc_value c.in-Some.body) =
-    ap (stored h) (sym c.in-Ok.ensures.key) ∙ (sym c.in-Ok-look.ensures.found.body ∙ ap (option_map arc_value) c.in-Some.is) in
+    sym c.in-Ok.ensures.found.body ∙ ap (option_map arc_value) c.in-Some.is in
     let bytes : c.bytes.result.now ≡ arc_value c.in-Some.body = c.bytes.ensures ∙ (c.deref.ensures ∙ ap arc_value c.in-Some.body-is) in
-    bad_key_told h c.args.symbol.now (arc_value c.in-Some.body) c.bytes.result.now c.in-Err-NotAKey.field-0 (g.met.B.Bucket.lawful c.look.new.bucket) stands bytes c.in-Err-NotAKey.ensures.refused c.in-Err-NotAKey.field-0-is
+    bad_key_told h c.args.symbol.now (arc_value c.in-Some.body) c.bytes.result.now c.in-Err-NotAKey.field-0 (g.met.B.Bucket.lawful c.look_reference.new.bucket) stands bytes c.in-Err-NotAKey.ensures.refused c.in-Err-NotAKey.field-0-is
 
 pub returns-clause-reference : goal.returns-clause-reference
 returns-clause-reference g c =
-    let h = g.B.Bucket.seen c.look.new.bucket in
-    sym (no_reference_told h c.args.symbol.now (g.met.B.Bucket.lawful c.look.new.bucket)
-    (ap (stored h) (sym c.in-Ok.ensures.key) ∙ (sym c.in-Ok-look.ensures.found.body ∙ ap (option_map arc_value) c.in-None.is)))
+    let h = g.B.Bucket.seen c.look_reference.new.bucket in
+    sym (no_reference_told h c.args.symbol.now (g.met.B.Bucket.lawful c.look_reference.new.bucket)
+    (sym c.in-Ok.ensures.found.body ∙ ap (option_map arc_value) c.in-None.is))
