@@ -1,6 +1,7 @@
 pub mod StateLemmas
 pub mod BuryLemmas
 pub mod AttemptLemmas
+pub mod MarkedLemmas
 pub mod TriesLemmas
 pub mod TurnLemmas
 pub mod WindowLemmas

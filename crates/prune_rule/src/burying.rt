@@ -8,6 +8,7 @@ ghost use Rattle.reply_model.specs.declared.outcome.Outcome.TheVariants.{Deleted
 ghost use Rattle.version_chain.specs.Traces.{GoesOn};
 ghost use Rattle.version_chain.specs.Marking.{MayMark, DidMark};
 ghost use Rattle.prune_rule.specs.Tries.{DidAttempt, DidTries, IsMetBy};
+ghost use Rattle.prune_rule.specs.Marked.{MayBury, IsTriedBy, DidOn};
 ghost use Rattle.prune_rule.specs.Replies.{IsLegalBurial};
 
 use crate::choosing::{Wish, choose};
@@ -121,8 +122,24 @@ fn attempt<R: Wait, B: Bucket<StoreLaw>>(
     ensures did { DidAttempt (B.number bucket.old) (B.sole bucket.old) symbol.now wish.entry (B.limit bucket.old) (B.faults bucket.old) (B.faults bucket.new) (B.seen bucket.old) (B.seen bucket.new) result }
 {
     let state = walk(rt, alloc, bucket, symbol)?;
+    attempt_on(rt, alloc, bucket, symbol, &state, wish)
+}
+
+/// One try to bury versions over a walked state.
+fn attempt_on<R: Wait, B: Bucket<StoreLaw>>(
+    rt: &R,
+    alloc: Global,
+    bucket: &mut B,
+    symbol: &Symbol,
+    state: &SymbolState,
+    wish: Wish,
+) -> Result<Tried, Refused>
+    requires may { MayBury (B.seen bucket.old) (B.number bucket.old) symbol.now wish state.now }
+    ensures steady { IsSteady B.number B.limit B.faults B.sole bucket.old bucket.new }
+    ensures did { DidOn (B.number bucket.old) (B.sole bucket.old) symbol.now wish.entry state.now (B.limit bucket.old) (B.faults bucket.old) (B.faults bucket.new) (B.seen bucket.old) (B.seen bucket.new) result }
+{
     let place = state.place;
-    let numbers = match choose(alloc, &state, wish) {
+    let numbers = match choose(alloc, state, wish) {
         Ok(numbers) => numbers,
         Err(why) => return Err(Refused { place, why }),
     };
@@ -134,7 +151,34 @@ fn attempt<R: Wait, B: Bucket<StoreLaw>>(
             commit: None,
         }));
     }
-    match mark_chosen(rt, alloc, bucket, symbol, state, numbers) {
+    judged(
+        versions,
+        mark_chosen(rt, alloc, bucket, symbol, state, numbers),
+    )
+}
+
+/// The commit of a change that buries these versions over a walked state.
+fn mark_chosen<R: Wait, B: Bucket<StoreLaw>>(
+    rt: &R,
+    alloc: Global,
+    bucket: &mut B,
+    symbol: &Symbol,
+    state: &SymbolState,
+    numbers: Items<u64>,
+) -> Result<u64, Refused>
+    requires may { MayMark (B.seen bucket.old) (B.number bucket.old) symbol.now state.now (Removed numbers) }
+    ensures steady { IsSteady B.number B.limit B.faults B.sole bucket.old bucket.new }
+    ensures did { DidMark (B.number bucket.old) (B.sole bucket.old) symbol.now state.now.place (Removed numbers) (B.limit bucket.old) (B.faults bucket.old) (B.faults bucket.new) (B.seen bucket.old) (B.seen bucket.new) result }
+{
+    let change = Change::Removed { versions: numbers };
+    mark_on(rt, alloc, bucket, symbol, state, &change)
+}
+
+/// How a try ended whose commit, of so many versions, ended so.
+fn judged(versions: u64, marked: Result<u64, Refused>) -> Result<Tried, Refused>
+    ensures { IsTriedBy versions marked result }
+{
+    match marked {
         Ok(place) => Ok(Tried::Done(Buried {
             versions,
             place,
@@ -142,23 +186,6 @@ fn attempt<R: Wait, B: Bucket<StoreLaw>>(
         })),
         Err(refused) => met_by(refused),
     }
-}
-
-/// Buries the chosen versions over a walked state, in one try.
-fn mark_chosen<R: Wait, B: Bucket<StoreLaw>>(
-    rt: &R,
-    alloc: Global,
-    bucket: &mut B,
-    symbol: &Symbol,
-    state: SymbolState,
-    numbers: Items<u64>,
-) -> Result<u64, Refused>
-    requires may { MayMark (B.seen bucket.old) (B.number bucket.old) symbol.now state (Removed numbers) }
-    ensures steady { IsSteady B.number B.limit B.faults B.sole bucket.old bucket.new }
-    ensures did { DidMark (B.number bucket.old) (B.sole bucket.old) symbol.now state.place (Removed numbers) (B.limit bucket.old) (B.faults bucket.old) (B.faults bucket.new) (B.seen bucket.old) (B.seen bucket.new) result }
-{
-    let change = Change::Removed { versions: numbers };
-    mark_on(rt, alloc, bucket, symbol, &state, &change)
 }
 
 /// A try that was met is made again; any other refusal is that of the command.
