@@ -102,7 +102,8 @@ fn applied(
     expr: &Expr,
     schema: &Schema,
 ) -> Result<Option<Schema>, NoMemory>
-    ensures { IfOk result (λ given. given ≡ option_map (λ kind. record schema.now { columns = with_column name.now kind schema.now.columns }) (expr_type schema.now.columns expr.now)) }
+    ensures { IfOk result (λ given. given ≡ option_map (λ kind. record schema.now { columns = with_column name.now kind schema.now.columns })
+        (expr_type schema.now.columns expr.now)) }
 {
     match type_of_expr(expr, schema.columns()) {
         Some(kind) => Ok(Some(with_one(alloc, name, kind, schema)?)),
