@@ -193,5 +193,5 @@ module _ (client : ℕ) (sole : Bool) (symbol : Name) (wish : Wish) (options : O
             ] in
             elim d [
               | inl m ↦ inl (record { look = tip.place; from = from; wants = wants; met = met_from client sole symbol tip.place tip.place old mid new (omega arith) looks refused m })
-              | inr f ↦ inr (inr (inl (inr (fail_from client sole symbol (IsAnswered client symbol wish options) limit before now tip.place (length old) old mid new from looks refused f), busy)))
+              | inr f ↦ inr (inr (inl (fail_from client sole symbol (IsAnswered client symbol wish options) limit before now tip.place (length old) old mid new from looks refused f, busy)))
             ]
