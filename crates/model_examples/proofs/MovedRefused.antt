@@ -30,10 +30,13 @@ module _ (h : History) (client : Client) (c : Command) (reply : Reply) (symbol :
       → (tries : List (List Event)) × AllByRecursion (IsRefused client.session.client symbol (makes_version c)) tries × (length tries ≡ client.session.tries) × (own_events h client.session.client w ≡ flat_map (λ t. t) tries)
   moved_own_events le m before behind =
       let t = moved_tries h client c reply symbol now w never some le m in
-      let longer = tries_longer client.session.client symbol (makes_version c) h (MakesAt h client c reply symbol) (FindsGone h client c reply symbol) client.session.tries m.start m.stop now m.tries in
-      (t.0, t.1, t.2,
+      let longer = tries_longer client.session.client symbol (makes_version c) h (MakesAt h client c reply symbol) (FindsGone h client c reply symbol) client.session.tries m.start m.stop now m.tries in (
+        t.0,
+        t.1,
+        t.2,
         own_parts h client.session.client w.start m.start w.stop m.from (omega (arith, longer, m.to)) le
-        ∙ (both before (own_parts h client.session.client m.start m.stop w.stop longer m.to le ∙ both t.3 behind) ∙ append_none (flat_map (λ t. t) t.0)))
+            ∙ (both before (own_parts h client.session.client m.start m.stop w.stop longer m.to le ∙ both t.3 behind) ∙ append_none (flat_map (λ t. t) t.0)),
+      )
     where
       both : {xs xs2 ys ys2 : List Event} → xs ≡ xs2 → ys ≡ ys2 → xs ++ ys ≡ xs2 ++ ys2
       both e f = λ i. e i ++ f i

@@ -64,9 +64,12 @@ returns-in-VersionGone-clause-refused g c = elim c.met_commit.ensures.refused [
       b.split b.none_own (g.met.B.Bucket.lawful c.met_commit.new.bucket) c.get_tiles.ensures.looks.is c.met_commit.ensures.looks.is
       c.get_tiles.ensures.looks.by_others (subst (λ n. AllByOthers n c.met_commit.ensures.looks.others) c.get_tiles.ensures.steady.same_number c.met_commit.ensures.looks.by_others)
       c.args.base.now.target b.symbol_is b.live b.newest.is b.number_is
-      (λ link key is. (subst (λ (i : Index). Contains (reached link) key) is.0 (slot_in_reach link key
-      (key_of_all (slice_range c.args.base.now.index.slots c.args.from c.args.to) link.index.slots key
-      (subst (λ (i : Index). AllByRecursion (Contains i.slots) (slice_range c.args.base.now.index.slots c.args.from c.args.to)) (sym is.0) (run_contained c.args.base.now.index.slots c.args.from c.args.to)) is.1)), inr tt))
+      (λ link key is. (
+        subst (λ (i : Index). Contains (reached link) key) is.0 (slot_in_reach link key
+            (key_of_all (slice_range c.args.base.now.index.slots c.args.from c.args.to) link.index.slots key
+            (subst (λ (i : Index). AllByRecursion (Contains i.slots) (slice_range c.args.base.now.index.slots c.args.from c.args.to)) (sym is.0) (run_contained c.args.base.now.index.slots c.args.from c.args.to)) is.1)),
+        inr tt,
+      ))
       c.in-Err.refused c.met_commit.result _ c.in-VersionGone.is c.in-Err.ensures.refused
       (subst (λ (xs : List Slot). LacksKey (g.B.Bucket.seen c.get_tiles.new.bucket) c.args.base.now.target (IsSlotKey c.args.base.now.index (slice_range xs c.args.from c.args.to)) c.in-Err.refused) c.items.ensures
       (c.in-Err.ensures.lacks c.args.base.now.index b.target (subst (λ (xs : List Slot). AllByRecursion (Contains c.args.base.now.index.slots) (slice_range xs c.args.from c.args.to)) (sym c.items.ensures) (run_contained c.args.base.now.index.slots c.args.from c.args.to)))) m))
