@@ -61,13 +61,13 @@ impl TaskQueue {
         Ok((TaskQueue { queue, tasks }, pullers))
     }
 
-    /// Pulls a number. None only where the queue was empty at a moment of this call: all numbers had been pulled then.
+    /// Pulls a number. None where it found the queue empty, which is tested and no clause: what others have pulled has no name in
+    /// the contract of one puller. `pull_left` tells it of all.
     pub fn pull<R: Wait>(&self, rt: &R, puller: &mut Puller) -> Option<u64>
         requires puller { IsOf self.now puller.old }
         ensures puller { IsOf self.now puller.new }
         ensures some { IfSome result (λ number. (taken puller.new ≡ taken puller.old ++ number ∷ []) × (1 ≤ number) × (number ≤ self.now.tasks)) }
         ensures none { IfNone result (taken puller.new ≡ taken puller.old) }
-        ensures empty { IfNone result ((others : List ℕ) × IsPermutation (numbers self.now.tasks) (taken puller.old ++ others)) }
     {
         self.queue.pop_as::<Pulled, R>(rt, &mut puller.pass)
     }
