@@ -21,7 +21,7 @@ use Rattle.expr_clause.specs.declared.clause.Out.{Out}
 use Rattle.expr_clause.specs.declared.clause.Clause.{Clause}
 use Rattle.expr_clause.specs.declared.clause.Clause.TheVariants as clauses
 use Rattle.expr_clause.specs.Exprs.{by_levels}
-use Rattle.expr_clause.specs.Asking.{ask}
+use Rattle.expr_clause.specs.Asking.{query}
 
 abbrev everything : Range
 everything = record { from = None; to = None }
@@ -36,7 +36,7 @@ abbrev both : BinOp → Expr → Expr → Expr
 both = exprs.Binary
 
 abbrev all_of : Frame → List Clause → Result Frame Refusal
-all_of f list = ask f everything None list
+all_of f list = query f everything None list
 
 abbrev biggest : ℤ
 biggest = pos (2 ^ 63 - 1)
@@ -130,7 +130,7 @@ totals-overflow = refl
 
 -- ---- refusals with clause and position
 
-absent-asked : ask t everything (Some (price ∷ bid ∷ [])) [] ≡ Err (refusals.NoSuchColumn 0 2)
+absent-asked : query t everything (Some (price ∷ bid ∷ [])) [] ≡ Err (refusals.NoSuchColumn 0 2)
 absent-asked = refl
 
 absent-filter : all_of t (clauses.Filter (both binary.And (both binary.Gt (name bid) (number 1)) (both binary.Lt (name price) (name (codes "ask")))) ∷ []) ≡ Err (refusals.NoSuchColumn 1 1)

@@ -1,10 +1,12 @@
 -- What a query gives: the rows in a range, the columns asked, and then the clauses, run by run.
+--     then                    one answer after another, unless it refuses
 --     step, pass              what a clause makes of a row, and what a run does
 --     pass_rows               the rows that come through, or the least failing row with its first failing clause
 --     runs                    the clauses cut after each group
 --     run_frame, run_all      a run over a frame, and all runs
 --     apply_clauses           all clauses over a frame
---     ask                     the whole query
+--     select_columns, ask     the asked columns; the rows in a range, and of these the asked columns
+--     query                   the whole query
 use Rattle.std.specs.Prelude.{ℕ, ◌+◌, pos, Bool, true, false, if◌then◌else◌, List, [], ◌∷◌, map, length, Option, Some, None, option_map, Result, Ok, Err}
 use Rattle.std.specs.List.{cons_option}
 use Rattle.frame_core.specs.declared.refusal.Refusal.{Refusal}
@@ -22,10 +24,11 @@ use Rattle.expr_clause.specs.Exprs.{value, cell_named}
 use Rattle.expr_clause.specs.Typing.{put_at, after, check}
 use Rattle.expr_clause.specs.Groups.{Line, group}
 
--- the next call on the value of one that was answered
-abbrev pub and_then : {A B : Type 0} → Result A Refusal → (A → Result B Refusal) → Result B Refusal
-and_then (Ok a) f = f a
-and_then (Err why) f = Err why
+-- one step after another, unless it refuses
+infixl 10 ◌then◌
+abbrev pub ◌then◌ : {A B : Type 0} → Result A Refusal → (A → Result B Refusal) → Result B Refusal
+(Ok a) then f = f a
+(Err why) then f = Err why
 
 -- ---- a row
 
@@ -96,16 +99,16 @@ end_run n (c ∷ d ∷ cs) s rows = end_run (n + 1) (d ∷ cs) (after c s) rows
 
 -- a run, from clause n, over a frame
 abbrev pub run_frame : ℕ → List Clause → Frame → Result Frame Refusal
-run_frame n run f = and_then (pass_rows (pass n f.schema run) 1 f.rows) (λ rows. end_run n run f.schema rows)
+run_frame n run f = pass_rows (pass n f.schema run) 1 f.rows then λ rows. end_run n run f.schema rows
 
 -- runs, the first of which begins at clause n, one after another
 abbrev pub run_all : ℕ → List (List Clause) → Frame → Result Frame Refusal
 run_all n [] f = Ok f
-run_all n (run ∷ more) f = and_then (run_frame n run f) (λ g. run_all (n + length run) more g)
+run_all n (run ∷ more) f = run_frame n run f then λ g. run_all (n + length run) more g
 
 -- the clauses over a frame
 abbrev pub apply_clauses : List Clause → Frame → Result Frame Refusal
-apply_clauses list f = and_then (check list f.schema) (λ s. run_all 1 (runs list) f)
+apply_clauses list f = check list f.schema then λ s. run_all 1 (runs list) f
 
 -- ---- the whole query
 
@@ -114,6 +117,10 @@ abbrev pub select_columns : Option (List Text) → Frame → Result Frame Refusa
 select_columns None f = Ok f
 select_columns (Some names) f = refuse_position (select names f)
 
--- the rows in the range, the asked columns, and then the clauses
-abbrev pub ask : Frame → Range → Option (List Text) → List Clause → Result Frame Refusal
-ask f range columns list = and_then (select_columns columns (record f { rows = rows_within range f.rows })) (λ g. apply_clauses list g)
+-- the rows in the range, and of these the asked columns
+abbrev pub ask : Frame → Range → Option (List Text) → Result Frame Refusal
+ask f range columns = select_columns columns (record f { rows = rows_within range f.rows })
+
+-- the rows in the range, of these the asked columns, and then the clauses
+abbrev pub query : Frame → Range → Option (List Text) → List Clause → Result Frame Refusal
+query f range columns list = ask f range columns then apply_clauses list

@@ -24,7 +24,8 @@ pub trait RowCells {
         ensures { cell_of result ≡ cell_named (columns self.now) (cells self.now) name.now };
 }
 
-/// The value of an expression on a row, or `Overflowed` where an arithmetic result is outside i64. It takes no memory.
+/// The value of an expression on a row, or `Overflowed` where an arithmetic result is outside i64. It takes no memory, and its
+/// calls go as deep as the expression: 32 where its clause `fits`.
 #[tactic(auto, using(crate::proofs::Levels::at_int, crate::proofs::Levels::at_flag, crate::proofs::Levels::at_text, crate::proofs::Levels::at_moment, crate::proofs::Levels::at_col, crate::proofs::Levels::at_unary, crate::proofs::Levels::at_binary, crate::proofs::Levels::at_among))]
 pub fn eval_row<'a, R: RowCells>(expr: &'a Expr, row: &'a R) -> Result<CellRef<'a>, Overflowed>
     ensures { answered result ≡ value (R.columns row.now) (R.cells row.now) expr.now }

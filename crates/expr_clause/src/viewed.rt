@@ -15,7 +15,7 @@ use frame_core::{CellRef, ColName};
 use segment_bytes::SegView;
 
 /// The value of an expression on a row of a segment, counted from 0, or `Overflowed` where an arithmetic result is outside
-/// i64. It takes no memory.
+/// i64. It takes no memory, and its calls go as deep as the expression: 32 where its clause `fits`.
 #[tactic(auto, using(crate::proofs::Levels::at_int, crate::proofs::Levels::at_flag, crate::proofs::Levels::at_text, crate::proofs::Levels::at_moment, crate::proofs::Levels::at_col, crate::proofs::Levels::at_unary, crate::proofs::Levels::at_binary, crate::proofs::Levels::at_among))]
 pub fn eval<'a>(expr: &'a Expr, view: &'a SegView<'a>, row: u64) -> Result<CellRef<'a>, Overflowed>
     requires { row < length view.now.rows }

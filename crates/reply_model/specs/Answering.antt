@@ -1,7 +1,7 @@
 -- What answers are made of.
 --     Session                 what a session brings: its frames, its moment, its tries and its client
 --     Answer                  an outcome, and for a committing command the changes of its symbol
---     then, refuse_if, or_refuse      an answer in steps, each of which may refuse
+--     then, refuse_if, or_refuse      an answer in steps, each of which may refuse (`then` is that of a query)
 --     committed               the answer of a commit, with what it buries
 --     version_or, base_or     a version, or why there is none
 --     may_append, joined_within      whether a frame may be joined to the base
@@ -17,6 +17,7 @@ use Rattle.frame_core.specs.RawFrames.{Table, frame_of_table, unless}
 use Rattle.bucket_core.specs.declared.event.Change.{Change}
 use Rattle.bucket_core.specs.declared.event.Change.TheVariants as changes
 use Rattle.store_model.specs.Library.{State, Version, base_of, live_versions, next_number, on_base}
+pub use Rattle.expr_clause.specs.Asking.{◌then◌}
 use Rattle.reply_model.specs.declared.outcome.Outcome.{Outcome}
 use Rattle.reply_model.specs.declared.outcome.Outcome.TheVariants as outcomes
 
@@ -40,12 +41,6 @@ refused why = record { outcome = outcomes.Refused why; marks = [] }
 abbrev pub answered : Result Answer Refusal → Answer
 answered (Ok a) = a
 answered (Err why) = refused why
-
--- one step after another, unless it refuses
-infixl 10 ◌then◌
-abbrev pub ◌then◌ : {A B : Type 0} → Result A Refusal → (A → Result B Refusal) → Result B Refusal
-(Ok a) then f = f a
-(Err why) then f = Err why
 
 -- refuses where the test holds
 abbrev pub refuse_if : {A : Type 0} → Bool → Refusal → Result A Refusal → Result A Refusal

@@ -61,8 +61,8 @@ abbrev pub UnnamedUpTo : History → AsOf → ℕ → ℕ → Type 0
 UnnamedUpTo h (moments.Snapshot snap) start p = list_any (unnames snap) (events_within h start p) ≡ true
 UnnamedUpTo h _ start p = ⊤
 
--- a key that a read gets of a link of its version: that of its index; or, where the version has the asked columns, that of a tile with rows in the
--- range and one of these columns
+-- a key that a read gets of a link of its version: that of its index; or, where the version has the asked columns, that of a tile whose stamps, from
+-- the first to the last, meet the range and which has one of these columns, or the first ones where none is asked
 abbrev pub IsReadKey : Frame → Range → Option (List Text) → Linked → Key → Type 0
 IsReadKey frame range columns link key =
     (key ≡ link.row.index)

@@ -1,18 +1,15 @@
 -- The answers of reads and of versions.
 --     versions_answer         every version ever linked
 --     read_version            the version that a read takes
---     ask                     the rows in the range, and of these the asked columns
+--     select_columns, ask     of a query: the asked columns; the rows in the range, and of these the asked columns
 --     is_asked, places_asked  whether a column is asked, and the places of those that are
 use Rattle.std.specs.Prelude.{ℕ, zero, suc, Bool, true, not, if◌then◌else◌, List, [], map, reverse, find, slice_get, Option, Some, None, Result, Ok, Err, nat_eq, int_le, count_by, option_map}
 use Rattle.std.specs.List.{list_any}
-use Rattle.frame_core.specs.Ranges.{Range}
 use Rattle.frame_core.specs.declared.refusal.Asked.TheVariants as asks
 use Rattle.frame_core.specs.declared.refusal.Refusal.{Refusal}
 use Rattle.frame_core.specs.declared.refusal.Refusal.TheVariants as refusals
 use Rattle.frame_core.specs.Texts.{Text, same_text}
 use Rattle.frame_core.specs.Schemas.{Head}
-use Rattle.frame_core.specs.Frames.{Frame, rows_within}
-use Rattle.frame_core.specs.Selecting.{select}
 use Rattle.index_tree.specs.declared.index.Index.{Index}
 use Rattle.index_tree.specs.Covering.{places_where}
 use Rattle.key_kind.specs.Names.{Name, same_name}
@@ -20,6 +17,7 @@ use Rattle.store_model.specs.Library.{State, Version, is_buried, live_versions}
 use Rattle.store_model.specs.Snapshots.{Snapshot, Library, snapshot_named}
 use Rattle.expr_clause.specs.declared.command.AsOf.{AsOf}
 use Rattle.expr_clause.specs.declared.command.AsOf.TheVariants as moments
+pub use Rattle.expr_clause.specs.Asking.{select_columns, ask}
 use Rattle.reply_model.specs.declared.outcome.VersionRow.{VersionRow}
 use Rattle.reply_model.specs.declared.outcome.Outcome.TheVariants as outcomes
 use Rattle.reply_model.specs.Answering.{Answer, ◌then◌, refuse_if, or_refuse, version_or}
@@ -54,19 +52,6 @@ read_version l symbol (moments.Snapshot snap) =
     or_refuse (snapshot_named l snap) refusals.NoSuchSnapshot then λ s.
     or_refuse (picked s symbol) refusals.NoSuchSymbol then λ n.
     or_refuse (numbered (l.state symbol) n) refusals.NoSuchSymbol
-
--- the asked columns, or all
-abbrev pub select_columns : Option (List Text) → Frame → Result Frame Refusal
-select_columns None f = Ok f
-select_columns (Some names) f = found (select names f)
-  where
-    found : Result Frame ℕ → Result Frame Refusal
-    found (Ok g) = Ok g
-    found (Err position) = Err (refusals.NoSuchColumn 0 position)
-
--- the rows in the range, and of these the asked columns
-abbrev pub ask : Frame → Range → Option (List Text) → Result Frame Refusal
-ask f range columns = select_columns columns (record f { rows = rows_within range f.rows })
 
 -- whether the column of a name is asked
 abbrev pub is_asked : Option (List Text) → Text → Bool
