@@ -148,13 +148,13 @@ forms-loaded = (
         (
           delete_form-loaded,
           (
-            symbol_form-loaded commands.Prune (λ loads symbol. tt),
+            symbol_form-loaded _ (λ loads symbol. tt),
             (
-              symbol_form-loaded commands.Reclaim (λ loads symbol. tt),
+              symbol_form-loaded _ (λ loads symbol. tt),
               (
-                symbol_form-loaded commands.Versions (λ loads symbol. tt),
+                symbol_form-loaded _ (λ loads symbol. tt),
                 (
-                  symbol_form-loaded commands.Keys (λ loads symbol. tt),
+                  symbol_form-loaded _ (λ loads symbol. tt),
                   (read_form-loaded, tt),
                 ),
               ),

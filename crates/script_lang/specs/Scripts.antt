@@ -134,14 +134,14 @@ abbrev pub IsLoaded : ℕ → Command → Type 0
 IsLoaded loads (commands.Write symbol frame at prune) = frame < loads
 IsLoaded loads (commands.Append symbol frame at prune) = frame < loads
 IsLoaded loads (commands.Update symbol frame range upsert at prune) = frame < loads
-IsLoaded loads (commands.DeleteRange symbol range at prune) = ⊤
-IsLoaded loads (commands.Delete symbol versions) = ⊤
-IsLoaded loads (commands.Prune symbol) = ⊤
-IsLoaded loads (commands.Reclaim symbol) = ⊤
-IsLoaded loads (commands.Versions symbol) = ⊤
-IsLoaded loads (commands.Keys symbol) = ⊤
-IsLoaded loads (commands.Read symbol as_of range columns) = ⊤
-IsLoaded loads _ = ⊥
+IsLoaded loads (commands.Stage symbol frame) = ⊥
+IsLoaded loads (commands.Finalize symbol append sorted at prune) = ⊥
+IsLoaded loads (commands.Discard symbol) = ⊥
+IsLoaded loads (commands.Snapshot snap picks) = ⊥
+IsLoaded loads (commands.DeleteSnapshot snap) = ⊥
+IsLoaded loads commands.Symbols = ⊥
+IsLoaded loads commands.Snapshots = ⊥
+IsLoaded loads _ = ⊤
 
 -- each of these commands is so
 abbrev pub AllLoaded : ℕ → List Command → Type 0
