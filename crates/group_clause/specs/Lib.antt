@@ -2,3 +2,4 @@ pub mod Tallies
 pub mod Partials
 pub mod Keeping
 pub mod Finished
+pub mod Taking
