@@ -1,7 +1,7 @@
 -- A group over a frame: its lines fit the columns that it gives.
-use Rattle.std.proofs.Common.{◌≡◌, ℕ, suc, ◌+◌, refl, ap, sym, ◌∙◌, subst}
+use Rattle.std.proofs.Common.{◌≡◌, ℕ, refl, ap, sym, ◌∙◌, subst}
 use Rattle.std.specs.Prelude.{Bool, true, false, cond, List, [], ◌∷◌, ◌++◌, map, Option, Some, None, is_some, option_map, option_and_then, unwrap_or, Result, Ok, Err}
-use Rattle.std.specs.List.{AllByRecursion, AllZip}
+use Rattle.std.specs.List.{AllByRecursion}
 use Rattle.std.proofs.lemmas.List.Sorted.{IsPermutation-refl}
 use Rattle.frame_core.specs.declared.cell.ColType.{ColType}
 use Rattle.frame_core.specs.declared.cell.Cell.{Cell}
@@ -16,7 +16,7 @@ use Rattle.expr_clause.specs.declared.clause.Out.{Out}
 use Rattle.expr_clause.specs.declared.clause.Clause.{Clause}
 use Rattle.expr_clause.specs.declared.clause.Clause.TheVariants as clauses
 use Rattle.expr_clause.specs.Exprs.{cell_named, type_named}
-use Rattle.expr_clause.specs.Typing.{after, agg_type, out_type, with_outs, group_columns, schema_after}
+use Rattle.expr_clause.specs.Typing.{agg_type, out_type, with_outs, schema_after}
 use Rattle.expr_clause.specs.Groups.{Line, group}
 use Rattle.expr_clause.specs.Asking.{finish, group_row, line_of, run_frame}
 use Rattle.group_clause.specs.Partials.{Partial, partial_of, merge_partials, IsPartialOf, added, merged}
@@ -26,6 +26,7 @@ use Rattle.row_clauses.proofs.Results.{some_is, none_some}
 use Rattle.row_clauses.proofs.Types.{column_is}
 use Rattle.row_clauses.proofs.NameLaws.{names, new_outs}
 use Rattle.row_clauses.proofs.RunLaws.{group_alone}
+use Rattle.row_clauses.proofs.ThroughLaws.{made_frame}
 
 abbrev aggs_of : List Out → List Agg
 aggs_of outs = map (λ (o : Out). o.agg) outs
@@ -56,13 +57,15 @@ out_fits columns o kind row e all = by (type_named columns o.«of») refl e
 
 out_columns : (columns made all : List Head) (outs : List Out) → with_outs columns made outs ≡ Some all → OutColumns columns made all outs
 out_columns columns made all [] e = record { heads = []; is = sym (some_is made all e) ∙ sym (none_more made); fit = λ row typed. tt }
-out_columns columns made all (o ∷ outs) e = by (is_some (place_of o.name made)) (out_type columns o) refl e
+out_columns columns made all (o ∷ outs) e =
+    by (is_some (place_of o.name made)) (out_type columns o) refl e (λ kind h. out_columns columns (made ++ (o.name, kind) ∷ []) all outs h)
   where
-    by : (b : Bool) (t : Option ColType) → out_type columns o ≡ t → cond b None (option_and_then (λ kind. with_outs columns (made ++ (o.name, kind) ∷ []) outs) t) ≡ Some all → OutColumns columns made all (o ∷ outs)
-    by true t is e = none_some all e
-    by false None is e = none_some all e
-    by false (Some kind) is e =
-        let more = out_columns columns (made ++ (o.name, kind) ∷ []) all outs e in
+    by : (b : Bool) (t : Option ColType) → out_type columns o ≡ t → cond b None (option_and_then (λ kind. with_outs columns (made ++ (o.name, kind) ∷ []) outs) t) ≡ Some all
+        → ((kind : ColType) → with_outs columns (made ++ (o.name, kind) ∷ []) outs ≡ Some all → OutColumns columns (made ++ (o.name, kind) ∷ []) all outs) → OutColumns columns made all (o ∷ outs)
+    by true t is e later = none_some all e
+    by false None is e later = none_some all e
+    by false (Some kind) is e later =
+        let more = later kind e in
         record {
           heads = (o.name, kind) ∷ more.heads;
           is = more.is ∙ assoc made (o.name, kind) more.heads;
@@ -123,12 +126,12 @@ module _ (f : Frame) (c : Clause) (key : Text) (outs : List Out) (t : Schema) (i
   pub finished : (number : ℕ) (p : Partial) (result : Result Frame Refusal) → p ≡ merge_partials (partial_of []) (partial_of lines) → GivesGroupOf number t (aggs_of outs) p result → Answers result (run_frame number (c ∷ []) f)
   finished number p result e gives = subst (Answers result) same (gives lines lines (all_added p e) (IsPermutation-refl lines))
     where
-      fused : (r : Result (List Line) Refusal) → then_map (λ done. record { schema = t; rows = map group_row done }) r ≡ then_map (λ done. record { schema = t; rows = done }) (then_map (map group_row) r)
+      fused : (r : Result (List Line) Refusal) → then_map (λ done. made_frame t (map group_row done)) r ≡ then_map (made_frame t) (then_map (map group_row) r)
       fused (Ok x) = refl
       fused (Err why) = refl
 
       same : group_frame number t (aggs_of outs) lines ≡ run_frame number (c ∷ []) f
       same =
           fused (group number (aggs_of outs) lines)
-          ∙ ap (λ s. then_map (λ done. record { schema = s; rows = done }) (finish number (clauses.Group key outs) f.schema f.rows)) (ap (λ o. unwrap_or o f.schema) (sym typed))
+          ∙ ap (λ s. then_map (made_frame s) (finish number (clauses.Group key outs) f.schema f.rows)) (ap (λ o. unwrap_or o f.schema) (sym typed))
           ∙ sym (ap (λ x. run_frame number (x ∷ []) f) is ∙ group_alone number (clauses.Group key outs) f refl)

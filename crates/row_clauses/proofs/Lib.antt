@@ -8,3 +8,4 @@ pub mod RowCells
 pub mod ThroughLaws
 pub mod NameLaws
 pub mod GroupLaws
+pub mod Refusing

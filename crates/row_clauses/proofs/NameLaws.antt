@@ -1,5 +1,5 @@
 -- No column's name stands twice after a clause.
-use Rattle.std.proofs.Common.{◌≡◌, ℕ, zero, suc, ◌+◌, refl, ap, ap₂, sym, ◌∙◌, subst}
+use Rattle.std.proofs.Common.{◌≡◌, ℕ, zero, suc, ◌+◌, refl, ap, ap₂, sym, ◌∙◌}
 use Rattle.std.specs.Prelude.{Bool, true, false, not, ◌&&◌, ◌||◌, cond, List, [], ◌∷◌, ◌++◌, map, slice_get, slice_set, Option, Some, None, is_some, option_map, option_and_then, unwrap_or}
 use Rattle.std.specs.List.{list_any, position_from}
 use Rattle.std.proofs.lemmas.Bool.{true≢false, and_parts, and_from}
@@ -80,9 +80,12 @@ new_after_all (c ∷ cs) s plain new = let parts = plain_parts c cs plain in new
 -- the columns of a group
 pub new_outs : (columns made all : List Head) (outs : List Out) → are_new [] (names made) ≡ true → with_outs columns made outs ≡ Some all → are_new [] (names all) ≡ true
 new_outs columns made all [] new e = ap (λ l. are_new [] (names l)) (sym (some_is made all e)) ∙ new
-new_outs columns made all (o ∷ outs) new = by (place_of o.name made) refl (out_type columns o)
+new_outs columns made all (o ∷ outs) new given =
+    by (place_of o.name made) refl (out_type columns o) (λ kind absent e. new_outs columns (made ++ (o.name, kind) ∷ []) all outs (new_column made (o.name, kind) new absent) e) given
   where
-    by : (p : Option ℕ) → place_of o.name made ≡ p → (t : Option ColType) → cond (is_some p) None (option_and_then (λ kind. with_outs columns (made ++ (o.name, kind) ∷ []) outs) t) ≡ Some all → are_new [] (names all) ≡ true
-    by (Some k) p_is t e = none_some all e
-    by None p_is None e = none_some all e
-    by None p_is (Some kind) e = new_outs columns (made ++ (o.name, kind) ∷ []) all outs (new_column made (o.name, kind) new p_is) e
+    by : (p : Option ℕ) → place_of o.name made ≡ p → (t : Option ColType)
+        → ((kind : ColType) → place_of o.name made ≡ None → with_outs columns (made ++ (o.name, kind) ∷ []) outs ≡ Some all → are_new [] (names all) ≡ true)
+        → cond (is_some p) None (option_and_then (λ kind. with_outs columns (made ++ (o.name, kind) ∷ []) outs) t) ≡ Some all → are_new [] (names all) ≡ true
+    by (Some k) p_is t later e = none_some all e
+    by None p_is None later e = none_some all e
+    by None p_is (Some kind) later e = later kind p_is e

@@ -1,7 +1,7 @@
 -- A plan, clause by clause, and where the columns of a row lie.
-use Rattle.std.proofs.Common.{◌≡◌, ℕ, zero, suc, ◌+◌, ◌-◌, ◌<◌, refl, ap, ap₂, sym, ◌∙◌, subst, arith, length-append}
+use Rattle.std.proofs.Common.{◌≡◌, ℕ, zero, suc, ◌+◌, ◌-◌, ◌<◌, refl, ap, ap₂, sym, ◌∙◌, arith, length-append}
 use Rattle.std.specs.Prelude.{List, [], ◌∷◌, ◌++◌, length, map, slice_get, slice_set, Option, Some, None, option_map, option_and_then, unwrap_or}
-use Rattle.std.specs.List.{AllByRecursion, AllZip}
+use Rattle.std.specs.List.{AllByRecursion}
 use Rattle.frame_core.specs.declared.cell.Cell.{Cell}
 use Rattle.frame_core.specs.Texts.{Text}
 use Rattle.frame_core.specs.Schemas.{Head, Schema}
@@ -13,7 +13,7 @@ use Rattle.expr_clause.specs.Exprs.{cell_named}
 use Rattle.expr_clause.specs.Typing.{put_at, after, clause_columns}
 use Rattle.row_clauses.specs.declared.plan.Plan.{Plan}
 use Rattle.row_clauses.specs.Lying.{AreTyped, cell_in, lying, spot, operand, lay, count_after, spots_of, lay_all, places_from}
-use Rattle.row_clauses.specs.Plans.{after_all, IsAdded, IsPlan}
+use Rattle.row_clauses.specs.Plans.{after_all, IsPlan}
 
 -- ---- the plan that is made
 

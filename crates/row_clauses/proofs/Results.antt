@@ -1,6 +1,6 @@
 -- What two equal answers hold.
 use Rattle.std.proofs.Common.{◌≡◌, ap, sym}
-use Rattle.std.specs.Prelude.{is_ok, is_some, unwrap_or, Option, Some, None, Result, Ok, Err}
+use Rattle.std.specs.Prelude.{is_ok, is_some, unwrap_or, Some, None, Result, Ok, Err}
 use Rattle.std.proofs.lemmas.Bool.{true≢false}
 
 abbrev value_or : {A E : Type 0} → A → Result A E → A

@@ -1,6 +1,7 @@
 -- Runs cut into clauses without a group, and groups.
-use Rattle.std.proofs.Common.{◌≡◌, ℕ, suc, ◌+◌, refl, ap, sym, ◌∙◌, subst, arith, length-append}
-use Rattle.std.specs.Prelude.{Bool, true, false, not, cond, List, [], ◌∷◌, ◌++◌, length, Option, Some, None, Result, Ok, Err, ⊤, ◌⊎◌, inl, inr, ◌&&◌, unwrap_or}
+use Rattle.std.proofs.Common.{◌≡◌, ℕ, suc, ◌+◌, ◌-◌, ◌<◌, ◌≤◌, take, drop, refl, ap, sym, ◌∙◌, subst, arith, length-append, inl, inr}
+use Rattle.std.proofs.lemmas.List.{take-append-drop, drop-drop, length-take-le, length-drop}
+use Rattle.std.specs.Prelude.{Bool, true, false, not, cond, List, [], ◌∷◌, ◌++◌, length, Option, Some, None, Result, Ok, Err, ◌⊎◌, ◌&&◌, unwrap_or, slice_range}
 use Rattle.std.proofs.lemmas.Bool.{true≢false}
 use Rattle.std.specs.List.{cons_option}
 use Rattle.frame_core.specs.declared.refusal.Refusal.{Refusal}
@@ -13,7 +14,7 @@ use Rattle.expr_clause.specs.declared.clause.Clause.TheVariants as clauses
 use Rattle.expr_clause.specs.Typing.{after, check_clause, check_from, absent_from, clause_columns, schema_after, needs_time, if_typed}
 use Rattle.expr_clause.specs.Asking.{◌then◌, step, go_on, pass, pass_rows, finish, ends_run, before_first, runs, end_run, run_frame, run_all}
 use Rattle.frame_core.specs.RawFrames.{unless}
-use Rattle.row_clauses.specs.Plans.{after_all, AllFit, is_plain, StartsRun, IsTogether, IsPart}
+use Rattle.row_clauses.specs.Plans.{after_all, AllFit, is_plain, StartsRun, IsPart}
 use Rattle.row_clauses.proofs.Results.{ok_is, err_ok}
 use Rattle.row_clauses.proofs.RowLaws.{plain_parts}
 
@@ -30,14 +31,15 @@ clause_fits n c s t = by (absent_from 1 s.columns (clause_columns c)) (schema_af
 
 pub all_fit : (n : ℕ) (list : List Clause) (s t : Schema) → check_from n list s ≡ Ok t → AllFit list s
 all_fit n [] s t e = tt
-all_fit n (c ∷ cs) s t e = by (check_clause n c s) refl e
+all_fit n (c ∷ cs) s t e = by (check_clause n c s) refl e (λ u h. all_fit (n + 1) cs u t h)
   where
-    by : (r : Result Schema Refusal) → check_clause n c s ≡ r → ◌≡◌ {A = Result Schema Refusal} (elim r [ Err why ↦ Err why | Ok u ↦ check_from (n + 1) cs u ]) (Ok t) → AllFit (c ∷ cs) s
-    by (Err why) is h = err_ok why t h
-    by (Ok u) is h =
+    by : (r : Result Schema Refusal) → check_clause n c s ≡ r → ◌≡◌ {A = Result Schema Refusal} (elim r [ Err why ↦ Err why | Ok u ↦ check_from (n + 1) cs u ]) (Ok t)
+        → ((u : Schema) → check_from (n + 1) cs u ≡ Ok t → AllFit cs u) → AllFit (c ∷ cs) s
+    by (Err why) is h later = err_ok why t h
+    by (Ok u) is h later =
         let k = clause_fits n c s u is in
         let same : after c s ≡ u = ap (λ o. unwrap_or o s) k.1 in
-        (k.0, k.1 ∙ ap Some (sym same), subst (AllFit cs) (sym same) (all_fit (n + 1) cs u t h))
+        (k.0, k.1 ∙ ap Some (sym same), subst (AllFit cs) (sym same) (later u h))
 
 -- clauses one after another
 pub fit_parts : (xs ys : List Clause) (s : Schema) → AllFit (xs ++ ys) s → AllFit xs s × AllFit ys (after_all xs s)
@@ -68,7 +70,7 @@ plain_run n run f e = by (pass_rows (pass n f.schema run) 1 f.rows)
 
 -- the schema of what a run gives
 end_schema : (n : ℕ) (c : Clause) (cs : List Clause) (s : Schema) (rows : List Row) (g : Frame) → end_run n (c ∷ cs) s rows ≡ Ok g → g.schema ≡ after_all (c ∷ cs) s
-end_schema n c [] s rows g = by (finish n c s rows)
+end_schema n c [] s rows g e = by (finish n c s rows) e
   where
     by : (r : Result (List Row) Refusal) → ◌≡◌ {A = Result Frame Refusal} (then_map (λ done. record { schema = after c s; rows = done }) r) (Ok g) → g.schema ≡ after c s
     by (Ok done) e = ap (λ (f : Frame). f.schema) (sym (ok_is (record { schema = after c s; rows = done }) g e))
@@ -103,11 +105,8 @@ pass_before n (d ∷ first) c s row e = same_way (step d s.columns row) n _ _ (�
 same_rows : (p q : Row → Result (Option Row) ℕ) (n : ℕ) (rows : List Row) → ((r : Row) → p r ≡ q r) → pass_rows p n rows ≡ pass_rows q n rows
 same_rows p q n [] e = refl
 same_rows p q n (row ∷ rows) e =
-    by (q row) ∙ ap (λ (w : Result (Option Row) ℕ). elim w [ Err clause ↦ Err (refusals.Overflow clause n) | Ok kept ↦ then_map (cons_option kept) (pass_rows q (n + 1) rows) ]) refl
-  where
-    by : (w : Result (Option Row) ℕ) → pass_rows p n (row ∷ rows) ≡ pass_rows q n (row ∷ rows)
-    by w = ap (λ (w : Result (Option Row) ℕ). elim w [ Err clause ↦ Err (refusals.Overflow clause n) | Ok kept ↦ then_map (cons_option kept) (pass_rows p (n + 1) rows) ]) (e row)
-        ∙ ap (λ (more : Result (List Row) Refusal). elim (q row) [ Err clause ↦ Err (refusals.Overflow clause n) | Ok kept ↦ then_map (cons_option kept) more ]) (same_rows p q (n + 1) rows e)
+    ap (λ (w : Result (Option Row) ℕ). elim w [ Err clause ↦ Err (refusals.Overflow clause n) | Ok kept ↦ then_map (cons_option kept) (pass_rows p (n + 1) rows) ]) (e row)
+    ∙ ap (λ (more : Result (List Row) Refusal). elim (q row) [ Err clause ↦ Err (refusals.Overflow clause n) | Ok kept ↦ then_map (cons_option kept) more ]) (same_rows p q (n + 1) rows e)
 
 all_pass : (n : ℕ) (rows : List Row) → pass_rows (λ r. Ok (Some r)) n rows ≡ Ok rows
 all_pass n [] = refl
@@ -200,3 +199,67 @@ part_first n (c ∷ cs) more f is = by is.0
     by : ((ends_run c ≡ true) × (cs ≡ [])) ⊎ (is_plain (c ∷ cs) ≡ true) → run_all n (runs ((c ∷ cs) ++ more)) f ≡ (run_frame n (c ∷ cs) f then λ g. run_all (n + length (c ∷ cs)) (runs more) g)
     by (inl group) = rw group.1 (group_first n c more f group.0)
     by (inr plain) = plain_first n c cs more f plain (is.1 plain)
+
+-- ---- the clauses from a place on
+
+cut_at : (xs : List Clause) (at end : ℕ) → at ≤ end → drop at xs ≡ slice_range xs at end ++ drop end xs
+cut_at xs at end le =
+    let far : at + (end - at) ≡ end = omega (arith, le) in
+    sym (take-append-drop (end - at) (drop at xs)) ∙ ap (λ l. take (end - at) (drop at xs) ++ l) (drop-drop (end - at) at xs ∙ ap (λ n. drop n xs) far)
+
+cut_length : (xs : List Clause) (at end : ℕ) → at ≤ end → end ≤ length xs → length (slice_range xs at end) ≡ end - at
+cut_length xs at end le within = length-take-le (end - at) (drop at xs) (omega (arith, le, within, length-drop at xs))
+
+module _ (xs : List Clause) (at end : ℕ) (le : at < end) (within : end ≤ length xs) where
+  pub part_length : length (slice_range xs at end) ≡ end - at
+  part_length = cut_length xs at end (omega (arith, le)) within
+
+  pub part_fits : (s : Schema) → AllFit (drop at xs) s → AllFit (slice_range xs at end) s × AllFit (drop end xs) (after_all (slice_range xs at end) s)
+  part_fits s fit = fit_parts (slice_range xs at end) (drop end xs) s (subst (λ l. AllFit l s) (cut_at xs at end (omega (arith, le))) fit)
+
+  -- the part's frame, and the clauses behind it
+  pub part_done : (f g : Frame) (total : Result Frame Refusal) → IsPart (slice_range xs at end) (drop end xs) → run_all (at + 1) (runs (drop at xs)) f ≡ total
+      → run_frame (at + 1) (slice_range xs at end) f ≡ Ok g → run_all (end + 1) (runs (drop end xs)) g ≡ total
+  part_done f g total part all is =
+      let part_of = slice_range xs at end in
+      let far : at + 1 + length part_of ≡ end + 1 = omega (arith, le, part_length) in
+      ap (λ n. run_all n (runs (drop end xs)) g) (sym far)
+      ∙ sym (ap (λ l. run_all (at + 1) (runs l) f) (cut_at xs at end (omega (arith, le))) ∙ part_first (at + 1) part_of (drop end xs) f part ∙ ap (λ r. r then λ m. run_all (at + 1 + length part_of) (runs (drop end xs)) m) is)
+      ∙ all
+
+  pub part_schema : (f g : Frame) → AllFit (drop at xs) f.schema → run_frame (at + 1) (slice_range xs at end) f ≡ Ok g → AllFit (drop end xs) g.schema
+  part_schema f g fit is = subst (AllFit (drop end xs)) (sym (run_schema (at + 1) (slice_range xs at end) f g is)) (part_fits f.schema fit).1
+
+  -- the part is refused
+  pub part_refused : (f : Frame) (total : Result Frame Refusal) (why : Refusal) → IsPart (slice_range xs at end) (drop end xs) → run_all (at + 1) (runs (drop at xs)) f ≡ total
+      → run_frame (at + 1) (slice_range xs at end) f ≡ Err why → total ≡ Err why
+  part_refused f total why part all is =
+      let part_of = slice_range xs at end in
+      sym all ∙ ap (λ l. run_all (at + 1) (runs l) f) (cut_at xs at end (omega (arith, le))) ∙ part_first (at + 1) part_of (drop end xs) f part
+      ∙ ap (λ r. r then λ m. run_all (at + 1 + length part_of) (runs (drop end xs)) m) is
+
+-- ---- where a part ends
+
+plain_more : (c : Clause) (cs : List Clause) → ends_run c ≡ false → is_plain cs ≡ true → is_plain (c ∷ cs) ≡ true
+plain_more (clauses.DateRange range) cs e plain = plain
+plain_more (clauses.Filter x) cs e plain = plain
+plain_more (clauses.Apply name x) cs e plain = plain
+plain_more (clauses.Group key outs) cs e plain = absurd (true≢false e)
+
+plain_push : (xs : List Clause) (c : Clause) → is_plain xs ≡ true → ends_run c ≡ false → is_plain (xs ++ c ∷ []) ≡ true
+plain_push [] c plain e = plain_more c [] e refl
+plain_push (x ∷ xs) c plain e = let parts = plain_parts x xs plain in plain_more x (xs ++ c ∷ []) parts.0 (plain_push xs c parts.1 e)
+
+take_one : (front : List Clause) (c : Clause) (back : List Clause) → take (suc (length front)) (front ++ c ∷ back) ≡ front ++ c ∷ []
+take_one [] c back = refl
+take_one (x ∷ front) c back = ap (λ l. x ∷ l) (take_one front c back)
+
+-- one clause more without a group
+pub plain_one : (xs : List Clause) (at place : ℕ) (c : Clause) → at ≤ place → place < length xs → drop place xs ≡ c ∷ drop (place + 1) xs → ends_run c ≡ false
+    → is_plain (slice_range xs at place) ≡ true → is_plain (slice_range xs at (place + 1)) ≡ true
+plain_one xs at place c le lt here e plain =
+    let front = slice_range xs at place in
+    let count : place + 1 - at ≡ suc (length front) = omega (arith, le, cut_length xs at place le (omega (arith, lt))) in
+    let same : slice_range xs at (place + 1) ≡ front ++ c ∷ [] =
+    ap (λ n. take n (drop at xs)) count ∙ ap (take (suc (length front))) (cut_at xs at place le ∙ ap (λ l. front ++ l) here) ∙ take_one front c (drop (place + 1) xs) in
+    ap is_plain same ∙ plain_push front c plain e

@@ -1,6 +1,6 @@
 -- The rows that come through a run, one after another.
 use Rattle.std.proofs.Common.{◌≡◌, ℕ, zero, suc, ◌+◌, ◌<◌, ℤ, refl, ap, ap₂, sym, ◌∙◌, subst, arith, add-one}
-use Rattle.std.specs.Prelude.{◌≤ℤ◌, pos, Bool, true, false, cond, List, [], ◌∷◌, ◌++◌, length, map, drop, slice_get, Option, Some, None, option_map, Result, Ok, Err, unwrap_or}
+use Rattle.std.specs.Prelude.{◌≤ℤ◌, pos, Bool, true, false, cond, List, [], ◌∷◌, ◌++◌, length, drop, slice_get, Option, Some, None, option_map, Result, Ok, Err, unwrap_or}
 use Rattle.std.specs.List.{AllByRecursion, cons_option}
 use Rattle.std.proofs.lemmas.Int.{ints}
 use Rattle.std.proofs.lemmas.Bool.{true≢false}
@@ -17,9 +17,9 @@ use Rattle.frame_core.specs.Selecting.{then_map}
 use Rattle.expr_clause.specs.declared.clause.Clause.{Clause}
 use Rattle.expr_clause.specs.declared.clause.Clause.TheVariants as clauses
 use Rattle.expr_clause.specs.Exprs.{has_type, expr_type}
-use Rattle.expr_clause.specs.Typing.{with_column, after, schema_after}
+use Rattle.expr_clause.specs.Typing.{with_column, after}
 use Rattle.expr_clause.specs.Asking.{pass, pass_rows, ends_run}
-use Rattle.row_clauses.specs.Lying.{AreTyped, row_at, lying, cells_at, row_lying, lay_all, places_from}
+use Rattle.row_clauses.specs.Lying.{AreTyped, row_at, lying, cells_at, row_lying}
 use Rattle.row_clauses.specs.declared.plan.Plan.{Plan}
 use Rattle.row_clauses.specs.declared.passing.Passed.{Passed}
 use Rattle.row_clauses.specs.declared.passing.Passed.TheVariants as ways

@@ -1,7 +1,6 @@
 -- The value of an expression is of its type.
-use Rattle.std.proofs.Common.{◌≡◌, ℕ, zero, suc, refl, subst, sym, ap}
+use Rattle.std.proofs.Common.{◌≡◌, ℕ, zero, suc, refl, subst}
 use Rattle.std.specs.Prelude.{ℤ, ◌+ℤ◌, ◌-ℤ◌, ◌*ℤ◌, neg_ℤ, nat_abs, pos, Bool, true, false, cond, ⊤, List, [], ◌∷◌, slice_get, Option, Some, None, option_map, option_and_then, unwrap_or}
-use Rattle.std.specs.List.{AllZip}
 use Rattle.frame_core.specs.declared.cell.ColType.{ColType}
 use Rattle.frame_core.specs.declared.cell.ColType.TheVariants as types
 use Rattle.frame_core.specs.declared.cell.Cell.{Cell}

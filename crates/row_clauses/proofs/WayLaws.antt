@@ -1,7 +1,7 @@
 -- A row on its way through a run, clause by clause.
-use Rattle.std.proofs.Common.{◌≡◌, ℕ, suc, ◌+◌, ◌<◌, refl, ap, sym, ◌∙◌, subst, arith, length-append}
+use Rattle.std.proofs.Common.{◌≡◌, ℕ, ◌+◌, ◌<◌, refl, ap, sym, ◌∙◌, subst, arith, length-append}
 use Rattle.std.proofs.lemmas.Bool.{true≢false}
-use Rattle.std.specs.Prelude.{Bool, true, false, cond, List, [], ◌∷◌, ◌++◌, length, map, drop, Option, Some, None, option_map, Result, Ok, Err, unwrap_or, slice_get}
+use Rattle.std.specs.Prelude.{Bool, true, false, cond, List, [], ◌∷◌, ◌++◌, length, map, drop, Option, Some, None, option_map, Result, Ok, Err}
 use Rattle.std.specs.List.{AllByRecursion}
 use Rattle.frame_core.specs.declared.cell.Cell.{Cell}
 use Rattle.frame_core.specs.declared.cell.CellRef.{CellRef}
@@ -17,12 +17,11 @@ use Rattle.expr_clause.specs.declared.clause.Clause.TheVariants as clauses
 use Rattle.expr_clause.specs.Cells.{is_true}
 use Rattle.expr_clause.specs.Exprs.{columns_of, value}
 use Rattle.expr_clause.specs.Typing.{put_at, after, clause_columns}
-use Rattle.expr_clause.specs.Asking.{keep_if, go_on, step, pass}
+use Rattle.expr_clause.specs.Asking.{keep_if, go_on, pass}
 use Rattle.row_clauses.specs.declared.passing.Step.{Step}
 use Rattle.row_clauses.specs.declared.passing.Step.TheVariants as steps
 use Rattle.row_clauses.specs.Lying.{AreTyped, row_at, cells_at, lying, row_lying, spot, lay, count_after, spots_of, lay_all, places_from}
-use Rattle.row_clauses.specs.Passing.{told, IsStep, IsStepped}
-use Rattle.row_clauses.proofs.Results.{none_some}
+use Rattle.row_clauses.specs.Passing.{told, IsStepped}
 use Rattle.row_clauses.proofs.PlanLaws.{lying_put, lying_first, typed_length, low_after, low_first}
 
 -- ---- one clause

@@ -4,7 +4,7 @@
 --     IsPlan              the plan of clauses over rows of a schema
 --     AllFit              each clause fits the schema that those before it give
 --     is_plain, IsPart    clauses without a group; clauses that go together
-use Rattle.std.specs.Prelude.{◌≡◌, ℕ, Bool, true, not, ⊤, ◌⊎◌, List, [], ◌∷◌, ◌++◌, map, length, Some, None}
+use Rattle.std.specs.Prelude.{◌≡◌, Bool, true, not, ⊤, ◌⊎◌, List, [], ◌∷◌, ◌++◌, map, length, Some, None}
 use Rattle.std.specs.List.{list_any}
 use Rattle.frame_core.specs.Schemas.{Schema}
 use Rattle.expr_clause.specs.declared.clause.Clause.{Clause}

@@ -40,12 +40,7 @@ fn all_parts(alloc: Global, frame: Frame, clauses: &[Clause]) -> Result<Frame, R
 }
 
 /// What clauses that go together, the first of which has this number, make of a frame.
-fn part_of(
-    alloc: Global,
-    first: u64,
-    part: &[Clause],
-    frame: &Frame,
-) -> Result<Frame, Refusal>
+fn part_of(alloc: Global, first: u64, part: &[Clause], frame: &Frame) -> Result<Frame, Refusal>
     requires numbers { first + length part.now < 2 ^ 64 }
     requires fit { AllFit part.now frame.now.schema }
     requires part { IsTogether part.now }

@@ -25,11 +25,7 @@ pub(crate) struct Plan {
 }
 
 /// The plan of clauses over rows of this schema.
-pub(crate) fn planned(
-    alloc: Global,
-    clauses: &[Clause],
-    schema: &Schema,
-) -> Result<Plan, NoMemory>
+pub(crate) fn planned(alloc: Global, clauses: &[Clause], schema: &Schema) -> Result<Plan, NoMemory>
     ensures { IfOk result (λ plan. IsPlan schema.now clauses.now plan) }
 {
     let mut plan = unplanned(alloc, schema)?;

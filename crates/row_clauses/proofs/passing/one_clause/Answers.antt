@@ -1,4 +1,3 @@
-use Rattle.std.proofs.Common.{◌∙◌}
 use Rattle.row_clauses.proofs.WayLaws.{filter_done, apply_done}
 use Rattle.row_clauses.proofs.passing.one_clause.Goals as goal
 

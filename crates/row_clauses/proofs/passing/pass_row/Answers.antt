@@ -1,6 +1,6 @@
-use Rattle.std.proofs.Common.{◌≡◌, refl, arith, drop, ◌∷◌, ◌+◌, ap, ◌∙◌, rules}
+use Rattle.std.proofs.Common.{refl, arith, rules}
 use Rattle.std.proofs.lemmas.List.{drop_more}
-use Rattle.row_clauses.proofs.WayLaws.{rest_first, more_at, ended_at, over_at}
+use Rattle.row_clauses.proofs.WayLaws.{rest_first, more_at}
 use Rattle.row_clauses.proofs.passing.pass_row.Goals as goal
 
 pub loop-place-init : goal.loop-place-init

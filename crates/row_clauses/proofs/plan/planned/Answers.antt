@@ -1,5 +1,4 @@
-use Rattle.row_clauses.proofs.PlanLaws.{left_none, left_one, left_all}
-use Rattle.std.proofs.Common.{subst}
+use Rattle.row_clauses.proofs.PlanLaws.{left_none}
 use Rattle.row_clauses.proofs.plan.planned.Goals as goal
 
 pub loop-clause-init : goal.loop-clause-init

@@ -1,6 +1,6 @@
-use Rattle.std.proofs.Common.{◌≡◌, ap, sym, ◌∙◌, arith, subst, rules}
+use Rattle.std.proofs.Common.{ap, sym, ◌∙◌, arith, subst}
 use Rattle.frame_core.specs.Making.{Making}
-use Rattle.row_clauses.specs.Lying.{AreTyped, cells_at, lying, cell_in}
+use Rattle.row_clauses.specs.Lying.{AreTyped, cells_at, lying}
 use Rattle.row_clauses.proofs.RowCells.{next_type, all_begun}
 use Rattle.std.proofs.lemmas.List.{take_all}
 use Rattle.row_clauses.proofs.row.add_row.Goals as goal

@@ -1,4 +1,4 @@
-use Rattle.std.proofs.Common.{◌≡◌, ◌+◌, ◌<◌, length, refl, ap, sym, ◌∙◌, subst, arith}
+use Rattle.std.proofs.Common.{◌+◌, ◌<◌, length, refl, ap, sym, ◌∙◌, subst, arith}
 use Rattle.frame_core.specs.Schemas.{Schema}
 use Rattle.frame_core.specs.Selecting.{then_map}
 use Rattle.expr_clause.specs.Asking.{pass}
@@ -46,15 +46,15 @@ loop-row-preserved c =
     let lt : c.loop-row.row < length c.args.frame.now.rows = omega (arith, c.loop-row-test.true, c.rows-row-end.ensures.rows) in
     elim c.match-branch-3.branch [
       | in-Through+in_ok-add_row-in-Through w ↦
-      through_more c.args.frame.now c.args.plan.now.schema (pass c.args.first c.args.frame.now.schema c.args.clauses.now) c.loop-row.row c.loop-row.out lt c.loop-row.invariant
-      (row_lying c.args.frame.now c.loop-row.row w.deref.result.now w.deref-in-Through.result.now) c.match-branch-3.out
-      (sym (rw (w.deref.ensures.value, w.deref-in-Through.ensures.value)
-      (passed_is c.args.frame.now c.loop-row.row c.args.first c.args.clauses.now c.args.plan.now c.items-spots.result.now _ _ ways.Through c.requires.frame lt c.requires.plan c.items-spots.ensures
-      c.in_ok-pass_row.ensures w.in-Through.is)))
-      refl (w.out-is ∙ w.in_ok-add_row-in-Through.ensures)
+          through_more c.args.frame.now c.args.plan.now.schema (pass c.args.first c.args.frame.now.schema c.args.clauses.now) c.loop-row.row c.loop-row.out lt c.loop-row.invariant
+          (row_lying c.args.frame.now c.loop-row.row w.deref.result.now w.deref-in-Through.result.now) c.match-branch-3.out
+          (sym (rw (w.deref.ensures.value, w.deref-in-Through.ensures.value)
+          (passed_is c.args.frame.now c.loop-row.row c.args.first c.args.clauses.now c.args.plan.now c.items-spots.result.now _ _ ways.Through c.requires.frame lt c.requires.plan c.items-spots.ensures
+          c.in_ok-pass_row.ensures w.in-Through.is)))
+          refl (w.out-is ∙ w.in_ok-add_row-in-Through.ensures)
       | in-Ended w ↦
-      subst (Through c.args.frame.now c.args.plan.now.schema (pass c.args.first c.args.frame.now.schema c.args.clauses.now) (c.loop-row.row + 1)) (sym w.out-is)
-      (through_ended c.args.frame.now c.args.plan.now.schema (pass c.args.first c.args.frame.now.schema c.args.clauses.now) c.loop-row.row c.loop-row.out lt c.loop-row.invariant
-      (sym (passed_is c.args.frame.now c.loop-row.row c.args.first c.args.clauses.now c.args.plan.now c.items-spots.result.now _ _ ways.Ended c.requires.frame lt c.requires.plan c.items-spots.ensures
-      c.in_ok-pass_row.ensures w.in-Ended.is)))
+          subst (Through c.args.frame.now c.args.plan.now.schema (pass c.args.first c.args.frame.now.schema c.args.clauses.now) (c.loop-row.row + 1)) (sym w.out-is)
+          (through_ended c.args.frame.now c.args.plan.now.schema (pass c.args.first c.args.frame.now.schema c.args.clauses.now) c.loop-row.row c.loop-row.out lt c.loop-row.invariant
+          (sym (passed_is c.args.frame.now c.loop-row.row c.args.first c.args.clauses.now c.args.plan.now c.items-spots.result.now _ _ ways.Ended c.requires.frame lt c.requires.plan c.items-spots.ensures
+          c.in_ok-pass_row.ensures w.in-Ended.is)))
     ]

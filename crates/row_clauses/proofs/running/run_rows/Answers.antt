@@ -1,4 +1,4 @@
-use Rattle.std.proofs.Common.{◌≡◌, true, [], ap, sym, ◌∙◌, subst}
+use Rattle.std.proofs.Common.{[], ap, sym, ◌∙◌, subst}
 use Rattle.frame_core.specs.Schemas.{Schema, are_new}
 use Rattle.frame_core.specs.Refusals.{Answers}
 use Rattle.frame_core.specs.Selecting.{then_map}
