@@ -1,18 +1,15 @@
 -- The keys of lines rise, and a key that is not among them has no lines.
 use Rattle.std.proofs.Common.{◌≡◌, refl, ap, sym, ◌∙◌, subst}
-use Rattle.std.specs.Prelude.{true, false, cond, ⊤, List, [], ◌∷◌, map, filter}
+use Rattle.std.specs.Prelude.{true, false, cond, List, [], ◌∷◌, map, filter}
 use Rattle.std.specs.List.{AllByRecursion}
 use Rattle.std.specs.declared.cmp.Ordering.{Ordering}
 use Rattle.std.specs.declared.cmp.Ordering.TheVariants.{Less, Equal, Greater}
 use Rattle.frame_core.specs.declared.cell.Cell.{Cell}
 use Rattle.expr_clause.specs.Cells.{cell_cmp, same_cell}
 use Rattle.expr_clause.specs.Groups.{Line, keys, insert_key, cells_with}
+use Rattle.group_clause.specs.Keeping.{Rises}
 use Rattle.group_clause.proofs.Order.{cell_cmp_total, cells_equal}
 use Rattle.group_clause.proofs.Merging.{turned_greater}
-
-abbrev pub Rises : List Cell → Type 0
-Rises [] = ⊤
-Rises (m ∷ ms) = AllByRecursion (λ x. cell_cmp m x ≡ Less) ms × Rises ms
 
 -- what an insertion gives, told by the order
 abbrev key_at : Ordering → Cell → Cell → List Cell → List Cell
@@ -44,7 +41,7 @@ pub all_weaker : (P Q : Cell → Type 0) → ((x : Cell) → P x → Q x) → (x
 all_weaker P Q f [] h = tt
 all_weaker P Q f (x ∷ xs) h = (f x h.0, all_weaker P Q f xs h.1)
 
-insert_key_rises : (k : Cell) (ks : List Cell) → Rises ks → Rises (insert_key k ks)
+pub insert_key_rises : (k : Cell) (ks : List Cell) → Rises ks → Rises (insert_key k ks)
 insert_key_rises k [] r = (tt, tt)
 insert_key_rises k (m ∷ ms) r = by (insert_key_rises k ms r.1) (cell_cmp k m) refl
   where

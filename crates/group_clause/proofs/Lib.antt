@@ -4,3 +4,5 @@ pub mod Keys
 pub mod Grouping
 pub mod TallyLaws
 pub mod RisingMerge
+pub mod PartLemmas
+pub mod KeepingLemmas
