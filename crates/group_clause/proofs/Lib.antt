@@ -6,3 +6,7 @@ pub mod TallyLaws
 pub mod RisingMerge
 pub mod PartLemmas
 pub mod KeepingLemmas
+pub mod RowLemmas
+pub mod MadeRows
+pub mod FittingLines
+pub mod FinishLaws

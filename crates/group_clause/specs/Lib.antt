@@ -3,3 +3,4 @@ pub mod Partials
 pub mod Keeping
 pub mod Finished
 pub mod Taking
+pub mod Making

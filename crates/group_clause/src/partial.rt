@@ -7,8 +7,9 @@ ghost use Rattle.group_clause.specs.Finished.{HoldsLines, LineFits, GivesGroupOf
 
 use crate::group::Group;
 use crate::parts::merged;
+use crate::rows::push_groups;
 use expr_clause::Out;
-use frame_core::{ColName, Frame, NoMemory, Refusal, Schema};
+use frame_core::{ColName, Frame, FrameMaker, NoMemory, Refusal, Schema};
 use std::alloc::Global;
 use std::marker::Model;
 use std::mem::replace;
@@ -81,6 +82,11 @@ impl Partial {
         requires fits { HoldsLines (LineFits schema.now.columns (map (λ o. o.agg) outs.now)) self }
         ensures { GivesGroupOf clause schema.now (map (λ o. o.agg) outs.now) self result }
     {
-        Err(Refusal::NoMemory)
+        let Partial { rows: _, groups } = self;
+        let mut maker = FrameMaker::make(alloc, schema)?;
+        match push_groups(&mut maker, &groups, outs)? {
+            Some(group) => Err(Refusal::GroupOverflow { clause, group }),
+            None => Ok(maker.done()),
+        }
     }
 }
