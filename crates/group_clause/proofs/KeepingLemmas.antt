@@ -44,7 +44,7 @@ rises_merged (g ∷ a) b rises =
 
 -- ---- tallies
 
-more_lines : (m n : ℕ) → m ≤ n → (t : Tally) → IsTally m t → IsTally n t
+pub more_lines : (m n : ℕ) → m ≤ n → (t : Tally) → IsTally m t → IsTally n t
 more_lines m n h t is = record { few = omega (arith, h, is.few); above = is.above; below = is.below }
 
 pub all_more_lines : (m n : ℕ) → m ≤ n → (ts : List Tally) → AllByRecursion (IsTally m) ts → AllByRecursion (IsTally n) ts
@@ -55,7 +55,7 @@ pub groups_more_lines : (m n : ℕ) → m ≤ n → (a : Groups) → AreTallies 
 groups_more_lines m n h [] all = tt
 groups_more_lines m n h (g ∷ a) all = (all_more_lines m n h g.1 all.0, groups_more_lines m n h a all.1)
 
-joined_tally : (m n : ℕ) (s t : Tally) → IsTally m s → IsTally n t → IsTally (m + n) (join_tallies s t)
+pub joined_tally : (m n : ℕ) (s t : Tally) → IsTally m s → IsTally n t → IsTally (m + n) (join_tallies s t)
 joined_tally m n s t p q = record {
   few = omega (arith, p.few, q.few);
   above = omega (arith, ints, p.above, q.above);

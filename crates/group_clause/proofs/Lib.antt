@@ -1,4 +1,3 @@
-pub mod Order
 pub mod Merging
 pub mod Keys
 pub mod Grouping
@@ -10,3 +9,5 @@ pub mod RowLemmas
 pub mod MadeRows
 pub mod FittingLines
 pub mod FinishLaws
+pub mod DistinctKeys
+pub mod BlockLemmas

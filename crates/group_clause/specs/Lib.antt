@@ -4,3 +4,6 @@ pub mod Keeping
 pub mod Finished
 pub mod Taking
 pub mod Making
+pub mod Blocks
+pub mod CellOrder
+pub mod GroupOrder
