@@ -1,7 +1,6 @@
 -- The cells of a block, by the number of their key.
-use Rattle.std.proofs.Common.{◌≡◌, ℕ, zero, suc, ◌+◌, ◌*◌, ◌<◌, ◌≤◌, ◌^◌, refl, ap, ap₂, sym, ◌∙◌, subst, arith, length, take}
-use Rattle.std.specs.Prelude.{Bool, true, false, cond, ◌==◌, List, [], ◌∷◌, ◌++◌, map, filter_map, slice_get, slice_set, pos, Option, Some, None, unwrap_or, option_and_then, FitsSigned}
-use Rattle.std.specs.Int.{w64}
+use Rattle.std.proofs.Common.{◌≡◌, ℕ, zero, suc, ◌+◌, ◌<◌, ◌≤◌, ◌^◌, refl, ap, ap₂, sym, ◌∙◌, subst, arith, length, take}
+use Rattle.std.specs.Prelude.{Bool, true, false, cond, ◌==◌, List, [], ◌∷◌, ◌++◌, filter_map, slice_get, slice_set, Option, Some, None, unwrap_or, option_and_then}
 use Rattle.std.specs.List.{AllByRecursion, AllZip, cons_option}
 use Rattle.std.proofs.lemmas.Int.{ints}
 use Rattle.std.proofs.lemmas.Bool.{true≢false}
@@ -13,17 +12,17 @@ use Rattle.frame_core.specs.declared.cell.Cell.{Cell}
 use Rattle.frame_core.specs.declared.cell.Cell.TheVariants as cells
 use Rattle.frame_core.specs.Texts.{Text}
 use Rattle.frame_core.specs.Schemas.{Head}
-use Rattle.frame_core.specs.Frames.{Row, FitsColumns, IsCell, type_of}
+use Rattle.frame_core.specs.Frames.{Row, FitsColumns, IsCell}
 use Rattle.frame_core.specs.Columns.{cells_of}
 use Rattle.frame_core.specs.Selecting.{place_of}
-use Rattle.expr_clause.specs.Cells.{no_cell, number}
+use Rattle.expr_clause.specs.Cells.{no_cell}
 use Rattle.expr_clause.specs.Exprs.{cell_named}
 use Rattle.group_clause.specs.Tallies.{total}
 use Rattle.group_clause.specs.Partials.{Tally, no_tally, tally_of, join_tallies, tallies}
 use Rattle.group_clause.specs.Keeping.{IsTally}
 use Rattle.group_clause.specs.Blocks.{cells_at, column_of, TalliedBy}
 use Rattle.group_clause.proofs.KeepingLemmas.{joined_tally, more_lines}
-use Rattle.group_clause.proofs.TallyLaws.{tallies_assoc, tallies_comm, tallies_unit}
+use Rattle.group_clause.proofs.TallyLaws.{tallies_assoc, tallies_comm}
 
 -- ---- a column of a frame
 
@@ -42,7 +41,7 @@ named_cells columns name k (r ∷ rows) e h all =
     ap (λ o. cons_option o (filter_map (λ (x : Row). slice_get x.cells k) rows)) (there _ columns r.cells k no_cell all.0.typed h)
     ∙ ap₂ ◌∷◌ (sym (by_place columns name k r e)) (named_cells columns name k rows e h all.1)
 
-all_got : (P : Cell → Type 0) (xs : List Cell) (k : ℕ) (x : Cell) → AllByRecursion P xs → slice_get xs k ≡ Some x → P x
+pub all_got : (P : Cell → Type 0) (xs : List Cell) (k : ℕ) (x : Cell) → AllByRecursion P xs → slice_get xs k ≡ Some x → P x
 all_got P [] k x all e = absurd (none-some x e)
 all_got P (y ∷ xs) zero x all e = subst P (ap (λ (o : Option Cell). elim o [ None ↦ y | Some z ↦ z ]) e) all.0
 all_got P (y ∷ xs) (suc k) x all e = all_got P xs k x all.1 e
@@ -58,7 +57,7 @@ pub total-push : (cs : List Cell) (c : Cell) → total tallies (cs ++ c ∷ []) 
 total-push [] c = tallies_comm (tally_of c) no_tally
 total-push (d ∷ cs) c = ap (join_tallies (tally_of d)) (total-push cs c) ∙ sym (tallies_assoc (tally_of d) (total tallies cs) (tally_of c))
 
-one_tally : (c : Cell) → IsCell c → IsTally 1 (tally_of c)
+pub one_tally : (c : Cell) → IsCell c → IsTally 1 (tally_of c)
 one_tally (cells.Int n) fits = record { few = omega arith; above = omega (arith, ints, fits); below = omega (arith, ints, fits) }
 one_tally (cells.Flag b) fits = record { few = omega arith; above = omega (arith, ints); below = omega (arith, ints) }
 one_tally (cells.Text t) fits = record { few = omega arith; above = omega (arith, ints); below = omega (arith, ints) }
@@ -169,8 +168,8 @@ tallied_more count ns cs ts more n c t long below so here is = (ap length is ∙
     by j h true e =
         subst (λ k. slice_get more k ≡ Some (total tallies (cells_at k (ns ++ n ∷ []) (cs ++ c ∷ [])))) (same_number n j e)
         (ap (λ l. slice_get l n) is ∙ set_here ts n (join_tallies t (tally_of c)) (omega (arith, below, so.0))
-         ∙ ap Some (ap (λ x. join_tallies x (tally_of c)) was ∙ sym (total-push (cells_at n ns cs) c)
-            ∙ ap (total tallies) (ap (λ b. cells_at n ns cs ++ cond b (c ∷ []) []) (sym (same_itself n)) ∙ sym (cells_at-push n ns cs n c long))))
+        ∙ ap Some (ap (λ x. join_tallies x (tally_of c)) was ∙ sym (total-push (cells_at n ns cs) c)
+        ∙ ap (total tallies) (ap (λ b. cells_at n ns cs ++ cond b (c ∷ []) []) (sym (same_itself n)) ∙ sym (cells_at-push n ns cs n c long))))
     by j h false e =
         ap (λ l. slice_get l j) is ∙ set_apart ts n j (join_tallies t (tally_of c)) (other_number n j e) ∙ so.1 j h
         ∙ ap (λ l. Some (total tallies l)) (sym (append-nil (cells_at j ns cs)) ∙ ap (λ b. cells_at j ns cs ++ cond b (c ∷ []) []) (sym e) ∙ sym (cells_at-push j ns cs n c long))
@@ -206,3 +205,17 @@ pub row_tallied : (count : ℕ) (ns : List ℕ) (cs : List Cell) (i : ℕ) (ts m
 row_tallied count ns cs i ts more n c t long below e f so here is =
     subst (λ l. TalliedBy count l (take (i + 1) cs) more) (sym (take_next ns i n e))
     (subst (λ l. TalliedBy count (take i ns ++ n ∷ []) l more) (sym (take_next cs i c f)) (tallied_more count (take i ns) (take i cs) ts more n c t (taken_length ns cs i long) below so here is))
+
+-- one more of each
+pub zip_more : {A B : Type 0} (P : A → B → Type 0) (xs : List A) (ys : List B) (i : ℕ) (x : A) (y : B) → i < length xs → x ≡ get_or xs i x → AllZip P (take i xs) ys → P x y → AllZip P (take (i + 1) xs) (ys ++ y ∷ [])
+zip_more {A = A} {B = B} P xs ys i x y h e all p = subst (λ j. AllZip P (take j xs) (ys ++ y ∷ [])) (after i) (by xs ys i h e all)
+  where
+    after : (i : ℕ) → suc i ≡ i + 1
+    after i = omega arith
+
+    by : (xs : List A) (ys : List B) (i : ℕ) → i < length xs → x ≡ get_or xs i x → AllZip P (take i xs) ys → AllZip P (take (suc i) xs) (ys ++ y ∷ [])
+    by [] ys i h e all = absurd (omega (arith, h))
+    by (w ∷ xs) [] zero h e all = (subst (λ v. P v y) e p, tt)
+    by (w ∷ xs) (z ∷ ys) zero h e all = absurd all
+    by (w ∷ xs) [] (suc i) h e all = absurd all
+    by (w ∷ xs) (z ∷ ys) (suc i) h e all = (all.0, by xs ys i (omega (arith, h)) e all.1)

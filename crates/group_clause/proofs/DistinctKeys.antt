@@ -1,14 +1,12 @@
 -- The distinct cells, ascending: in whichever order they come, and of a list that has each once.
-use Rattle.std.proofs.Common.{◌≡◌, ℕ, zero, suc, ◌+◌, ◌<◌, ◌≤◌, refl, ap, ap₂, sym, ◌∙◌, subst, arith, length, take}
-use Rattle.std.specs.Prelude.{Bool, true, false, ⊤, ◌||◌, List, [], ◌∷◌, ◌++◌, map, slice_get, Option, Some, None, option_map, IsPermutation, if◌then◌else◌}
+use Rattle.std.proofs.Common.{◌≡◌, ℕ, zero, suc, ◌+◌, refl, ap, ap₂, sym, ◌∙◌, subst, arith, length, take}
+use Rattle.std.specs.Prelude.{Bool, true, false, ⊤, ◌||◌, List, [], ◌∷◌, ◌++◌, map, slice_get, Option, Some, None, IsPermutation, if◌then◌else◌}
 use Rattle.std.specs.List.{AllByRecursion, IsDistinct, list_any}
-use Rattle.std.specs.List.Sorted.{IsSorted}
 use Rattle.std.specs.declared.cmp.Ordering.{Ordering}
 use Rattle.std.specs.declared.cmp.Ordering.TheVariants.{Less, Equal, Greater}
-use Rattle.std.specs.Ordering.{is_eq, is_lt}
+use Rattle.std.specs.Ordering.{is_eq}
 use Rattle.std.proofs.lemmas.Bool.{true≢false}
 use Rattle.std.proofs.lemmas.Option.{none-some}
-use Rattle.std.proofs.lemmas.Cmp.{tied_itself}
 use Rattle.std.proofs.lemmas.List.{map-append}
 use Rattle.frame_core.specs.declared.cell.Cell.{Cell}
 use Rattle.expr_clause.specs.Cells.{cell_cmp, same_cell}
@@ -16,7 +14,7 @@ use Rattle.expr_clause.specs.Groups.{Line, keys, insert_key}
 use Rattle.group_clause.specs.Tallies.{insert_at}
 use Rattle.group_clause.specs.Keeping.{Rises}
 use Rattle.group_clause.specs.Blocks.{distinct, IsNumbering}
-use Rattle.group_clause.specs.CellOrder.{cell_cmp_total, cells_equal}
+use Rattle.group_clause.specs.CellOrder.{cells_equal}
 use Rattle.group_clause.proofs.Merging.{either_order, joined, folded, folded-permutation}
 use Rattle.group_clause.proofs.Keys.{key_placing}
 use Rattle.group_clause.proofs.KeepingLemmas.{keys-insert_at}

@@ -68,7 +68,7 @@ at_most_both m n = omega arith
 at_most_other : (m n : ℕ) → n ≤ m + n
 at_most_other m n = omega arith
 
-joined_tallies : (m n : ℕ) (xs ys : List Tally) → AllByRecursion (IsTally m) xs → AllByRecursion (IsTally n) ys → AllByRecursion (IsTally (m + n)) (join_lists join_tallies xs ys)
+pub joined_tallies : (m n : ℕ) (xs ys : List Tally) → AllByRecursion (IsTally m) xs → AllByRecursion (IsTally n) ys → AllByRecursion (IsTally (m + n)) (join_lists join_tallies xs ys)
 joined_tallies m n [] ys p q = all_more_lines n (m + n) (at_most_other m n) ys q
 joined_tallies m n (x ∷ xs) [] p q = all_more_lines m (m + n) (at_most_both m n) (x ∷ xs) p
 joined_tallies m n (x ∷ xs) (y ∷ ys) p q = (joined_tally m n x y p.0 q.0, joined_tallies m n xs ys p.1 q.1)

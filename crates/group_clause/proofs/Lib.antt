@@ -11,3 +11,5 @@ pub mod FittingLines
 pub mod FinishLaws
 pub mod DistinctKeys
 pub mod BlockLemmas
+pub mod BlockGroups
+pub mod KeptLines

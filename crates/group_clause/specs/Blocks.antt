@@ -5,22 +5,20 @@
 --     IsNumbering             each row has the number of its key among distinct keys
 --     TalliedBy               a tally for each number
 --     cells_by                the cells of rows with this key
---     GroupsBy                for each key its tallies, output by output
-use Rattle.std.specs.Prelude.{◌≡◌, ℕ, ◌<◌, ◌==◌, if◌then◌else◌, List, [], ◌∷◌, map, filter, length, slice_get, Some}
-use Rattle.std.specs.List.{AllByRecursion, IsDistinct}
+--     numbered_groups         for each key its tallies, output by output
+use Rattle.std.specs.Prelude.{◌≡◌, ℕ, ◌<◌, ◌==◌, if◌then◌else◌, List, [], ◌∷◌, map, filter, length, slice_get, slice_index_or, Some, ◌+◌}
+use Rattle.std.specs.List.{IsDistinct}
 use Rattle.std.specs.Hash as fed
 use Rattle.frame_core.specs.declared.cell.Cell.{Cell}
 use Rattle.frame_core.specs.declared.cell.Cell.TheVariants as cells
 use Rattle.frame_core.specs.Texts.{Text}
 use Rattle.frame_core.specs.Schemas.{Head}
 use Rattle.frame_core.specs.Frames.{Row}
-use Rattle.expr_clause.specs.declared.clause.Out.{Out}
 use Rattle.expr_clause.specs.Cells.{same_cell}
 use Rattle.expr_clause.specs.Exprs.{cell_named}
 use Rattle.expr_clause.specs.Groups.{insert_key}
 use Rattle.group_clause.specs.Tallies.{total}
-use Rattle.group_clause.specs.Partials.{Tally, tallies}
-use Rattle.group_clause.specs.Partials.{tallies as grouping}
+use Rattle.group_clause.specs.Partials.{Tally, no_tally, tallies}
 
 -- what a hash takes of a cell
 abbrev pub cell_fed : Cell → fed.HashWrites
@@ -58,7 +56,7 @@ column_of columns rows name = map (λ (r : Row). cell_named columns r.cells name
 abbrev pub cells_by : Cell → List Head → List Row → Text → Text → List Cell
 cells_by m columns rows key name = column_of columns (filter (λ (r : Row). same_cell m (cell_named columns r.cells key)) rows) name
 
--- for each of these keys, once, its tallies, output by output
-pub record GroupsBy (columns : List Head) (rows : List Row) (key : Text) (outs : List Out) (names : List Cell) (groups : List (Cell × List Tally)) : Type 0 where
-  pub keys : map (λ (g : Cell × List Tally). g.0) groups ≡ names
-  pub tallies : AllByRecursion (λ (g : Cell × List Tally). g.1 ≡ map (λ (o : Out). total grouping (cells_by g.0 columns rows key o.of)) outs) groups
+-- for each key, of the number from j on, its tallies, output by output
+abbrev pub numbered_groups : ℕ → List Cell → List (List Tally) → List (Cell × List Tally)
+numbered_groups j [] columns = []
+numbered_groups j (m ∷ names) columns = (m, map (λ (ts : List Tally). slice_index_or ts j no_tally) columns) ∷ numbered_groups (j + 1) names columns

@@ -5,6 +5,7 @@ ghost use Rattle.expr_clause.specs.Asking.{line_of};
 ghost use Rattle.group_clause.specs.Partials.{partial_of, merge_partials};
 ghost use Rattle.group_clause.specs.Finished.{HoldsLines, LineFits, GivesGroupOf};
 
+use crate::block::groups_of;
 use crate::group::Group;
 use crate::parts::merged;
 use crate::rows::push_groups;
@@ -55,7 +56,9 @@ impl Partial {
         requires rows { self.old.rows + length rows.now.rows ≤ 2 ^ 62 }
         ensures { OnOk result (self.new ≡ merge_partials self.old (partial_of (map (line_of rows.now.schema.columns key.now outs.now) rows.now.rows))) }
     {
-        Err(NoMemory)
+        let groups = groups_of(alloc, rows, key, outs)?;
+        let rows = rows.rows();
+        self.merge(alloc, Partial { rows, groups })
     }
 
     /// Adds what is kept of other rows. After want of memory the partial is spent.

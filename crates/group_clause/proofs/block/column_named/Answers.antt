@@ -1,4 +1,4 @@
-use Rattle.std.proofs.Common.{rules, subst, sym, ◌∙◌, ◌≡◌, ◌<◌, length, Some}
+use Rattle.std.proofs.Common.{rules, subst, sym, ◌∙◌, ◌≡◌, Some}
 use Rattle.std.specs.List.{AllByRecursion}
 use Rattle.frame_core.specs.Frames.{IsCell}
 use Rattle.frame_core.specs.Selecting.{place_of}

@@ -1,10 +1,10 @@
-use Rattle.std.proofs.Common.{rules, arith, subst, sym, ◌∙◌, ◌≡◌, ◌<◌, ◌^◌, ap, length, Some, take}
-use Rattle.std.specs.Prelude.{slice_get, slice_index_or, slice_set, unwrap_or}
+use Rattle.std.proofs.Common.{arith, subst, sym, ◌≡◌, ◌<◌, ◌^◌, ap, Some, take}
+use Rattle.std.specs.Prelude.{slice_get, slice_index_or, slice_set}
 use Rattle.std.proofs.lemmas.Option.{slice_get-get_or}
 use Rattle.frame_core.specs.Columns.{column_cells}
 use Rattle.frame_core.specs.Frames.{cell_of}
 use Rattle.group_clause.specs.Tallies.{total}
-use Rattle.group_clause.specs.Partials.{join_tallies, tally_of, tallies}
+use Rattle.group_clause.specs.Partials.{tallies}
 use Rattle.group_clause.specs.Keeping.{IsTally}
 use Rattle.group_clause.specs.Blocks.{cells_at}
 use Rattle.group_clause.proofs.BlockLemmas.{row_tallied, tally_small, got_same, at_read}
@@ -17,7 +17,7 @@ add-requires c =
     let n = slice_index_or ns c.loop-row.row 0 in
     let below : n < c.args.count = all_at (λ m. m < c.args.count) ns c.loop-row.row 0 c.loop-row-test.true c.requires.below in
     let here : c.index_mut.result.now ≡ total tallies (cells_at n (take c.loop-row.row ns) (take c.loop-row.row (column_cells c.args.column.now))) =
-        got_same c.loop-row.tallies.items n _ _ (at_read c.loop-row.tallies.items n c.index_mut.result.now (omega (arith, below, c.loop-row.invariant.0)) c.index_mut.ensures.value) (c.loop-row.invariant.1 n below) in
+    got_same c.loop-row.tallies.items n _ _ (at_read c.loop-row.tallies.items n c.index_mut.result.now (omega (arith, below, c.loop-row.invariant.0)) c.index_mut.ensures.value) (c.loop-row.invariant.1 n below) in
     subst (IsTally (2 ^ 62)) (sym here) (tally_small n c.loop-row.row ns (column_cells c.args.column.now) c.requires.cells c.requires.few)
 
 pub loop-row-preserved : goal.loop-row-preserved

@@ -10,4 +10,4 @@ loop-row-preserved c =
     let pushed : c.push.new.self.items ≡ c.loop-row.numbers.items ++ c.in_ok-number.number ∷ [] = search rules in
     subst (λ l. IsNumbering l c.insert_full.new.self.keys (take (c.loop-row.row + 1) (column_cells c.args.column.now))) (sym pushed)
     (numbering_more c.loop-row.numbers.items c.loop-row.keys.keys c.insert_full.new.self.keys (column_cells c.args.column.now) c.loop-row.row c.in_ok-number.number (cell_of c.cell-cell.result)
-     c.loop-row.invariant c.cell-cell.ensures c.in_ok-number.ensures.keys c.in_ok-number.ensures.stored c.insert_full.ensures.unique)
+    c.loop-row.invariant c.cell-cell.ensures c.in_ok-number.ensures.keys c.in_ok-number.ensures.stored c.insert_full.ensures.unique)
