@@ -14,7 +14,7 @@ use Rattle.expr_clause.specs.declared.clause.Agg.{Agg}
 use Rattle.expr_clause.specs.Cells.{cell_cmp, same_cell}
 use Rattle.expr_clause.specs.Groups.{Line, keys, insert_key, cells_with, outputs, aggregate, groups_from}
 use Rattle.group_clause.specs.Tallies.{Tallying, IsSound, Commutes, PartsMerge, AnyOrder, GivesGroup, insert_at, join_lists, tallied, kept, first_tally, made_all, finish_from, finish, total}
-use Rattle.group_clause.proofs.Order.{cell_cmp_total, cells_equal}
+use Rattle.group_clause.specs.CellOrder.{cell_cmp_total, cells_equal}
 use Rattle.group_clause.proofs.Merging.{turned_less, turned_greater, placing, merge-insert, either_order, lists_assoc, lists_comm, folded, folded-permutation}
 use Rattle.group_clause.specs.Keeping.{Rises}
 use Rattle.group_clause.proofs.Keys.{keys_rise, key_placing, with_same, with_other, no_lines}
@@ -25,11 +25,11 @@ flipped_test Less = refl
 flipped_test Equal = refl
 flipped_test Greater = refl
 
-same_flipped : (a b : Cell) → same_cell a b ≡ same_cell b a
+pub same_flipped : (a b : Cell) → same_cell a b ≡ same_cell b a
 same_flipped a b = ap is_eq (cell_cmp_total.antisymm a b) ∙ flipped_test (cell_cmp b a)
 
 module _ {V : Type 0} (k : Tallying V) where
-  abbrev Values : Type 0
+  abbrev pub Values : Type 0
   Values = List V
 
   -- one line more, in front
@@ -57,7 +57,7 @@ module _ {V : Type 0} (k : Tallying V) where
   -- ---- what is finished
 
   -- the tallies of lines of one key
-  abbrev totals : List (List Cell) → Values
+  abbrev pub totals : List (List Cell) → Values
   totals [] = []
   totals (cs ∷ more) = join_lists k.join (map k.one cs) (totals more)
 
@@ -66,7 +66,7 @@ module _ {V : Type 0} (k : Tallying V) where
   joined_none (x ∷ xs) = refl
 
   -- what is kept is, for each key, the tallies of its lines
-  abbrev by_key : List Line → List Cell → List (Cell × Values)
+  abbrev pub by_key : List Line → List Cell → List (Cell × Values)
   by_key lines ks = map (λ m. (m, totals (cells_with m lines))) ks
 
   module _ (key : Cell) (v : Values) (f g : Cell → Values)
@@ -116,7 +116,7 @@ module _ {V : Type 0} (k : Tallying V) where
   abbrev tallies_with : List Line → Cell → Values
   tallies_with lines m = totals (cells_with m lines)
 
-  kept_by_key : (lines : List Line) → kept k lines ≡ by_key lines (keys lines)
+  pub kept_by_key : (lines : List Line) → kept k lines ≡ by_key lines (keys lines)
   kept_by_key [] = refl
   kept_by_key (line ∷ lines) =
       ap (insert_at (join_lists k.join) (tallied k line)) (kept_by_key lines)

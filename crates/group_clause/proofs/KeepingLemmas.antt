@@ -44,7 +44,7 @@ rises_merged (g ∷ a) b rises =
 
 -- ---- tallies
 
-more_lines : (m n : ℕ) → m ≤ n → (t : Tally) → IsTally m t → IsTally n t
+pub more_lines : (m n : ℕ) → m ≤ n → (t : Tally) → IsTally m t → IsTally n t
 more_lines m n h t is = record { few = omega (arith, h, is.few); above = is.above; below = is.below }
 
 pub all_more_lines : (m n : ℕ) → m ≤ n → (ts : List Tally) → AllByRecursion (IsTally m) ts → AllByRecursion (IsTally n) ts
@@ -55,7 +55,7 @@ pub groups_more_lines : (m n : ℕ) → m ≤ n → (a : Groups) → AreTallies 
 groups_more_lines m n h [] all = tt
 groups_more_lines m n h (g ∷ a) all = (all_more_lines m n h g.1 all.0, groups_more_lines m n h a all.1)
 
-joined_tally : (m n : ℕ) (s t : Tally) → IsTally m s → IsTally n t → IsTally (m + n) (join_tallies s t)
+pub joined_tally : (m n : ℕ) (s t : Tally) → IsTally m s → IsTally n t → IsTally (m + n) (join_tallies s t)
 joined_tally m n s t p q = record {
   few = omega (arith, p.few, q.few);
   above = omega (arith, ints, p.above, q.above);
@@ -68,7 +68,7 @@ at_most_both m n = omega arith
 at_most_other : (m n : ℕ) → n ≤ m + n
 at_most_other m n = omega arith
 
-joined_tallies : (m n : ℕ) (xs ys : List Tally) → AllByRecursion (IsTally m) xs → AllByRecursion (IsTally n) ys → AllByRecursion (IsTally (m + n)) (join_lists join_tallies xs ys)
+pub joined_tallies : (m n : ℕ) (xs ys : List Tally) → AllByRecursion (IsTally m) xs → AllByRecursion (IsTally n) ys → AllByRecursion (IsTally (m + n)) (join_lists join_tallies xs ys)
 joined_tallies m n [] ys p q = all_more_lines n (m + n) (at_most_other m n) ys q
 joined_tallies m n (x ∷ xs) [] p q = all_more_lines m (m + n) (at_most_both m n) (x ∷ xs) p
 joined_tallies m n (x ∷ xs) (y ∷ ys) p q = (joined_tally m n x y p.0 q.0, joined_tallies m n xs ys p.1 q.1)

@@ -8,7 +8,7 @@ use Rattle.frame_core.specs.declared.cell.Cell.{Cell}
 use Rattle.expr_clause.specs.Cells.{cell_cmp, same_cell}
 use Rattle.expr_clause.specs.Groups.{Line, keys, insert_key, cells_with}
 use Rattle.group_clause.specs.Keeping.{Rises}
-use Rattle.group_clause.proofs.Order.{cell_cmp_total, cells_equal}
+use Rattle.group_clause.specs.CellOrder.{cell_cmp_total, cells_equal}
 use Rattle.group_clause.proofs.Merging.{turned_greater}
 
 -- what an insertion gives, told by the order

@@ -1,4 +1,3 @@
-pub mod Order
 pub mod Merging
 pub mod Keys
 pub mod Grouping
@@ -6,3 +5,11 @@ pub mod TallyLaws
 pub mod RisingMerge
 pub mod PartLemmas
 pub mod KeepingLemmas
+pub mod RowLemmas
+pub mod MadeRows
+pub mod FittingLines
+pub mod FinishLaws
+pub mod DistinctKeys
+pub mod BlockLemmas
+pub mod BlockGroups
+pub mod KeptLines

@@ -11,7 +11,7 @@ use Rattle.std.proofs.lemmas.Cmp.{tied_itself, alike_right}
 use Rattle.frame_core.specs.declared.cell.Cell.{Cell}
 use Rattle.expr_clause.specs.Cells.{cell_cmp}
 use Rattle.group_clause.specs.Tallies.{placed, insert_at, merge_by, join_lists}
-use Rattle.group_clause.proofs.Order.{cell_cmp_total, cells_equal}
+use Rattle.group_clause.specs.CellOrder.{cell_cmp_total, cells_equal}
 
 -- the other way round
 pub turned_less : (a b : Cell) → cell_cmp a b ≡ Less → cell_cmp b a ≡ Greater

@@ -11,7 +11,7 @@ use Rattle.group_clause.specs.Tallies.{join_lists, merge}
 use Rattle.group_clause.specs.Partials.{Tally, join_tallies, tallies}
 use Rattle.group_clause.specs.Keeping.{AreTallies, IsPart}
 use Rattle.group_clause.specs.Taking.{Groups, first_cmp, TakesFirst, TakesJoined}
-use Rattle.group_clause.proofs.Order.{cell_cmp_total}
+use Rattle.group_clause.specs.CellOrder.{cell_cmp_total}
 use Rattle.group_clause.proofs.Merging.{turned_less, turned_greater}
 use Rattle.group_clause.proofs.RisingMerge.{left_first, right_first, both_first}
 

@@ -17,7 +17,7 @@ use Rattle.expr_clause.specs.Cells.{cell_cmp, falling_cmp, number, if_whole}
 use Rattle.expr_clause.specs.Groups.{Line, sum_of, best, best_there, best_of, aggregate}
 use Rattle.group_clause.specs.Tallies.{IsSound, Commutes, PartsMerge, AnyOrder, GivesGroup, total, finish}
 use Rattle.group_clause.specs.Partials.{Tally, no_tally, join_tallies, tallies, any_agg, Partial, partial_of, merge_partials, finish_partial, IsPartialOf, added, merged, PartialsMerge, MergedInAnyOrder}
-use Rattle.group_clause.proofs.Order.{cell_cmp_total, cells_equal}
+use Rattle.group_clause.specs.CellOrder.{cell_cmp_total, cells_equal}
 use Rattle.group_clause.proofs.Grouping.{sound_parts, sound_order, sound_group}
 
 falling_cmp_total : IsTotalOrder falling_cmp
@@ -82,7 +82,7 @@ there_unit order (Some a) = refl
 
 -- ---- tallies
 
-tallies_assoc : (x y z : Tally) → join_tallies (join_tallies x y) z ≡ join_tallies x (join_tallies y z)
+pub tallies_assoc : (x y z : Tally) → join_tallies (join_tallies x y) z ≡ join_tallies x (join_tallies y z)
 tallies_assoc x y z = λ i. record {
   sum = +ℤ_assoc x.sum y.sum z.sum i;
   least = there_assoc cell_cmp cell_cmp_total cells_equal x.least y.least z.least i;
@@ -90,7 +90,7 @@ tallies_assoc x y z = λ i. record {
   count = add_assoc x.count y.count z.count i;
 }
 
-tallies_comm : Commutes tallies
+pub tallies_comm : Commutes tallies
 tallies_comm x y = λ i. record {
   sum = +ℤ_comm x.sum y.sum i;
   least = there_comm cell_cmp cell_cmp_total cells_equal x.least y.least i;
@@ -98,7 +98,7 @@ tallies_comm x y = λ i. record {
   count = add_comm x.count y.count i;
 }
 
-tallies_unit : (x : Tally) → join_tallies x no_tally ≡ x
+pub tallies_unit : (x : Tally) → join_tallies x no_tally ≡ x
 tallies_unit x = λ i. record { sum = +ℤ_idr x.sum i; least = there_unit cell_cmp x.least i; greatest = there_unit falling_cmp x.greatest i; count = add_none x.count i }
   where
     add_none : (n : ℕ) → n + 0 ≡ n
@@ -144,7 +144,7 @@ partials_give_group = sound_group tallies any_agg tallies_sound
 pub partials_merge : PartialsMerge
 partials_merge xs ys = λ i. record { rows = length-append xs ys i; groups = groups_merge xs ys i }
 
-whole_partial : (lines : List Line) (p : Partial) → IsPartialOf lines p → p ≡ partial_of lines
+pub whole_partial : (lines : List Line) (p : Partial) → IsPartialOf lines p → p ≡ partial_of lines
 whole_partial lines p (added xs) = refl
 whole_partial lines p (merged xs ys q r is_q is_r) = ap₂ merge_partials (whole_partial xs q is_q) (whole_partial ys r is_r) ∙ sym (partials_merge xs ys)
 

@@ -3,3 +3,7 @@ pub mod Partials
 pub mod Keeping
 pub mod Finished
 pub mod Taking
+pub mod Making
+pub mod Blocks
+pub mod CellOrder
+pub mod GroupOrder

@@ -1,10 +1,15 @@
 //! Groups of a read, made part by part: what a group keeps of the lines that were added, in whichever order.
 #![tactic(auto)]
 
+mod block;
 mod group;
 mod laws;
+mod lent_tally;
+mod numbering;
 mod partial;
 mod parts;
+mod row_key;
+mod rows;
 mod tally;
 
 pub use laws::{groups_merge_in_any_order, parts_merge};

@@ -5,10 +5,12 @@ ghost use Rattle.expr_clause.specs.Asking.{line_of};
 ghost use Rattle.group_clause.specs.Partials.{partial_of, merge_partials};
 ghost use Rattle.group_clause.specs.Finished.{HoldsLines, LineFits, GivesGroupOf};
 
+use crate::block::groups_of;
 use crate::group::Group;
 use crate::parts::merged;
+use crate::rows::push_groups;
 use expr_clause::Out;
-use frame_core::{ColName, Frame, NoMemory, Refusal, Schema};
+use frame_core::{ColName, Frame, FrameMaker, NoMemory, Refusal, Schema};
 use std::alloc::Global;
 use std::marker::Model;
 use std::mem::replace;
@@ -54,7 +56,9 @@ impl Partial {
         requires rows { self.old.rows + length rows.now.rows ≤ 2 ^ 62 }
         ensures { OnOk result (self.new ≡ merge_partials self.old (partial_of (map (line_of rows.now.schema.columns key.now outs.now) rows.now.rows))) }
     {
-        Err(NoMemory)
+        let groups = groups_of(alloc, rows, key, outs)?;
+        let rows = rows.rows();
+        self.merge(alloc, Partial { rows, groups })
     }
 
     /// Adds what is kept of other rows. After want of memory the partial is spent.
@@ -81,6 +85,11 @@ impl Partial {
         requires fits { HoldsLines (LineFits schema.now.columns (map (λ o. o.agg) outs.now)) self }
         ensures { GivesGroupOf clause schema.now (map (λ o. o.agg) outs.now) self result }
     {
-        Err(Refusal::NoMemory)
+        let Partial { rows: _, groups } = self;
+        let mut maker = FrameMaker::make(alloc, schema)?;
+        match push_groups(&mut maker, &groups, outs)? {
+            Some(group) => Err(Refusal::GroupOverflow { clause, group }),
+            None => Ok(maker.done()),
+        }
     }
 }

@@ -1,16 +1,17 @@
 -- The order of cells is whole, and cells that it does not tell apart are the same.
 use Rattle.std.proofs.Common.{◌≡◌, refl, ap, sym, ◌∙◌, subst}
 use Rattle.std.specs.Prelude.{ℕ, ℤ, pos, true, false, List, []}
-use Rattle.std.specs.Cmp.{IsTotalOrder}
+use Rattle.std.specs.Cmp.{IsTotalOrder, IsEquivalence}
 use Rattle.std.specs.Cmp.Lexicographic.{slice_cmp, bytes_decides, texts_ties}
 use Rattle.std.specs.declared.cmp.Ordering.{Ordering}
 use Rattle.std.specs.declared.cmp.Ordering.TheVariants.{Less, Equal, Greater}
-use Rattle.std.specs.Ordering.{nat_cmp, int_cmp, is_eq, on, then_cmp, ordering_then}
+use Rattle.std.specs.Ordering.{nat_cmp, int_cmp, is_eq, eq_by_cmp, on, then_cmp, ordering_then}
 use Rattle.std.proofs.lemmas.Bool.{true≢false}
-use Rattle.std.proofs.lemmas.Cmp.{nat_cmp_total, int_cmp_total, nat_list_cmp_total, on_total, then_total, int_ranked}
+use Rattle.std.proofs.lemmas.Cmp.{nat_cmp_total, int_cmp_total, nat_list_cmp_total, on_total, then_total, int_ranked, eq_by_cmp_equiv}
 use Rattle.frame_core.specs.declared.cell.Cell.{Cell}
 use Rattle.frame_core.specs.declared.cell.Cell.TheVariants as cells
 use Rattle.expr_clause.specs.Cells.{rank, cell_cmp}
+use Rattle.group_clause.specs.Blocks.{cell_fed}
 
 -- a cell as a rank, a number and a text
 abbrev amount : Cell → ℤ
@@ -59,3 +60,16 @@ cells_equal (cells.Flag true) (cells.Flag true) e = refl
 cells_equal (cells.Text a) (cells.Text b) e = ap cells.Text ((bytes_decides a b).0 (texts_ties a b ∙ ap is_eq e))
 cells_equal (cells.Stamp a) (cells.Stamp b) e = ap cells.Stamp (same_int a b e)
 cells_equal _ _ e = absurd (true≢false (ap is_eq (sym e)))
+
+-- ---- equality by the order
+
+pub keys_equiv : IsEquivalence (eq_by_cmp cell_cmp)
+keys_equiv = eq_by_cmp_equiv cell_cmp_total
+
+equal : (o : Ordering) → is_eq o ≡ true → o ≡ Equal
+equal Less e = absurd (true≢false (sym e))
+equal Equal e = refl
+equal Greater e = absurd (true≢false (sym e))
+
+pub keys_alike : (x y : Cell) → eq_by_cmp cell_cmp x y ≡ true → cell_fed x ≡ cell_fed y
+keys_alike x y e = ap cell_fed (cells_equal x y (equal (cell_cmp x y) e))
