@@ -9,6 +9,11 @@ use Rattle.bucket_core.specs.Laws.{Looks}
 use Rattle.store_model.specs.declared.snapshot.SnapBody.{SnapBody}
 use Rattle.store_model.specs.Law.{IsClaimed}
 use Rattle.version_chain.specs.States.{IsWithin}
+use Rattle.frame_core.specs.Texts.{Text}
+use Rattle.frame_core.specs.Ranges.{Range}
+use Rattle.key_kind.specs.Names.{Name}
+use Rattle.expr_clause.specs.declared.clause.Clause.{Clause}
+use Rattle.expr_clause.specs.declared.command.AsOf.{AsOf}
 use Rattle.expr_clause.specs.declared.command.Command.{Command}
 use Rattle.expr_clause.specs.declared.command.Command.TheVariants as commands
 use Rattle.reply_model.specs.declared.outcome.Outcome.TheVariants as outcomes
@@ -63,6 +68,11 @@ never_meant : (h : History) (s : Session) (c : Command) (reply : Reply) (b : Boo
 never_meant h s c reply true = tt
 never_meant h s c reply false = tt
 
+-- a read makes no event
+pub read_has_none : (symbol : Name) (as_of : AsOf) (range : Range) (columns : Option (List Text)) (clauses : List Clause) → HasNone (commands.Read symbol as_of range columns clauses)
+read_has_none symbol as_of range columns clauses =
+    record { listed = λ r own n. n; own = λ h s w r. refl; meant = λ h s r. never_meant h s (commands.Read symbol as_of range columns clauses) r (is_store_fault r.outcome); left = λ r known before. refl }
+
 pub served_has_none : (c : Command) → is_carried_out c ≡ true → HasNone c
 served_has_none (commands.Write symbol frame at prune) e = record { listed = λ r own n. n; own = λ h s w r. no_turn h s w symbol true; meant = λ h s r. never_meant h s (commands.Write symbol frame at prune) r (is_store_fault r.outcome); left = λ r known before. refl }
 served_has_none (commands.Append symbol frame at prune) e = record { listed = λ r own n. n; own = λ h s w r. no_turn h s w symbol true; meant = λ h s r. never_meant h s (commands.Append symbol frame at prune) r (is_store_fault r.outcome); left = λ r known before. refl }
@@ -73,7 +83,7 @@ served_has_none (commands.Prune symbol) e = record { listed = λ r own n. n; own
 served_has_none (commands.Reclaim symbol) e = record { listed = λ r own n. n; own = λ h s w r. refl; meant = λ h s r. never_meant h s (commands.Reclaim symbol) r (is_store_fault r.outcome); left = λ r known before. refl }
 served_has_none (commands.Versions symbol) e = record { listed = λ r own n. n; own = λ h s w r. refl; meant = λ h s r. never_meant h s (commands.Versions symbol) r (is_store_fault r.outcome); left = λ r known before. refl }
 served_has_none (commands.Keys symbol) e = record { listed = λ r own n. n; own = λ h s w r. refl; meant = λ h s r. never_meant h s (commands.Keys symbol) r (is_store_fault r.outcome); left = λ r known before. refl }
-served_has_none (commands.Read symbol as_of range columns) e = record { listed = λ r own n. n; own = λ h s w r. refl; meant = λ h s r. never_meant h s (commands.Read symbol as_of range columns) r (is_store_fault r.outcome); left = λ r known before. refl }
+served_has_none (commands.Read symbol as_of range columns clauses) e = read_has_none symbol as_of range columns clauses
 served_has_none (commands.Stage symbol frame) e = absurd (true≢false (sym e))
 served_has_none (commands.Finalize symbol append sorted at prune) e = absurd (true≢false (sym e))
 served_has_none (commands.Discard symbol) e = absurd (true≢false (sym e))

@@ -17,6 +17,7 @@ use Rattle.bucket_core.specs.History.{History}
 use Rattle.store_model.specs.Library.{State, first_of}
 use Rattle.store_model.specs.Snapshots.{Library}
 use Rattle.store_model.specs.Links.{links}
+use Rattle.expr_clause.specs.declared.clause.Clause.{Clause}
 use Rattle.expr_clause.specs.declared.command.AsOf.{AsOf}
 use Rattle.expr_clause.specs.declared.command.Command.{Command}
 use Rattle.expr_clause.specs.declared.command.Command.TheVariants as commands
@@ -95,11 +96,11 @@ served_or_reclaim (commands.Snapshot snap picks) out = absurd (true≢false (sym
 served_or_reclaim (commands.DeleteSnapshot snap) out = absurd (true≢false (sym out))
 served_or_reclaim commands.Symbols out = absurd (true≢false (sym out))
 served_or_reclaim commands.Snapshots out = absurd (true≢false (sym out))
-served_or_reclaim (commands.Read symbol as_of range columns) out = inl refl
+served_or_reclaim (commands.Read symbol as_of range columns clauses) out = inl refl
 
 -- a command that is carried out and is none of those without a frame brings one
 pub frame_brought : (command : Command) → is_carried_out command ≡ true → ((symbol : Name) (range : Range) (at : Option ℤ) (prune : Bool) → command ≡ commands.DeleteRange symbol range at prune → ⊥)
-    → ((symbol : Name) (as_of : AsOf) (range : Range) (columns : Option (List Text)) → command ≡ commands.Read symbol as_of range columns → ⊥) → ((symbol : Name) → command ≡ commands.Keys symbol → ⊥)
+    → ((symbol : Name) (as_of : AsOf) (range : Range) (columns : Option (List Text)) (clauses : List Clause) → command ≡ commands.Read symbol as_of range columns clauses → ⊥) → ((symbol : Name) → command ≡ commands.Keys symbol → ⊥)
     → ((symbol : Name) → command ≡ commands.Versions symbol → ⊥) → ((symbol : Name) (versions : Option (List ℕ)) → command ≡ commands.Delete symbol versions → ⊥) → ((symbol : Name) → command ≡ commands.Prune symbol → ⊥)
     → ((symbol : Name) → command ≡ commands.Reclaim symbol → ⊥) → is_some (frame_named command) ≡ true
 frame_brought (commands.Write symbol frame at prune) out range read keys versions delete prunes reclaim = refl
@@ -118,7 +119,7 @@ frame_brought (commands.Snapshot snap picks) out range read keys versions delete
 frame_brought (commands.DeleteSnapshot snap) out range read keys versions delete prunes reclaim = absurd (true≢false (sym out))
 frame_brought commands.Symbols out range read keys versions delete prunes reclaim = absurd (true≢false (sym out))
 frame_brought commands.Snapshots out range read keys versions delete prunes reclaim = absurd (true≢false (sym out))
-frame_brought (commands.Read symbol as_of within columns) out range read keys versions delete prunes reclaim = absurd (read symbol as_of within columns refl)
+frame_brought (commands.Read symbol as_of within columns clauses) out range read keys versions delete prunes reclaim = absurd (read symbol as_of within columns clauses refl)
 
 -- a command that is served is no reclaim
 pub no_reclaim : {P : Type 0} (command c : Command) (symbol : Name) → command ≡ c → is_served c ≡ true → command ≡ commands.Reclaim symbol → P

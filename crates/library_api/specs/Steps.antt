@@ -17,6 +17,7 @@ use Rattle.bucket_core.specs.History.{History}
 use Rattle.store_model.specs.Law.{IsLawful}
 use Rattle.expr_clause.specs.declared.command.Command.{Command}
 use Rattle.expr_clause.specs.declared.command.Command.TheVariants as commands
+use Rattle.expr_clause.specs.Fitting.{fits}
 use Rattle.reply_model.specs.declared.outcome.Outcome.{Outcome}
 use Rattle.reply_model.specs.declared.outcome.Outcome.TheVariants as outcomes
 use Rattle.reply_model.specs.declared.reply.Reply.{Reply}
@@ -30,7 +31,7 @@ use Rattle.library_api.specs.declared.settings.Settings.{Settings}
 
 -- ---- commands
 
--- a command that a step carries out
+-- a command that a step carries out: a read has clauses within their limits
 abbrev pub is_carried_out : Command → Bool
 is_carried_out (commands.Write symbol frame at prune) = true
 is_carried_out (commands.Append symbol frame at prune) = true
@@ -41,7 +42,7 @@ is_carried_out (commands.Prune symbol) = true
 is_carried_out (commands.Reclaim symbol) = true
 is_carried_out (commands.Versions symbol) = true
 is_carried_out (commands.Keys symbol) = true
-is_carried_out (commands.Read symbol as_of range columns) = true
+is_carried_out (commands.Read symbol as_of range columns clauses) = fits clauses
 is_carried_out _ = false
 
 -- the number of the frame that a command names

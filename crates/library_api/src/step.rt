@@ -20,7 +20,7 @@ use crate::versions::versions;
 use crate::writing::write;
 use base_types::Items;
 use bucket_core::Bucket;
-use expr_clause::Command;
+use expr_clause::{Command, fits};
 use frame_core::RawFrame;
 use reply_model::Reply;
 use std::alloc::Global;
@@ -61,7 +61,20 @@ pub(crate) fn perform<R: Wait, B: Bucket<StoreLaw>>(
             as_of,
             range,
             columns,
-        } => read(rt, alloc, bucket, symbol, as_of, *range, lent(columns)),
+            clauses,
+        } => {
+            let columns = lent(columns);
+            read(
+                rt,
+                alloc,
+                bucket,
+                symbol,
+                as_of,
+                *range,
+                columns,
+                clauses.items(),
+            )
+        }
         Command::Keys { symbol } => keys(rt, alloc, bucket, symbol),
         Command::Versions { symbol } => versions(rt, alloc, bucket, symbol),
         Command::Delete { symbol, versions } => {
@@ -129,23 +142,23 @@ fn bring_frame<R: Wait, B: Bucket<StoreLaw>>(
     }
 }
 
-/// Whether a step carries out the command.
+/// Whether a step carries out the command. It does so to a read whose clauses are within their limits.
 pub fn is_carried_out(command: &Command) -> bool
     ensures { result ≡ is_carried_out command.now }
 {
-    matches!(
-        command,
+    match command {
+        Command::Read { clauses, .. } => fits(clauses.items()),
         Command::Write { .. }
-            | Command::Append { .. }
-            | Command::Update { .. }
-            | Command::DeleteRange { .. }
-            | Command::Delete { .. }
-            | Command::Prune { .. }
-            | Command::Reclaim { .. }
-            | Command::Versions { .. }
-            | Command::Keys { .. }
-            | Command::Read { .. }
-    )
+        | Command::Append { .. }
+        | Command::Update { .. }
+        | Command::DeleteRange { .. }
+        | Command::Delete { .. }
+        | Command::Prune { .. }
+        | Command::Reclaim { .. }
+        | Command::Versions { .. }
+        | Command::Keys { .. } => true,
+        _ => false,
+    }
 }
 
 /// The frame of this number, counted from 0.

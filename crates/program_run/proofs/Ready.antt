@@ -35,7 +35,7 @@ loaded_command n (commands.Snapshot snap picks) loaded = absurd loaded
 loaded_command n (commands.DeleteSnapshot snap) loaded = absurd loaded
 loaded_command n commands.Symbols loaded = absurd loaded
 loaded_command n commands.Snapshots loaded = absurd loaded
-loaded_command n (commands.Read symbol as_of range columns) loaded = tt
+loaded_command n (commands.Read symbol as_of range columns clauses) loaded = tt
 
 -- the commands of one part
 ready-part : (n : ℕ) (list : List Command) → AllLoaded n list → list_all is_carried_out list ≡ true → AreNamed n list

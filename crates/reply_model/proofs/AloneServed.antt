@@ -39,6 +39,7 @@ use Rattle.reply_model.specs.Causes.{IsVersionGone}
 use Rattle.reply_model.specs.Sole.{Alone, keys_alone, step_alone}
 use Rattle.reply_model.specs.Standing.{StandsAs, StepsTo, IsStep, is_served, LaysOut, LegalAloneSteps}
 use Rattle.reply_model.proofs.Places.{history_at_end}
+use Rattle.expr_clause.specs.declared.clause.Clause.{Clause}
 use Rattle.reply_model.proofs.Isolated.{some_answer, Gone, plain_outcome, read_is_live}
 use Rattle.reply_model.proofs.Quiet.{is_plain}
 use Rattle.reply_model.proofs.AloneWindows.{added, none_behind, IsKept, Commits, turn_commits}
@@ -213,10 +214,10 @@ not_gone symbol (moments.Number n) range columns number reply old faulted after 
 not_gone symbol (moments.Moment t) range columns number reply old faulted after before g =
     live_is_not_gone symbol (moments.Moment t) range columns number reply old faulted after before g (read_is_live (library_at old g.read_at) symbol (moments.Moment t) g.version refl g.read)
 
-read_step : (c : Cutting) (client : Client) (symbol : Name) (as_of : AsOf) (range : Range) (columns : Option (List Text)) (reply : Reply) (old : History) (faulted : Bool)
-    → Heard client (commands.Read symbol as_of range columns) reply [] old faulted → IsStep c client.session (commands.Read symbol as_of range columns) reply old old
-read_step c client symbol as_of range columns reply old faulted heard r stands =
-    let command = commands.Read symbol as_of range columns in
+read_step : (c : Cutting) (client : Client) (symbol : Name) (as_of : AsOf) (range : Range) (columns : Option (List Text)) (clauses : List Clause) (reply : Reply) (old : History) (faulted : Bool)
+    → Heard client (commands.Read symbol as_of range columns clauses) reply [] old faulted → IsStep c client.session (commands.Read symbol as_of range columns clauses) reply old old
+read_step c client symbol as_of range columns clauses reply old faulted heard r stands =
+    let command = commands.Read symbol as_of range columns clauses in
     elim (answered_or_gone client command reply [] old faulted refl heard) [
       | inl gone ↦ absurd (not_gone symbol as_of range columns gone.0 reply old faulted heard.seen.after heard.seen.before gone.1)
       | inr is ↦ looking c client command r reply old stands
@@ -352,11 +353,11 @@ served_step : (c : Cutting) (client : Client) (command : Command) (reply : Reply
 served_step c client (commands.Write a frame at prune) reply more old faulted heard served laid = write_step c client a frame at prune reply more old faulted heard laid
 served_step c client (commands.Delete a versions) reply more old faulted heard served laid = delete_step c client a versions reply more old faulted heard
 served_step c client (commands.Prune a) reply more old faulted heard served laid = prune_step c client a reply more old faulted heard
-served_step c client (commands.Read a as_of range columns) reply more old faulted heard served laid =
-    let command = commands.Read a as_of range columns in
+served_step c client (commands.Read a as_of range columns clauses) reply more old faulted heard served laid =
+    let command = commands.Read a as_of range columns clauses in
     let none : more ≡ [] = adds_none client command reply more old faulted heard (own_are client command reply more old faulted heard) in
     subst (λ es. IsStep c client.session command reply old (es ++ old)) (sym none)
-    (read_step c client a as_of range columns reply old faulted (subst (λ es. Heard client command reply es old faulted) none heard))
+    (read_step c client a as_of range columns clauses reply old faulted (subst (λ es. Heard client command reply es old faulted) none heard))
 served_step c client (commands.Versions a) reply more old faulted heard served laid =
     let command = commands.Versions a in
     let none : more ≡ [] = adds_none client command reply more old faulted heard (own_are client command reply more old faulted heard) in

@@ -21,12 +21,11 @@ use Rattle.reply_model.specs.declared.reply.Reply.{Reply}
 use Rattle.reply_model.specs.CommitAnswers.{append_answer, update_answer, delete_answer, prune_answer}
 use Rattle.reply_model.specs.Answering.{Session, Answer, base_or, ◌then◌, answered, with_frame, stamp_of, committed, version_or, or_refuse}
 use Rattle.reply_model.specs.Answers.{answer, symbol_row}
-use Rattle.reply_model.specs.ReadAnswers.{versions_answer, read_version, back, numbered, picked}
+use Rattle.reply_model.specs.ReadAnswers.{versions_answer, read_version, read_answer, back, numbered, picked}
 use Rattle.reply_model.specs.Windows.{symbol_of}
 use Rattle.reply_model.specs.Blocks.{Cutting}
 use Rattle.reply_model.specs.Sole.{Alone, events_of, committing, answering, list_place, plain_reply, next_turn, step_alone}
 use Rattle.reply_model.specs.Standing.{HasShape, IsCutBy, StandsAs, StepsTo, is_served}
-use Rattle.reply_model.proofs.Isolated.{whole}
 use Rattle.reply_model.proofs.Quiet.{is_plain}
 use Rattle.reply_model.proofs.AloneWindows.{IsKept}
 
@@ -58,7 +57,7 @@ answer_told s list other l m p q (commands.Write a frame at prune) told same = a
 answer_told s list other l m p q (commands.Delete a versions) told same = ap (λ (st : State). Some (answered (delete_answer st versions))) (same.states a)
 answer_told s list other l m p q (commands.Prune a) told same = ap (λ (st : State). Some (answered (prune_answer st))) (same.states a)
 answer_told s list other l m p q (commands.Versions a) told same = ap (λ (st : State). Some (answered (versions_answer st))) (same.states a)
-answer_told s list other l m p q (commands.Read a as_of range columns) told same = ap (λ v. Some (answered (v then λ x. whole x range columns))) (read_same l m a as_of same)
+answer_told s list other l m p q (commands.Read a as_of range columns clauses) told same = ap (λ v. Some (answered (v then λ x. read_answer x range columns clauses))) (read_same l m a as_of same)
 answer_told s list other l m p q (commands.Append a frame at prune) told same = ap (λ (st : State). with_frame s frame (λ f. append_answer st prune (stamp_of s at) f)) (same.states a)
 answer_told s list other l m p q (commands.Update a frame range upsert at prune) told same = ap (λ (st : State). with_frame s frame (λ f. update_answer st upsert prune (stamp_of s at) range f)) (same.states a)
 answer_told s list other l m p q (commands.DeleteRange a range at prune) told same =
@@ -118,7 +117,7 @@ step_is c s (commands.Write a frame at prune) r told = refl
 step_is c s (commands.Delete a versions) r told = refl
 step_is c s (commands.Prune a) r told = refl
 step_is c s (commands.Versions a) r told = refl
-step_is c s (commands.Read a as_of range columns) r told = refl
+step_is c s (commands.Read a as_of range columns clauses) r told = refl
 step_is c s (commands.Append a frame at prune) r told = refl
 step_is c s (commands.Update a frame range upsert at prune) r told = refl
 step_is c s (commands.DeleteRange a range at prune) r told = refl

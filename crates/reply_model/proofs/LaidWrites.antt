@@ -33,7 +33,7 @@ use Rattle.reply_model.specs.declared.outcome.Outcome.TheVariants as outcomes
 use Rattle.reply_model.specs.declared.reply.Reply.{Reply}
 use Rattle.reply_model.specs.Answering.{Session, Answer, ◌then◌, answered, refused, refuse_if, frame_of, stamp_of, committed, pruned}
 use Rattle.reply_model.specs.CommitAnswers.{delete_answer, prune_answer}
-use Rattle.reply_model.specs.ReadAnswers.{version_row, versions_answer, read_version, ask}
+use Rattle.reply_model.specs.ReadAnswers.{version_row, versions_answer, read_version, read_answer, query}
 use Rattle.reply_model.specs.Windows.{is_refused}
 use Rattle.reply_model.specs.Blocks.{Cutting}
 use Rattle.reply_model.specs.Standing.{LaysOut, IsLaid}
@@ -131,7 +131,7 @@ makes_none (commands.Prune symbol) = true
 makes_none (commands.Reclaim symbol) = true
 makes_none (commands.Versions symbol) = true
 makes_none (commands.Keys symbol) = true
-makes_none (commands.Read symbol as_of range columns) = true
+makes_none (commands.Read symbol as_of range columns clauses) = true
 makes_none commands.Symbols = true
 makes_none commands.Snapshots = true
 makes_none command = false
@@ -170,10 +170,10 @@ none_lays_out c s (commands.Prune a) reply old new is cut symbol change rest nam
 none_lays_out c s (commands.Versions a) reply old new is cut symbol change rest named answered_is version =
     let st : State = (library_of old).state a in
     absurd (no_change (versions_answer st) reply.outcome change rest (no_marks_if (not st.has_reference) refusals.NoSuchSymbol (Ok (record { outcome = outcomes.Versions (reverse (map (version_row st) st.versions)); marks = [] })) refl) answered_is)
-none_lays_out c s (commands.Read a as_of range columns) reply old new is cut symbol change rest named answered_is version =
-    absurd (no_change (read_version (library_of old) a as_of then λ v. ask v.frame range columns then λ f. Ok (record { outcome = outcomes.Whole v.number f; marks = [] })) reply.outcome change rest
-    (no_marks_then (read_version (library_of old) a as_of) (λ v. ask v.frame range columns then λ f. Ok (record { outcome = outcomes.Whole v.number f; marks = [] }))
-    (λ v. no_marks_then (ask v.frame range columns) (λ f. Ok (record { outcome = outcomes.Whole v.number f; marks = [] })) (λ f. refl))) answered_is)
+none_lays_out c s (commands.Read a as_of range columns clauses) reply old new is cut symbol change rest named answered_is version =
+    absurd (no_change (read_version (library_of old) a as_of then λ v. read_answer v range columns clauses) reply.outcome change rest
+    (no_marks_then (read_version (library_of old) a as_of) (λ v. read_answer v range columns clauses)
+    (λ v. no_marks_then (query v.frame range columns clauses) (λ f. Ok (record { outcome = outcomes.Whole v.number f; marks = [] })) (λ f. refl))) answered_is)
 none_lays_out c s (commands.Keys a) reply old new is cut symbol change rest named answered_is version = absurd cc
 none_lays_out c s (commands.Reclaim a) reply old new is cut symbol change rest named answered_is version = absurd cc
 none_lays_out c s commands.Symbols reply old new is cut symbol change rest named answered_is version = absurd cc

@@ -11,7 +11,7 @@ use Rattle.expr_clause.specs.declared.command.Command.TheVariants as commands
 use Rattle.reply_model.specs.declared.outcome.Outcome.TheVariants as outcomes
 use Rattle.reply_model.specs.Answering.{Session, Answer, answered, ◌then◌, with_frame, stamp_of, committed}
 use Rattle.reply_model.specs.CommitAnswers.{append_answer, update_answer, clear_answer, delete_answer, prune_answer}
-use Rattle.reply_model.specs.ReadAnswers.{versions_answer, read_version, ask}
+use Rattle.reply_model.specs.ReadAnswers.{versions_answer, read_version, read_answer}
 use Rattle.reply_model.specs.PieceAnswers.{finalize_answer, discard_answer}
 
 -- a symbol with its base, at a place
@@ -32,6 +32,5 @@ answer s listed l place (commands.Prune symbol) = Some (answered (prune_answer (
 answer s listed l place (commands.Versions symbol) = Some (answered (versions_answer (l.state symbol)))
 answer s listed l place commands.Symbols = Some (record { outcome = outcomes.Symbols (map (symbol_row l place) l.symbols); marks = [] })
 answer s listed l place commands.Snapshots = Some (record { outcome = outcomes.Snapshots (map (λ y. y.0) l.snapshots); marks = [] })
-answer s listed l place (commands.Read symbol as_of range columns) =
-    Some (answered (read_version l symbol as_of then λ v. ask v.frame range columns then λ f. Ok (record { outcome = outcomes.Whole v.number f; marks = [] })))
+answer s listed l place (commands.Read symbol as_of range columns clauses) = Some (answered (read_version l symbol as_of then λ v. read_answer v range columns clauses))
 answer s listed l place _ = None

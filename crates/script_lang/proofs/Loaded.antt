@@ -127,14 +127,14 @@ symbol_form-loaded command loaded frames words c h =
     subst (IsLoaded (length frames)) named.2 (loaded (length frames) named.0)
 
 abbrev read_made : Text → ReadOptions → Command
-read_made s o = commands.Read s (unwrap_or o.as_of (moments.Back 1)) (unwrap_or o.range whole_range) o.columns
+read_made s o = commands.Read s (unwrap_or o.as_of (moments.Back 1)) (unwrap_or o.range whole_range) o.columns []
 
 read_form-loaded : IsForm (λ frames. read_form)
 read_form-loaded frames [] c h = absurd cc
 read_form-loaded frames (symbol ∷ more) c h =
     let named = bind-some (symbol_of symbol) (λ s. read_options more >>= λ o. Some (read_made s o)) c h in
     let set = bind-some (read_options more) (λ o. Some (read_made named.0 o)) c named.2 in
-    subst (IsLoaded (length frames)) (some-same (read_made named.0 set.0) c set.2) tt
+    subst (IsLoaded (length frames)) (some-same (read_made named.0 set.0) c set.2) refl
 
 forms-loaded : AllByRecursion (λ (x : Text × Form). IsForm x.1) forms
 forms-loaded = (

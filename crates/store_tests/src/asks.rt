@@ -106,6 +106,7 @@ fn command_of(alloc: Global, ask: Ask, frames: &[RawFrame]) -> Result<Command, F
             as_of: AsOf::Back(1),
             range: everything(),
             columns: None,
+            clauses: Items::new(alloc),
         },
         Ask::Keys => Command::Keys { symbol },
     })

@@ -22,15 +22,15 @@ pub returns-in-Read-clause-legal : goal.returns-in-Read-clause-legal
 returns-in-Read-clause-legal g c =
     any_command c.args.frames.now c.args.settings (g.B.Bucket.number c.args.bucket.now) (g.B.Bucket.limit c.args.bucket.now) (g.B.Bucket.faults c.args.bucket.now) (g.B.Bucket.faults c.read.new.bucket)
     (g.B.Bucket.seen c.args.bucket.now) (g.B.Bucket.seen c.read.new.bucket) c.args.command.now c.read.result
-    (commands.Read c.in-Read.symbol c.in-Read.as_of c.in-Read.range (option_copied c.lent.result)) (c.in-Read.is ∙ ap (commands.Read c.in-Read.symbol c.in-Read.as_of c.in-Read.range) (sym c.lent.ensures)) c.read.ensures.legal
+    (commands.Read c.in-Read.symbol c.in-Read.as_of c.in-Read.range (option_copied c.columns-lent.result) c.in-Read.clauses) (c.in-Read.is ∙ ap (λ names. commands.Read c.in-Read.symbol c.in-Read.as_of c.in-Read.range names c.in-Read.clauses) (sym c.columns-lent.ensures)) c.read.ensures.legal
 
 pub returns-in-Read-clause-lays : goal.returns-in-Read-clause-lays
 returns-in-Read-clause-lays g c grows =
     none_lays c.args.settings (client_of c.args.frames.now c.args.settings (g.B.Bucket.number c.args.bucket.now) (g.B.Bucket.limit c.args.bucket.now)).session (g.B.Bucket.seen c.args.bucket.now) (g.B.Bucket.seen c.read.new.bucket) c.args.command.now
-    (commands.Read c.in-Read.symbol c.in-Read.as_of c.in-Read.range c.in-Read.columns) c.read.result c.in-Read.is refl
+    (commands.Read c.in-Read.symbol c.in-Read.as_of c.in-Read.range c.in-Read.columns c.in-Read.clauses) c.read.result c.in-Read.is refl
 
 pub returns-in-Read-clause-looked : goal.returns-in-Read-clause-looked
-returns-in-Read-clause-looked g c = λ symbol reclaim. no_reclaim c.args.command.now (commands.Read c.in-Read.symbol c.in-Read.as_of c.in-Read.range c.in-Read.columns) symbol c.in-Read.is refl reclaim
+returns-in-Read-clause-looked g c = λ symbol reclaim. no_reclaim c.args.command.now (commands.Read c.in-Read.symbol c.in-Read.as_of c.in-Read.range c.in-Read.columns c.in-Read.clauses) symbol c.in-Read.is refl reclaim
 
 pub returns-in-Keys-clause-legal : goal.returns-in-Keys-clause-legal
 returns-in-Keys-clause-legal g c =
