@@ -1,5 +1,6 @@
 pub mod Levels
 pub mod Values
+pub mod NamedCells
 pub mod Names
 pub mod ViewLemmas
 pub mod ColumnLemmas

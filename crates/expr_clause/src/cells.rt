@@ -116,7 +116,7 @@ fn number_in(cell: CellRef<'_>) -> i64
 }
 
 /// The flag in a cell.
-fn flag_in(cell: CellRef<'_>) -> bool
+pub fn flag_in(cell: CellRef<'_>) -> bool
     ensures { result ≡ is_true (cell_of cell.entry) }
 {
     match cell {

@@ -9,11 +9,12 @@ mod expr;
 mod fitting;
 mod kinds;
 mod naming;
+mod operands;
 mod typing;
 mod viewed;
 
 pub use base_types::{Items, Keep, NoMemory};
-pub use cells::{Overflowed, compare_cells, lent};
+pub use cells::{Overflowed, absent_cell, compare_cells, flag_in, lent};
 pub use clause::{Agg, Clause, Out};
 pub use command::{AsOf, Command, Pick};
 pub use evaluating::{RowCells, eval_row};
@@ -21,8 +22,9 @@ pub use expr::{BinOp, Expr, Literal, UnOp};
 pub use fitting::fits;
 use frame_core::ColName;
 pub use naming::clause_names;
+pub use operands::eval_cells;
 pub use sqlite_items::Boxed;
-pub use typing::check;
+pub use typing::{check, schema_after};
 pub use viewed::eval;
 
 /// The symbols that a snapshot is to hold, seen as a list.

@@ -39,7 +39,7 @@ fn check_one(alloc: Global, clause: u64, what: &Clause, schema: &Schema) -> Resu
     if let Some(position) = first_absent(names.items(), schema.columns()) {
         return Err(Refusal::NoSuchColumn { clause, position });
     }
-    match given_by(alloc, what, schema)? {
+    match schema_after(alloc, what, schema)? {
         None => Err(Refusal::TypeMismatch { clause }),
         Some(given) => {
             if speaks_of_time(what) && !schema.timed() {
@@ -74,7 +74,11 @@ fn speaks_of_time(clause: &Clause) -> bool
 }
 
 /// The schema that a clause gives, where its types fit.
-fn given_by(alloc: Global, clause: &Clause, schema: &Schema) -> Result<Option<Schema>, NoMemory>
+pub fn schema_after(
+    alloc: Global,
+    clause: &Clause,
+    schema: &Schema,
+) -> Result<Option<Schema>, NoMemory>
     ensures { IfOk result (λ given. given ≡ schema_after clause.now schema.now) }
 {
     match clause {
