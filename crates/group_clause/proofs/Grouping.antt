@@ -16,7 +16,8 @@ use Rattle.expr_clause.specs.Groups.{Line, keys, insert_key, cells_with, outputs
 use Rattle.group_clause.specs.Tallies.{Tallying, IsSound, Commutes, PartsMerge, AnyOrder, GivesGroup, insert_at, join_lists, tallied, kept, first_tally, made_all, finish_from, finish, total}
 use Rattle.group_clause.proofs.Order.{cell_cmp_total, cells_equal}
 use Rattle.group_clause.proofs.Merging.{turned_less, turned_greater, placing, merge-insert, either_order, lists_assoc, lists_comm, folded, folded-permutation}
-use Rattle.group_clause.proofs.Keys.{Rises, keys_rise, key_placing, with_same, with_other, no_lines}
+use Rattle.group_clause.specs.Keeping.{Rises}
+use Rattle.group_clause.proofs.Keys.{keys_rise, key_placing, with_same, with_other, no_lines}
 
 -- tests of a key at a list, of `cond`
 flipped_test : (o : Ordering) → is_eq (ordering_reverse o) ≡ is_eq o

@@ -7,12 +7,9 @@ use Rattle.std.specs.declared.cmp.Ordering.TheVariants.{Less, Equal, Greater}
 use Rattle.frame_core.specs.declared.cell.Cell.{Cell}
 use Rattle.expr_clause.specs.Cells.{cell_cmp, same_cell}
 use Rattle.expr_clause.specs.Groups.{Line, keys, insert_key, cells_with}
+use Rattle.group_clause.specs.Keeping.{Rises}
 use Rattle.group_clause.proofs.Order.{cell_cmp_total, cells_equal}
 use Rattle.group_clause.proofs.Merging.{turned_greater}
-
-abbrev pub Rises : List Cell → Type 0
-Rises [] = ⊤
-Rises (m ∷ ms) = AllByRecursion (λ x. cell_cmp m x ≡ Less) ms × Rises ms
 
 -- what an insertion gives, told by the order
 abbrev key_at : Ordering → Cell → Cell → List Cell → List Cell

@@ -1,2 +1,4 @@
 pub mod Tallies
 pub mod Partials
+pub mod Keeping
+pub mod Finished
