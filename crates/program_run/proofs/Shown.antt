@@ -1,14 +1,14 @@
 -- Replies as texts in a row.
-use Rattle.std.proofs.Common.{◌≡◌, true, false, ℕ, zero, suc, ◌+◌, List, [], ◌∷◌, ◌++◌, length, map, Option, Some, refl, sym, ap, ◌∙◌, append_assoc, arith}
-use Rattle.std.specs.Prelude.{◌==◌, slice_get, option_map, codes}
-use Rattle.std.specs.List.{concat, join_with_byte}
-use Rattle.std.proofs.lemmas.Bool.{true≢false, ne_eqb}
+use Rattle.std.proofs.Common.{◌≡◌, ℕ, zero, suc, ◌+◌, List, [], ◌∷◌, ◌++◌, length, map, Option, Some, refl, sym, ap, ◌∙◌, append_assoc, arith}
+use Rattle.std.specs.Prelude.{slice_get, option_map, codes}
+use Rattle.std.specs.List.{concat}
 use Rattle.std.proofs.lemmas.List.{append-nil}
 use Rattle.std.proofs.lemmas.List.Folds.{concat-append}
 use Rattle.frame_core.specs.Texts.{Text}
 use Rattle.reply_model.specs.declared.reply.Reply.{Reply}
 use Rattle.client_sessions.specs.declared.parts.PartReplies.{PartReplies}
-use Rattle.program_run.specs.Transcript.{left_text, reply_lines, part_lines, clients_lines, end_line, transcript}
+use Rattle.reply_text.specs.Replies.{reply_lines, part_lines, clients_lines, end_line}
+use Rattle.program_run.specs.Transcript.{transcript}
 
 -- the value of a place
 pub slice_get-map : {A B : Type 0} (f : A → B) (xs : List A) (i : ℕ) (x : A) → slice_get xs i ≡ Some x → slice_get (map f xs) i ≡ Some (f x)
@@ -46,20 +46,6 @@ reply-text-at who k (q ∷ replies) (suc i) r is =
 pub length-reply_texts : (who : Text) (k : ℕ) (replies : List Reply) → length (reply_texts who k replies) ≡ length replies
 length-reply_texts who k [] = refl
 length-reply_texts who k (r ∷ replies) = omega (arith, length-reply_texts who (suc k) replies)
-
--- ---- holds that were left
-
--- there are none
-pub left-none : (symbols : List Text) → true ≡ (length symbols == 0) → left_text symbols ≡ []
-unfolding left_text
-left-none [] none = refl
-left-none (symbol ∷ more) none = absurd (true≢false (none ∙ ne_eqb (suc (length more)) 0 (λ e. absurd (omega (arith, e)))))
-
--- there are some
-pub left-some : (symbols : List Text) → false ≡ (length symbols == 0) → left_text symbols ≡ codes " left=" ++ join_with_byte 44 symbols
-unfolding left_text
-left-some [] some = absurd (true≢false (sym some))
-left-some (symbol ∷ more) some = refl
 
 -- ---- the transcript
 

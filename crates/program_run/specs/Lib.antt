@@ -1,9 +1,0 @@
-pub mod CommandLine
-pub mod Commas
-pub mod FrameText
-pub mod Transcript
-pub mod Jobs
-pub mod Program
-pub mod Causes
-pub mod Endings
-pub mod Preparing

@@ -28,7 +28,7 @@ use Rattle.program_run.specs.Jobs.{client_names, parts_of, script_in}
 use Rattle.program_run.specs.declared.stop.Stop.{Stop}
 use Rattle.program_run.specs.declared.stop.Stop.TheVariants as stops
 use Rattle.program_run.specs.CommandLine.{Words, plain_words_of, first_set}
-use Rattle.program_run.specs.FrameText.{ended}
+use Rattle.reply_text.specs.FrameText.{ended}
 use Rattle.program_run.specs.Transcript.{transcript}
 
 -- the status of a stop

@@ -2,12 +2,8 @@
 #![tactic(auto)]
 
 mod args;
-mod frame_lines;
-mod line;
-mod outcome_text;
 mod prepare;
 mod print;
-mod reply_line;
 mod script_run;
 mod stop;
 mod words;

@@ -3,15 +3,12 @@
 ghost use Rattle.std.specs.Prelude.{◌≡◌, ◌<◌, ◌++◌, ℕ, List, Some, codes, length, map, slice_get, IfOk, OnOk};
 ghost use Rattle.std.specs.List.{concat};
 ghost use Rattle.frame_core.specs.Frames.{Row};
-ghost use Rattle.program_run.specs.FrameText.{ended, record_text, row_fields, frame_lines};
-ghost use Rattle.program_run.specs.Transcript.{version_line, symbol_line, lines_after, reply_lines, part_lines, clients_lines, end_line, transcript};
+ghost use Rattle.reply_text.specs.FrameText.{ended, record_text, row_fields, frame_lines};
+ghost use Rattle.reply_text.specs.Replies.{version_line, symbol_line, lines_after, reply_lines, part_lines, clients_lines, end_line};
+ghost use Rattle.program_run.specs.Transcript.{transcript};
 ghost use Rattle.program_run.specs.Program.{stop_text, stop_line};
 ghost use Rattle.program_run.specs.Endings.{Prints};
 
-use crate::frame_lines::{header_line, push_row};
-use crate::line::{push_end, push_text};
-use crate::outcome_text::{symbol_line, version_line};
-use crate::reply_line::{end_line, reply_line};
 use crate::stop::Stop;
 use base_types::{Items, NoMemory, Text};
 use client_sessions::PartReplies;
@@ -19,6 +16,9 @@ use frame_core::Frame;
 use key_kind::SnapName;
 use program_edge::{Sink, SinkErr};
 use reply_model::{Outcome, Reply, SymbolRow, VersionRow};
+use reply_text::{
+    end_line, header_line, push_end, push_row, push_text, reply_line, symbol_line, version_line,
+};
 use std::alloc::Global;
 
 /// Puts one line.
@@ -210,7 +210,7 @@ pub fn print_transcript<S: Sink>(
 }
 
 /// Adds that a file of this name cannot be read.
-#[tactic(auto, using(crate::proofs::Lines::lines))]
+#[tactic(auto, using(reply_text::proofs::Lines::lines))]
 fn push_unreadable(line: &mut Vec<u8>, name: &str) -> Result<(), NoMemory>
     ensures { OnOk result (line.new.items ≡ line.old.items ++ (codes "cannot read " ++ name.now)) }
 {

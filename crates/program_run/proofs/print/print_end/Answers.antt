@@ -2,7 +2,7 @@ use Rattle.std.proofs.Common.{◌≡◌, ◌++◌, Result, Err, sym, subst}
 use Rattle.std.specs.Prelude.{codes}
 use Rattle.std.specs.List.{concat}
 use Rattle.program_edge.specs.declared.sink.SinkErr.{SinkErr}
-use Rattle.program_run.specs.Transcript.{part_lines, end_line}
+use Rattle.reply_text.specs.Replies.{part_lines, end_line}
 use Rattle.program_run.specs.Endings.{Prints}
 use Rattle.program_run.proofs.Prints.{printed-then, printed-stop, handed-on}
 use Rattle.program_run.proofs.print.print_end.Goals as goal

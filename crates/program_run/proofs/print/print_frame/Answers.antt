@@ -2,7 +2,7 @@ use Rattle.std.proofs.Common.{◌≡◌, Result, Err, map, sym, subst}
 use Rattle.std.specs.List.{concat}
 use Rattle.program_edge.specs.declared.sink.SinkErr.{SinkErr}
 use Rattle.frame_core.specs.Frames.{Row}
-use Rattle.program_run.specs.FrameText.{record_text, row_fields, header_fields, frame_lines}
+use Rattle.reply_text.specs.FrameText.{record_text, row_fields, header_fields, frame_lines}
 use Rattle.program_run.specs.Endings.{Printed}
 use Rattle.program_run.proofs.Prints.{printed-then, printed-stop, handed-on}
 use Rattle.program_run.proofs.print.print_frame.Goals as goal

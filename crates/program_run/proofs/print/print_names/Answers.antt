@@ -3,9 +3,9 @@ use Rattle.std.specs.Prelude.{IfOk}
 use Rattle.std.specs.List.{concat}
 use Rattle.frame_core.specs.Texts.{Text}
 use Rattle.program_edge.specs.declared.sink.SinkErr.{SinkErr}
-use Rattle.program_run.specs.FrameText.{ended}
+use Rattle.reply_text.specs.FrameText.{ended}
 use Rattle.program_run.specs.Endings.{Prints}
-use Rattle.program_run.proofs.Commas.{got-at}
+use Rattle.reply_text.proofs.Commas.{got-at}
 use Rattle.program_run.proofs.Prints.{row-more, row-refused, handed-on}
 use Rattle.program_run.proofs.Shown.{slice_get-map}
 use Rattle.program_run.proofs.print.print_names.Goals as goal

@@ -1,6 +1,6 @@
 use Rattle.std.proofs.Common.{take, map, Ok}
 use Rattle.std.specs.List.{concat}
-use Rattle.program_run.specs.FrameText.{ended}
+use Rattle.reply_text.specs.FrameText.{ended}
 use Rattle.program_run.specs.Endings.{Prints}
 use Rattle.program_run.proofs.print.print_names.Given as goal
 

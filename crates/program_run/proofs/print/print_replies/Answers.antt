@@ -2,9 +2,9 @@ use Rattle.std.proofs.Common.{◌≡◌, ℕ, ◌+◌, ◌≤◌, Result, Ok, Er
 use Rattle.std.specs.List.{concat}
 use Rattle.program_edge.specs.declared.sink.SinkErr.{SinkErr}
 use Rattle.frame_core.specs.Texts.{Text}
-use Rattle.program_run.specs.Transcript.{reply_lines}
+use Rattle.reply_text.specs.Replies.{reply_lines}
 use Rattle.program_run.specs.Endings.{Prints}
-use Rattle.program_run.proofs.Commas.{got-at}
+use Rattle.reply_text.proofs.Commas.{got-at}
 use Rattle.program_run.proofs.Prints.{row-more, row-refused, row-end, handed-on}
 use Rattle.program_run.proofs.Shown.{reply_texts, part-texts, reply-text-at, length-reply_texts}
 use Rattle.program_run.proofs.print.print_replies.Goals as goal

@@ -1,7 +1,7 @@
 use Rattle.std.proofs.Common.{◌≡◌, Result, Err, sym, subst}
 use Rattle.std.specs.List.{concat}
 use Rattle.program_edge.specs.declared.sink.SinkErr.{SinkErr}
-use Rattle.program_run.specs.Transcript.{reply_line, reply_lines, lines_after}
+use Rattle.reply_text.specs.Replies.{reply_line, reply_lines, lines_after}
 use Rattle.program_run.specs.Endings.{Prints}
 use Rattle.program_run.proofs.Prints.{printed-then, printed-stop, handed-on}
 use Rattle.program_run.proofs.print.print_reply.Goals as goal

@@ -3,7 +3,7 @@ use Rattle.program_edge.specs.declared.sink.SinkErr.{SinkErr}
 use Rattle.frame_core.specs.Texts.{Text}
 use Rattle.frame_core.specs.Frames.{Row}
 use Rattle.std.specs.List.{concat}
-use Rattle.program_run.specs.FrameText.{record_text, row_fields}
+use Rattle.reply_text.specs.FrameText.{record_text, row_fields}
 use Rattle.program_run.specs.Endings.{Printed}
 use Rattle.program_run.proofs.Prints.{got, row-more, row-refused, handed-on}
 use Rattle.program_run.proofs.Shown.{slice_get-map}

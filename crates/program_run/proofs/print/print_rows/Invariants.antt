@@ -1,7 +1,7 @@
 use Rattle.std.proofs.Common.{take, map, Ok}
 use Rattle.std.specs.List.{concat}
 use Rattle.frame_core.specs.Frames.{Row}
-use Rattle.program_run.specs.FrameText.{record_text, row_fields}
+use Rattle.reply_text.specs.FrameText.{record_text, row_fields}
 use Rattle.program_run.specs.Endings.{Prints}
 use Rattle.program_run.proofs.print.print_rows.Given as goal
 

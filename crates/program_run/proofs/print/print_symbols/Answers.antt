@@ -1,9 +1,9 @@
 use Rattle.std.proofs.Common.{◌≡◌, Result, Err, map, sym, subst}
 use Rattle.std.specs.List.{concat}
 use Rattle.program_edge.specs.declared.sink.SinkErr.{SinkErr}
-use Rattle.program_run.specs.Transcript.{symbol_line}
+use Rattle.reply_text.specs.Replies.{symbol_line}
 use Rattle.program_run.specs.Endings.{Prints}
-use Rattle.program_run.proofs.Commas.{got-at}
+use Rattle.reply_text.proofs.Commas.{got-at}
 use Rattle.program_run.proofs.Prints.{row-more, row-refused, handed-on}
 use Rattle.program_run.proofs.Shown.{slice_get-map}
 use Rattle.program_run.proofs.print.print_symbols.Goals as goal

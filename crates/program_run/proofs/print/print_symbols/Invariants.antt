@@ -1,6 +1,6 @@
 use Rattle.std.proofs.Common.{take, map, Ok}
 use Rattle.std.specs.List.{concat}
-use Rattle.program_run.specs.Transcript.{symbol_line}
+use Rattle.reply_text.specs.Replies.{symbol_line}
 use Rattle.program_run.specs.Endings.{Prints}
 use Rattle.program_run.proofs.print.print_symbols.Given as goal
 

@@ -4,7 +4,7 @@ use Rattle.std.specs.List.{concat}
 use Rattle.program_edge.specs.declared.sink.SinkErr.{SinkErr}
 use Rattle.frame_core.specs.Texts.{Text}
 use Rattle.reply_model.specs.declared.reply.Reply.{Reply}
-use Rattle.program_run.specs.Transcript.{part_lines, clients_lines}
+use Rattle.reply_text.specs.Replies.{part_lines, clients_lines}
 use Rattle.program_run.specs.Endings.{Prints}
 use Rattle.program_run.proofs.Prints.{printed-then, printed-stop, handed-on}
 use Rattle.program_run.proofs.Shown.{end_text, transcript-text}

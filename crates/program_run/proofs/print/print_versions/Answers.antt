@@ -2,7 +2,7 @@ use Rattle.std.proofs.Common.{◌≡◌, Result, Err, map, sym, subst}
 use Rattle.std.specs.List.{concat}
 use Rattle.std.proofs.lemmas.Option.{slice_get-get_or}
 use Rattle.program_edge.specs.declared.sink.SinkErr.{SinkErr}
-use Rattle.program_run.specs.Transcript.{version_line}
+use Rattle.reply_text.specs.Replies.{version_line}
 use Rattle.program_run.specs.Endings.{Prints}
 use Rattle.program_run.proofs.Prints.{row-more, row-refused, handed-on}
 use Rattle.program_run.proofs.Shown.{slice_get-map}

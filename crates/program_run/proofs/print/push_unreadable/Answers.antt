@@ -1,6 +1,6 @@
 use Rattle.std.specs.Prelude.{codes}
 use Rattle.std.proofs.lemmas.Result.{on_ok_weaker}
-use Rattle.program_run.proofs.Lines.{onto}
+use Rattle.reply_text.proofs.Lines.{onto}
 use Rattle.program_run.proofs.print.push_unreadable.Goals as goal
 
 pub returns : goal.returns

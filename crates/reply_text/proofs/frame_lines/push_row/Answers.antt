@@ -1,9 +1,9 @@
 use Rattle.std.proofs.Common.{map}
 use Rattle.std.specs.Fmt.{signed_decimal}
 use Rattle.std.proofs.lemmas.Result.{on_ok_weaker}
-use Rattle.program_run.specs.FrameText.{cell_text}
-use Rattle.program_run.proofs.Commas.{record-made}
-use Rattle.program_run.proofs.frame_lines.push_row.Goals as goal
+use Rattle.reply_text.specs.FrameText.{cell_text}
+use Rattle.reply_text.proofs.Commas.{record-made}
+use Rattle.reply_text.proofs.frame_lines.push_row.Goals as goal
 
 pub returns : goal.returns
 returns c = λ r is. on_ok_weaker c.push_end.result (λ made.

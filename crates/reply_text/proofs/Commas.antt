@@ -9,8 +9,8 @@ use Rattle.frame_core.specs.Texts.{Text}
 use Rattle.frame_core.specs.declared.cell.Cell.{Cell}
 use Rattle.frame_core.specs.Schemas.{Head}
 use Rattle.frame_core.specs.Frames.{Row, Frame, IsFrame, FitsColumns, stamp_at, cell_at}
-use Rattle.program_run.specs.Commas.{behind_commas, comma_before, further_fields}
-use Rattle.program_run.specs.FrameText.{ended, record_text, cell_text, index_text, with_index}
+use Rattle.reply_text.specs.Commas.{behind_commas, comma_before, further_fields}
+use Rattle.reply_text.specs.FrameText.{ended, record_text, cell_text, index_text, with_index}
 
 -- the fields of a record are the first, and the others behind commas
 pub join-commas : (field : Text) (fields : List Text) → join_with_byte 44 (field ∷ fields) ≡ field ++ behind_commas fields

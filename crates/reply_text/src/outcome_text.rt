@@ -2,7 +2,7 @@
 
 ghost use Rattle.std.specs.Prelude.{◌≡◌, ◌++◌, IfOk, OnOk, codes};
 ghost use Rattle.std.specs.List.{flat_map};
-ghost use Rattle.program_run.specs.Transcript.{field, version_text, held_text, outcome_text, life_text, version_line, newest_text, symbol_line};
+ghost use Rattle.reply_text.specs.Replies.{field, version_text, held_text, outcome_text, life_text, version_line, newest_text, symbol_line};
 
 use crate::line::{
     push_end, push_field, push_int, push_place, push_refusal, push_text, push_version,
@@ -76,7 +76,7 @@ fn push_keys(
 }
 
 /// Adds a symbol that a snapshot holds.
-#[tactic(auto, using(crate::proofs::Lines::lines), unfolding(crate::specs::Transcript::held_text))]
+#[tactic(auto, using(crate::proofs::Lines::lines), unfolding(crate::specs::Replies::held_text))]
 fn push_held(line: &mut Vec<u8>, held: &HeldAt) -> Result<(), NoMemory>
     ensures { OnOk result (line.new.items ≡ line.old.items ++ held_text held.now) }
 {
@@ -107,7 +107,7 @@ fn push_kept(line: &mut Vec<u8>, held: &[HeldAt]) -> Result<(), NoMemory>
 }
 
 /// Adds what is said of an outcome.
-#[tactic(auto, unfolding(crate::specs::Transcript::outcome_text))]
+#[tactic(auto, unfolding(crate::specs::Replies::outcome_text))]
 pub fn push_outcome(line: &mut Vec<u8>, outcome: &Outcome) -> Result<(), NoMemory>
     ensures { OnOk result (line.new.items ≡ line.old.items ++ outcome_text outcome.now) }
 {
@@ -151,7 +151,7 @@ fn life_text(live: bool) -> &'static str
 }
 
 /// The line of a version.
-#[tactic(auto, using(crate::proofs::Lines::lines), unfolding(crate::specs::Transcript::version_line))]
+#[tactic(auto, using(crate::proofs::Lines::lines), unfolding(crate::specs::Replies::version_line))]
 pub fn version_line(alloc: Global, row: &VersionRow) -> Result<Vec<u8>, NoMemory>
     ensures { IfOk result (λ line. line.items ≡ version_line row.now) }
 {
@@ -166,7 +166,7 @@ pub fn version_line(alloc: Global, row: &VersionRow) -> Result<Vec<u8>, NoMemory
 }
 
 /// Adds a symbol's latest live version, or that there is none.
-#[tactic(auto, using(crate::proofs::Lines::lines), unfolding(crate::specs::Transcript::newest_text))]
+#[tactic(auto, using(crate::proofs::Lines::lines), unfolding(crate::specs::Replies::newest_text))]
 fn push_newest(line: &mut Vec<u8>, newest: Option<u64>) -> Result<(), NoMemory>
     ensures { OnOk result (line.new.items ≡ line.old.items ++ newest_text newest) }
 {
@@ -180,7 +180,7 @@ fn push_newest(line: &mut Vec<u8>, newest: Option<u64>) -> Result<(), NoMemory>
 }
 
 /// The line of a symbol.
-#[tactic(auto, using(crate::proofs::Lines::lines), unfolding(crate::specs::Transcript::symbol_line))]
+#[tactic(auto, using(crate::proofs::Lines::lines), unfolding(crate::specs::Replies::symbol_line))]
 pub fn symbol_line(alloc: Global, row: &SymbolRow) -> Result<Vec<u8>, NoMemory>
     ensures { IfOk result (λ line. line.items ≡ symbol_line row.now) }
 {

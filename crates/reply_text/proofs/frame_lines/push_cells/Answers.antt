@@ -1,10 +1,10 @@
 use Rattle.std.proofs.Common.{◌≤◌, ◌≡◌, ◌++◌, ◌∙◌, Bool, map, length, subst, ap, arith}
 use Rattle.frame_core.specs.Frames.{cell_of}
 use Rattle.frame_core.specs.Schemas.{Schema}
-use Rattle.program_run.specs.Commas.{further_fields}
-use Rattle.program_run.specs.FrameText.{cell_text}
-use Rattle.program_run.proofs.Commas.{further-more, further-all, cell-field, row-width}
-use Rattle.program_run.proofs.frame_lines.push_cells.Goals as goal
+use Rattle.reply_text.specs.Commas.{further_fields}
+use Rattle.reply_text.specs.FrameText.{cell_text}
+use Rattle.reply_text.proofs.Commas.{further-more, further-all, cell-field, row-width}
+use Rattle.reply_text.proofs.frame_lines.push_cells.Goals as goal
 
 pub loop-column-preserved : goal.loop-column-preserved
 loop-column-preserved c = λ r is.

@@ -2,9 +2,9 @@ use Rattle.std.proofs.Common.{◌≡◌, ◌∙◌, ◌++◌, Bool, map, subst, 
 use Rattle.std.specs.Prelude.{codes}
 use Rattle.std.proofs.lemmas.Result.{on_ok_weaker}
 use Rattle.frame_core.specs.Schemas.{Head, Schema}
-use Rattle.program_run.specs.FrameText.{index_text}
-use Rattle.program_run.proofs.Commas.{record-made}
-use Rattle.program_run.proofs.frame_lines.push_header.Goals as goal
+use Rattle.reply_text.specs.FrameText.{index_text}
+use Rattle.reply_text.proofs.Commas.{record-made}
+use Rattle.reply_text.proofs.frame_lines.push_header.Goals as goal
 
 pub returns : goal.returns
 returns c = on_ok_weaker c.push_end.result (λ made.

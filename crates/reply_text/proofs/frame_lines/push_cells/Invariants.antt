@@ -1,9 +1,9 @@
 use Rattle.std.proofs.Common.{◌≡◌, ◌++◌, take, map, Some}
 use Rattle.std.specs.Prelude.{slice_get}
 use Rattle.frame_core.specs.Frames.{Row}
-use Rattle.program_run.specs.Commas.{further_fields}
-use Rattle.program_run.specs.FrameText.{cell_text}
-use Rattle.program_run.proofs.frame_lines.push_cells.Given as goal
+use Rattle.reply_text.specs.Commas.{further_fields}
+use Rattle.reply_text.specs.FrameText.{cell_text}
+use Rattle.reply_text.proofs.frame_lines.push_cells.Given as goal
 
 -- the cells so far stand in the line
 abbrev pub invariant-loop-column : goal.invariant-loop-column

@@ -1,7 +1,7 @@
 use Rattle.std.proofs.Common.{◌≡◌, ◌++◌, take, map}
 use Rattle.frame_core.specs.Schemas.{Head}
-use Rattle.program_run.specs.Commas.{further_fields}
-use Rattle.program_run.proofs.frame_lines.push_names.Given as goal
+use Rattle.reply_text.specs.Commas.{further_fields}
+use Rattle.reply_text.proofs.frame_lines.push_names.Given as goal
 
 -- the names so far stand in the line
 abbrev pub invariant-loop-place : goal.invariant-loop-place

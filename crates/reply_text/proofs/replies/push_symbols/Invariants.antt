@@ -1,6 +1,6 @@
 use Rattle.std.proofs.Common.{◌≡◌, ◌++◌, take, false}
-use Rattle.program_run.specs.Commas.{further_fields}
-use Rattle.program_run.proofs.reply_line.push_symbols.Given as goal
+use Rattle.reply_text.specs.Commas.{further_fields}
+use Rattle.reply_text.proofs.replies.push_symbols.Given as goal
 
 -- the symbols so far stand in the line
 abbrev pub invariant-loop-place : goal.invariant-loop-place

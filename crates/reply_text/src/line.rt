@@ -2,9 +2,9 @@
 
 ghost use Rattle.std.specs.Prelude.{◌≡◌, ◌++◌, OnOk, decimal, codes};
 ghost use Rattle.std.specs.Fmt.{signed_decimal};
-ghost use Rattle.program_run.specs.Commas.{comma_before};
-ghost use Rattle.program_run.specs.FrameText.{ended};
-ghost use Rattle.program_run.specs.Transcript.{field, version_text, place_text, asked_text, extent_text, refusal_name, refusal_fields};
+ghost use Rattle.reply_text.specs.Commas.{comma_before};
+ghost use Rattle.reply_text.specs.FrameText.{ended};
+ghost use Rattle.reply_text.specs.Replies.{field, version_text, place_text, asked_text, extent_text, refusal_name, refusal_fields};
 
 use base_types::NoMemory;
 use frame_core::{Asked, Extent, Refusal};
@@ -52,7 +52,7 @@ pub fn push_int(line: &mut Vec<u8>, number: i64) -> Result<(), NoMemory>
 }
 
 /// Adds a place.
-#[tactic(auto, using(crate::proofs::Lines::lines), unfolding(crate::specs::Transcript::place_text))]
+#[tactic(auto, using(crate::proofs::Lines::lines), unfolding(crate::specs::Replies::place_text))]
 pub fn push_place(line: &mut Vec<u8>, place: u64) -> Result<(), NoMemory>
     ensures { OnOk result (line.new.items ≡ line.old.items ++ place_text place) }
 {
@@ -61,7 +61,7 @@ pub fn push_place(line: &mut Vec<u8>, place: u64) -> Result<(), NoMemory>
 }
 
 /// Adds a version.
-#[tactic(auto, using(crate::proofs::Lines::lines), unfolding(crate::specs::Transcript::version_text))]
+#[tactic(auto, using(crate::proofs::Lines::lines), unfolding(crate::specs::Replies::version_text))]
 pub fn push_version(line: &mut Vec<u8>, version: u64) -> Result<(), NoMemory>
     ensures { OnOk result (line.new.items ≡ line.old.items ++ version_text version) }
 {
@@ -70,7 +70,7 @@ pub fn push_version(line: &mut Vec<u8>, version: u64) -> Result<(), NoMemory>
 }
 
 /// Adds a field: its name and its number.
-#[tactic(auto, using(crate::proofs::Lines::lines), unfolding(crate::specs::Transcript::field))]
+#[tactic(auto, using(crate::proofs::Lines::lines), unfolding(crate::specs::Replies::field))]
 pub fn push_field(line: &mut Vec<u8>, name: &str, number: u64) -> Result<(), NoMemory>
     ensures { OnOk result (line.new.items ≡ line.old.items ++ field name.now number) }
 {
@@ -96,7 +96,7 @@ fn push_two_fields(
 }
 
 /// Adds the version that was asked.
-#[tactic(auto, using(crate::proofs::Lines::lines), unfolding(crate::specs::Transcript::asked_text))]
+#[tactic(auto, using(crate::proofs::Lines::lines), unfolding(crate::specs::Replies::asked_text))]
 fn push_asked(line: &mut Vec<u8>, asked: Asked) -> Result<(), NoMemory>
     ensures { OnOk result (line.new.items ≡ line.old.items ++ (codes " asked=" ++ asked_text asked)) }
 {

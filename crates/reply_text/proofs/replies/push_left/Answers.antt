@@ -4,8 +4,8 @@ use Rattle.std.specs.List.{join_with_byte}
 use Rattle.std.proofs.lemmas.List.{append-nil}
 use Rattle.std.proofs.lemmas.Result.{on_ok_weaker}
 use Rattle.frame_core.specs.Texts.{Text}
-use Rattle.program_run.proofs.Shown.{left-none, left-some}
-use Rattle.program_run.proofs.reply_line.push_left.Goals as goal
+use Rattle.reply_text.proofs.Left.{left-none, left-some}
+use Rattle.reply_text.proofs.replies.push_left.Goals as goal
 
 pub returns-then-is_empty : goal.returns-then-is_empty
 returns-then-is_empty c = sym (ap (λ (t : Text). c.args.line.now.items ++ t) (left-none c.args.left.now c.if-is_empty.ensures) ∙ append-nil c.args.line.now.items)

@@ -2,7 +2,7 @@
 
 ghost use Rattle.std.specs.Prelude.{◌≡◌, ◌++◌, IfOk, OnOk};
 ghost use Rattle.std.specs.List.{join_with_byte};
-ghost use Rattle.program_run.specs.Transcript.{listed_text, left_text, reply_line, end_line};
+ghost use Rattle.reply_text.specs.Replies.{listed_text, left_text, reply_line, end_line};
 
 use crate::line::{push_comma, push_end, push_number, push_place, push_text};
 use crate::outcome_text::push_outcome;
@@ -12,7 +12,7 @@ use reply_model::Reply;
 use std::alloc::Global;
 
 /// Adds the place of the list that a command went by, where it made one.
-#[tactic(auto, using(crate::proofs::Lines::lines), unfolding(crate::specs::Transcript::listed_text))]
+#[tactic(auto, using(crate::proofs::Lines::lines), unfolding(crate::specs::Replies::listed_text))]
 fn push_listed(line: &mut Vec<u8>, listed: Option<u64>) -> Result<(), NoMemory>
     ensures { OnOk result (line.new.items ≡ line.old.items ++ listed_text listed) }
 {
@@ -49,7 +49,7 @@ fn push_left(line: &mut Vec<u8>, left: &[Symbol]) -> Result<(), NoMemory>
 }
 
 /// The line of a reply, to the command of this number of whoever speaks.
-#[tactic(auto, using(crate::proofs::Lines::lines), unfolding(crate::specs::Transcript::reply_line))]
+#[tactic(auto, using(crate::proofs::Lines::lines), unfolding(crate::specs::Replies::reply_line))]
 pub fn reply_line(alloc: Global, who: &str, number: u64, reply: &Reply) -> Result<Vec<u8>, NoMemory>
     ensures { IfOk result (λ line. line.items ≡ reply_line who.now number reply.now) }
 {
@@ -68,7 +68,7 @@ pub fn reply_line(alloc: Global, who: &str, number: u64, reply: &Reply) -> Resul
 }
 
 /// The line of the end, at this place.
-#[tactic(auto, using(crate::proofs::Lines::lines), unfolding(crate::specs::Transcript::end_line))]
+#[tactic(auto, using(crate::proofs::Lines::lines), unfolding(crate::specs::Replies::end_line))]
 pub fn end_line(alloc: Global, place: u64) -> Result<Vec<u8>, NoMemory>
     ensures { IfOk result (λ line. line.items ≡ end_line place) }
 {

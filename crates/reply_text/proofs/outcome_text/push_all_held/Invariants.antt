@@ -1,7 +1,7 @@
 use Rattle.std.proofs.Common.{◌≡◌, ◌++◌, take}
 use Rattle.std.specs.List.{flat_map}
-use Rattle.program_run.specs.Transcript.{held_text}
-use Rattle.program_run.proofs.outcome_text.push_all_held.Given as goal
+use Rattle.reply_text.specs.Replies.{held_text}
+use Rattle.reply_text.proofs.outcome_text.push_all_held.Given as goal
 
 -- the symbols so far stand in the line
 abbrev pub invariant-loop-one : goal.invariant-loop-one

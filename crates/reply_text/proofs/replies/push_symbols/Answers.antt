@@ -1,6 +1,6 @@
 use Rattle.std.proofs.Common.{◌∙◌, false, Some, ap, sym}
-use Rattle.program_run.proofs.Commas.{further-more, got-at}
-use Rattle.program_run.proofs.reply_line.push_symbols.Goals as goal
+use Rattle.reply_text.proofs.Commas.{further-more, got-at}
+use Rattle.reply_text.proofs.replies.push_symbols.Goals as goal
 
 pub loop-place-preserved : goal.loop-place-preserved
 loop-place-preserved c =

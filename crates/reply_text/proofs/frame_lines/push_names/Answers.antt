@@ -1,8 +1,8 @@
 use Rattle.std.proofs.Common.{◌≡◌, ◌∙◌, List, Some, map, ap, subst, sym}
 use Rattle.std.specs.Prelude.{slice_get, option_map}
 use Rattle.frame_core.specs.Schemas.{Head, Schema}
-use Rattle.program_run.proofs.Commas.{further-more, got-at, slice_get-mapped}
-use Rattle.program_run.proofs.frame_lines.push_names.Goals as goal
+use Rattle.reply_text.proofs.Commas.{further-more, got-at, slice_get-mapped}
+use Rattle.reply_text.proofs.frame_lines.push_names.Goals as goal
 
 pub loop-place-preserved : goal.loop-place-preserved
 loop-place-preserved c =

@@ -4,8 +4,8 @@ ghost use Rattle.std.specs.Prelude.{◌≡◌, ◌++◌, ◌<◌, length, map, s
 ghost use Rattle.std.specs.Fmt.{signed_decimal};
 ghost use Rattle.frame_core.specs.Frames.{Row, cell_of};
 ghost use Rattle.frame_core.specs.Schemas.{Head};
-ghost use Rattle.program_run.specs.Commas.{further_fields};
-ghost use Rattle.program_run.specs.FrameText.{index_text, cell_text, record_text, header_fields, row_fields};
+ghost use Rattle.reply_text.specs.Commas.{further_fields};
+ghost use Rattle.reply_text.specs.FrameText.{index_text, cell_text, record_text, header_fields, row_fields};
 
 use crate::line::{push_comma, push_end, push_int, push_text};
 use base_types::NoMemory;
