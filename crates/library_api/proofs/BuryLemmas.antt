@@ -8,6 +8,8 @@ use Rattle.key_kind.specs.Names.{Name}
 use Rattle.bucket_core.specs.History.{History}
 use Rattle.expr_clause.specs.declared.command.Command.{Command}
 use Rattle.expr_clause.specs.declared.command.Command.TheVariants as commands
+use Rattle.reply_model.specs.Kinds.{Burial, burial_command}
+use Rattle.reply_model.specs.CommitAnswers.{buried_outcome}
 use Rattle.reply_model.specs.declared.outcome.Outcome.{Outcome}
 use Rattle.reply_model.specs.declared.outcome.Outcome.TheVariants as outcomes
 use Rattle.prune_rule.specs.declared.burying.Buried.{Buried}
@@ -17,9 +19,9 @@ use Rattle.prune_rule.specs.Reclaims.{keys_of_kind, reply_of, IsLegalReclaim}
 use Rattle.library_api.specs.Steps.{is_carried_out, plain_reply, IsLegalWithTries}
 use Rattle.library_api.proofs.NoEvents.{wants_memory}
 
-module _ (limit number tries before now : ℕ) (old new : History) (command : Command) where
-  pub burial_legal : (outcome : ℕ → Outcome) (result : Result Buried Refused) → IsLegalBurial limit number tries command outcome before now old new result → IsLegalWithTries limit number tries before now old new command (reply_to outcome result)
-  burial_legal outcome result legal s client same faulted rose = legal s faulted client same rose
+pub burial_legal : (limit number tries before now : ℕ) (old new : History) (symbol : Name) (burial : Burial) (result : Result Buried Refused) → IsLegalBurial limit number tries symbol burial before now old new result
+    → IsLegalWithTries limit number tries before now old new (burial_command symbol burial) (reply_to (buried_outcome burial) result)
+burial_legal limit number tries before now old new symbol burial result legal s client same faulted rose = legal s faulted client same rose
 
 pub burial_wants_memory : (limit number tries faults : ℕ) (old : History) (command : Command) (place : ℕ) → is_carried_out command ≡ true → place ≡ length old
     → IsLegalWithTries limit number tries faults faults old old command (plain_reply place (outcomes.Refused refusals.NoMemory))

@@ -2,34 +2,30 @@
 use Rattle.std.proofs.Common.{◌≡◌, ℕ, zero, suc, ◌+◌, ◌-◌, ◌≤◌, Bool, true, false, List, [], ◌∷◌, ◌++◌, length, take, refl, ap, sym, ◌∙◌, subst, inl, inr, cond, nat_eq, Option, None, arith, length-append}
 use Rattle.std.specs.Prelude.{⊤, ◌⊎◌, ◌&&◌, ◌||◌, filter, reverse, MatchBool}
 use Rattle.std.specs.List.{list_any, AllByRecursion}
-use Rattle.std.proofs.lemmas.Bool.{true≢false, ne_eqb}
+use Rattle.std.proofs.lemmas.Bool.{true≢false, ne_eqb, and_parts}
 use Rattle.bucket_core.specs.declared.event.Event.{Event}
 use Rattle.bucket_core.specs.History.{History, author, history_at, AllByOthers}
 use Rattle.bucket_core.specs.Laws.{Looks}
 use Rattle.store_model.specs.declared.snapshot.SnapBody.{SnapBody}
 use Rattle.store_model.specs.Law.{IsClaimed}
 use Rattle.version_chain.specs.States.{IsWithin}
-use Rattle.frame_core.specs.Texts.{Text}
-use Rattle.frame_core.specs.Ranges.{Range}
-use Rattle.key_kind.specs.Names.{Name}
-use Rattle.expr_clause.specs.declared.clause.Clause.{Clause}
-use Rattle.expr_clause.specs.declared.command.AsOf.{AsOf}
+use Rattle.expr_clause.specs.Fitting.{fits}
 use Rattle.expr_clause.specs.declared.command.Command.{Command}
-use Rattle.expr_clause.specs.declared.command.Command.TheVariants as commands
 use Rattle.reply_model.specs.declared.outcome.Outcome.TheVariants as outcomes
 use Rattle.frame_core.specs.declared.refusal.Refusal.TheVariants as refusals
 use Rattle.version_chain.proofs.Walked.{looks_none}
 use Rattle.reply_model.specs.declared.reply.Reply.{Reply}
+use Rattle.reply_model.specs.Kinds.{Kind, kind_of, Makes, Finalizes, Buries, Discards, Holds, Unholds}
 use Rattle.reply_model.specs.Answering.{Session}
 use Rattle.reply_model.specs.Windows.{Window, Client, own_events, refer_places, is_cut, is_store_fault, AreCommits}
 use Rattle.reply_model.specs.Tries.{one_if, IsTurn}
-use Rattle.reply_model.specs.OwnEvents.{IsOwn, IsBeginning, IsMeantAt, AreMeant, AnyMarks, is_done, is_last}
+use Rattle.reply_model.specs.OwnEvents.{IsOwnOf, IsOwn, IsBeginning, IsMeantAt, AreMeantOf, AreMeant, AnyMarks, is_done, is_last}
 use Rattle.reply_model.specs.Left.{left_of, known_events, stood_before, MayBeLeft}
-use Rattle.reply_model.specs.Legal.{IsListed, IsListedWithin, IsLegalOutcome, IsLegalSeen, IsLegalReply}
+use Rattle.reply_model.specs.Legal.{IsListedOf, IsListed, IsListedWithin, IsLegalOutcome, IsLegalSeen, IsLegalReply}
 use Rattle.reply_model.proofs.Places.{history_at_end, within_is_behind}
 use Rattle.version_chain.specs.Traces.{GoesOn}
 use Rattle.frame_write.proofs.LegalLemmas.{no_places, is_refer}
-use Rattle.library_api.specs.Steps.{is_carried_out, plain_reply, IsLegalIn}
+use Rattle.library_api.specs.Steps.{carries, clauses_of, is_carried_out, plain_reply, IsLegalIn}
 
 -- ---- no event of the window is the client's
 
@@ -58,7 +54,7 @@ pub record HasNone (c : Command) : Type 0 where
   pub listed : (reply : Reply) (own : List Event) → reply.listed ≡ None → IsListed c reply own
   pub own : (h : History) (s : Session) (w : Window) (reply : Reply) → IsOwn h s w c reply false []
   pub meant : (h : History) (s : Session) (reply : Reply) → AreMeant h s c reply []
-  pub left : (reply : Reply) (known : List Event) (before : Option SnapBody) → left_of c reply known before ≡ []
+  pub left : (reply : Reply) (known : List Event) (before : Option SnapBody) → left_of (kind_of c) reply known before ≡ []
 
 -- no try was made
 no_turn : (h : History) (s : Session) (w : Window) (symbol : _) (makes : Bool) → IsTurn h s w symbol makes false AnyMarks []
@@ -68,29 +64,41 @@ never_meant : (h : History) (s : Session) (c : Command) (reply : Reply) (b : Boo
 never_meant h s c reply true = tt
 never_meant h s c reply false = tt
 
--- a read makes no event
-pub read_has_none : (symbol : Name) (as_of : AsOf) (range : Range) (columns : Option (List Text)) (clauses : List Clause) → HasNone (commands.Read symbol as_of range columns clauses)
-read_has_none symbol as_of range columns clauses =
-    record { listed = λ r own n. n; own = λ h s w r. refl; meant = λ h s r. never_meant h s (commands.Read symbol as_of range columns clauses) r (is_store_fault r.outcome); left = λ r known before. refl }
+none_listed : (k : Kind) → carries k ≡ true → (reply : Reply) (own : List Event) → reply.listed ≡ None → IsListedOf k reply own
+none_listed (Finalizes symbol) out reply own e = absurd (true≢false (sym out))
+none_listed (Discards symbol) out reply own e = absurd (true≢false (sym out))
+none_listed (Holds snap picks) out reply own e = absurd (true≢false (sym out))
+none_listed k out reply own e = e
 
-pub served_has_none : (c : Command) → is_carried_out c ≡ true → HasNone c
-served_has_none (commands.Write symbol frame at prune) e = record { listed = λ r own n. n; own = λ h s w r. no_turn h s w symbol true; meant = λ h s r. never_meant h s (commands.Write symbol frame at prune) r (is_store_fault r.outcome); left = λ r known before. refl }
-served_has_none (commands.Append symbol frame at prune) e = record { listed = λ r own n. n; own = λ h s w r. no_turn h s w symbol true; meant = λ h s r. never_meant h s (commands.Append symbol frame at prune) r (is_store_fault r.outcome); left = λ r known before. refl }
-served_has_none (commands.Update symbol frame range upsert at prune) e = record { listed = λ r own n. n; own = λ h s w r. no_turn h s w symbol true; meant = λ h s r. never_meant h s (commands.Update symbol frame range upsert at prune) r (is_store_fault r.outcome); left = λ r known before. refl }
-served_has_none (commands.DeleteRange symbol range at prune) e = record { listed = λ r own n. n; own = λ h s w r. no_turn h s w symbol true; meant = λ h s r. never_meant h s (commands.DeleteRange symbol range at prune) r (is_store_fault r.outcome); left = λ r known before. refl }
-served_has_none (commands.Delete symbol versions) e = record { listed = λ r own n. n; own = λ h s w r. no_turn h s w symbol false; meant = λ h s r. never_meant h s (commands.Delete symbol versions) r (is_store_fault r.outcome); left = λ r known before. refl }
-served_has_none (commands.Prune symbol) e = record { listed = λ r own n. n; own = λ h s w r. no_turn h s w symbol false; meant = λ h s r. never_meant h s (commands.Prune symbol) r (is_store_fault r.outcome); left = λ r known before. refl }
-served_has_none (commands.Reclaim symbol) e = record { listed = λ r own n. n; own = λ h s w r. refl; meant = λ h s r. never_meant h s (commands.Reclaim symbol) r (is_store_fault r.outcome); left = λ r known before. refl }
-served_has_none (commands.Versions symbol) e = record { listed = λ r own n. n; own = λ h s w r. refl; meant = λ h s r. never_meant h s (commands.Versions symbol) r (is_store_fault r.outcome); left = λ r known before. refl }
-served_has_none (commands.Keys symbol) e = record { listed = λ r own n. n; own = λ h s w r. refl; meant = λ h s r. never_meant h s (commands.Keys symbol) r (is_store_fault r.outcome); left = λ r known before. refl }
-served_has_none (commands.Read symbol as_of range columns clauses) e = read_has_none symbol as_of range columns clauses
-served_has_none (commands.Stage symbol frame) e = absurd (true≢false (sym e))
-served_has_none (commands.Finalize symbol append sorted at prune) e = absurd (true≢false (sym e))
-served_has_none (commands.Discard symbol) e = absurd (true≢false (sym e))
-served_has_none (commands.Snapshot snap picks) e = absurd (true≢false (sym e))
-served_has_none (commands.DeleteSnapshot snap) e = absurd (true≢false (sym e))
-served_has_none commands.Symbols e = absurd (true≢false (sym e))
-served_has_none commands.Snapshots e = absurd (true≢false (sym e))
+none_done : (k : Kind) → carries k ≡ true → (h : History) (s : Session) (w : Window) (reply : Reply) → IsOwnOf h s w k reply false []
+none_done (Makes symbol) out h s w reply = no_turn h s w symbol true
+none_done (Buries symbol burial) out h s w reply = no_turn h s w symbol false
+none_done (Finalizes symbol) out h s w reply = absurd (true≢false (sym out))
+none_done (Discards symbol) out h s w reply = absurd (true≢false (sym out))
+none_done (Holds snap picks) out h s w reply = absurd (true≢false (sym out))
+none_done k out h s w reply = refl
+
+none_meant : (k : Kind) (h : History) (s : Session) (c : Command) (reply : Reply) → AreMeantOf h s c k reply []
+none_meant (Holds snap picks) h s c reply = tt
+none_meant (Unholds snap) h s c reply = tt
+none_meant k h s c reply = never_meant h s c reply (is_store_fault reply.outcome)
+
+none_left : (k : Kind) → carries k ≡ true → (reply : Reply) (known : List Event) (before : Option SnapBody) → left_of k reply known before ≡ []
+none_left (Holds snap picks) out reply known before = absurd (true≢false (sym out))
+none_left (Unholds snap) out reply known before = absurd (true≢false (sym out))
+none_left k out reply known before = refl
+
+-- a command that is carried out is of a kind that is
+pub carried_kind : (c : Command) → is_carried_out c ≡ true → carries (kind_of c) ≡ true
+carried_kind c out = (and_parts (carries (kind_of c)) (fits (clauses_of c)) out).0
+
+pub served_has_none : (c : Command) → carries (kind_of c) ≡ true → HasNone c
+served_has_none c out = record {
+  listed = λ reply own e. none_listed (kind_of c) out reply own e;
+  own = λ h s w reply. none_done (kind_of c) out h s w reply;
+  meant = λ h s reply. none_meant (kind_of c) h s c reply;
+  left = λ reply known before. none_left (kind_of c) out reply known before;
+}
 
 -- ---- its reply
 
@@ -139,7 +147,7 @@ module _ (client : Client) (c : Command) (reply : Reply) (old new : History) (fa
         late = late_fits (is_cut reply.outcome) reply.place within.from;
       };
       left = record {
-        left = left ∙ sym (has.left reply (known_events new number reply window) (stood_before new number c reply window));
+        left = left ∙ sym (has.left reply (known_events new number reply window) (stood_before new number (kind_of c) reply window));
         causes = subst (AllByRecursion (MayBeLeft new client.session reply window)) (sym left) tt;
       };
       outcome = outcome;
@@ -161,7 +169,7 @@ looks_go_on client sole old new looks = record {
 pub wants_memory : (client : Client) (c : Command) → is_carried_out c ≡ true → (before now : ℕ) (old : History) (place : ℕ) → place ≡ length old
     → IsLegalIn client before now old old c (plain_reply place (outcomes.Refused refusals.NoMemory))
 wants_memory client c served before now old place here faulted rose =
-    legal_without_events client c (plain_reply place (outcomes.Refused refusals.NoMemory)) old old faulted (served_has_none c served) true (looks_none client.session.client true old)
+    legal_without_events client c (plain_reply place (outcomes.Refused refusals.NoMemory)) old old faulted (served_has_none c (carried_kind c served)) true (looks_none client.session.client true old)
     refl refl refl (record { from = omega (arith, here); to = omega (arith, here) }) (λ cut. absurd (true≢false cut)) (free c place faulted)
   where
     free : (c : Command) (place : ℕ) (faulted : Bool) → IsLegalOutcome old client c (plain_reply place (outcomes.Refused refusals.NoMemory)) (record { start = length old; stop = length old; faulted = faulted }) (outcomes.Refused refusals.NoMemory)

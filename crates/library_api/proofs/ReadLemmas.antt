@@ -31,7 +31,7 @@ use Rattle.expr_clause.specs.declared.command.Command.TheVariants as commands
 use Rattle.reply_model.specs.declared.outcome.Outcome.{Outcome}
 use Rattle.reply_model.specs.declared.outcome.Outcome.TheVariants as outcomes
 use Rattle.reply_model.specs.Answering.{◌then◌, answered, Answer}
-use Rattle.reply_model.specs.ReadAnswers.{read_version, read_answer, select_columns, ask, query}
+use Rattle.reply_model.specs.ReadAnswers.{read_version, version_answer, select_columns, ask, query}
 use Rattle.reply_model.specs.Windows.{Client, library_at}
 use Rattle.reply_model.specs.Kinds.{cause_of, Told}
 use Rattle.reply_model.specs.Legal.{IsCaused, IsLegalOutcome}
@@ -48,7 +48,7 @@ use Rattle.frame_read.specs.Gathers.{AreOfFrame}
 use Rattle.frame_read.proofs.FetchLemmas.{links_later}
 use Rattle.frame_read.proofs.ResolvingLemmas.{lawful_at}
 use Rattle.library_api.specs.Steps.{plain_reply, refusal_reply, IsLegalForAll}
-use Rattle.library_api.proofs.NoEvents.{read_has_none, legal_without_events}
+use Rattle.library_api.proofs.NoEvents.{served_has_none, legal_without_events}
 use Rattle.library_api.proofs.QueryLemmas.{query_told}
 use Rattle.library_api.proofs.VersionLemmas.{version_later, read_is_version}
 use Rattle.library_api.proofs.AskedLemmas.{refused_by_schema, answered_by_schema, index_schema, fetched_version}
@@ -65,7 +65,7 @@ module _ (symbol : Name) (as_of : AsOf) (range : Range) (columns : Option (List 
 
   -- what the one-thread library answers by what is read
   abbrev from_version : Result Version Refusal → Option Answer
-  from_version r = Some (answered (r then λ v. read_answer v range columns clauses))
+  from_version r = Some (answered (r then λ v. version_answer v range columns clauses))
 
   abbrev from_frame : ℕ → Result Frame Refusal → Option Answer
   from_frame n r = Some (answered (r then λ f. Ok (record { outcome = outcomes.Whole n f; marks = [] })))
@@ -80,7 +80,7 @@ module _ (symbol : Name) (as_of : AsOf) (range : Range) (columns : Option (List 
         → IsLegalOutcome new client asks (plain_reply place outcome) (record { start = length old; stop = length new; faulted = faulted }) outcome)
         → IsLegalForAll number before now old new asks (plain_reply place outcome)
     read_legal place outcome within clause client own faulted rose =
-        legal_without_events client asks (plain_reply place outcome) old new faulted (read_has_none symbol as_of range columns clauses) sole (subst (λ n. Looks IsClaimed n sole old new) (sym own) looks)
+        legal_without_events client asks (plain_reply place outcome) old new faulted (served_has_none asks refl) sole (subst (λ n. Looks IsClaimed n sole old new) (sym own) looks)
         refl refl refl within (λ cut. refl) (clause client faulted own rose)
 
     -- memory is wanting

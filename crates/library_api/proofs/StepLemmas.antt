@@ -1,11 +1,10 @@
 -- The reply of an arm is the reply of the step.
 use Rattle.std.proofs.Common.{◌≡◌, ℕ, ℤ, Bool, true, ◌⊎◌, inl, inr, Result, Ok, List, length, refl, ap, sym, ◌∙◌, subst, Option, Some, map}
-use Rattle.std.specs.Prelude.{slice_get, unwrap_or, option_map, is_some}
+use Rattle.std.specs.Prelude.{slice_get, unwrap_or, option_map}
 use Rattle.std.proofs.lemmas.Bool.{true≢false}
 use Rattle.std.proofs.lemmas.Option.{slice_get-map}
 use Rattle.frame_core.specs.declared.raw.RawFrame.{RawFrame}
 use Rattle.frame_core.specs.declared.refusal.Refusal.{Refusal}
-use Rattle.frame_core.specs.Texts.{Text}
 use Rattle.frame_core.specs.Ranges.{Range}
 use Rattle.frame_core.specs.Frames.{Frame}
 use Rattle.frame_core.specs.RawFrames.{table_of, frame_of_table}
@@ -17,11 +16,10 @@ use Rattle.bucket_core.specs.History.{History}
 use Rattle.store_model.specs.Library.{State, first_of}
 use Rattle.store_model.specs.Snapshots.{Library}
 use Rattle.store_model.specs.Links.{links}
-use Rattle.expr_clause.specs.declared.clause.Clause.{Clause}
-use Rattle.expr_clause.specs.declared.command.AsOf.{AsOf}
 use Rattle.expr_clause.specs.declared.command.Command.{Command}
 use Rattle.expr_clause.specs.declared.command.Command.TheVariants as commands
 use Rattle.reply_model.specs.declared.reply.Reply.{Reply}
+use Rattle.reply_model.specs.Kinds.{kind_of, kind_makes}
 use Rattle.reply_model.specs.Answering.{Session, Answer, ◌then◌, answered, frame_of, stamp_of}
 use Rattle.reply_model.specs.Answers.{answer}
 use Rattle.reply_model.specs.Windows.{Window, Client, symbol_of}
@@ -30,13 +28,13 @@ use Rattle.reply_model.specs.Runs.{IsIsolated, LegalIsIsolated}
 use Rattle.reply_model.specs.Standing.{GrowsAlone, is_served, IsStep, IsLaid, LaysOut, LegalAloneSteps, LegalReclaimsAlone}
 use Rattle.reply_model.proofs.Places.{history_at_end}
 use Rattle.reply_model.proofs.GridCounts.{write_is_laid}
-use Rattle.reply_model.proofs.LaidWrites.{link_with, write_lays_out, makes_none, none_lays_out}
+use Rattle.reply_model.proofs.LaidWrites.{link_with, write_lays_out, none_lays_out}
 use Rattle.version_chain.specs.Traces.{GoesOn}
 use Rattle.frame_write.specs.declared.options.Options.{Options}
 use Rattle.reply_model.specs.CommitAnswers.{clear_answer}
 use Rattle.reply_model.specs.Blocks.{run_cutting}
 use Rattle.library_api.specs.declared.settings.Settings.{Settings}
-use Rattle.library_api.specs.Steps.{is_carried_out, frame_named, client_of, IsLegalIn, IsLegalForAll, IsLegalWithTries, IsIsolatedIn, LooksFirst, IsStepAlone}
+use Rattle.library_api.specs.Steps.{is_carried_out, client_of, IsLegalIn, IsLegalForAll, IsLegalWithTries, IsIsolatedIn, LooksFirst, IsStepAlone}
 use Rattle.library_api.specs.Frames.{IsLegalForTable, IsLegalWithStamp, IsWrittenAlone, StandsBehindPuts, LaysDone, LaysForTable}
 use Rattle.library_api.proofs.LayLemmas.{IsDone, frame_lays, clear_lays}
 
@@ -80,46 +78,11 @@ module _ (frames : List RawFrame) (settings : Settings) (number limit before now
 
 -- a command that is carried out is served, or it is a reclaim
 served_or_reclaim : (command : Command) → is_carried_out command ≡ true → (is_served command ≡ true) ⊎ ((symbol : Name) × (command ≡ commands.Reclaim symbol))
-served_or_reclaim (commands.Write symbol frame at prune) out = inl refl
-served_or_reclaim (commands.Append symbol frame at prune) out = inl refl
-served_or_reclaim (commands.Update symbol frame range upsert at prune) out = inl refl
-served_or_reclaim (commands.DeleteRange symbol range at prune) out = inl refl
-served_or_reclaim (commands.Stage symbol frame) out = absurd (true≢false (sym out))
-served_or_reclaim (commands.Finalize symbol append sorted at prune) out = absurd (true≢false (sym out))
-served_or_reclaim (commands.Discard symbol) out = absurd (true≢false (sym out))
-served_or_reclaim (commands.Delete symbol versions) out = inl refl
-served_or_reclaim (commands.Prune symbol) out = inl refl
 served_or_reclaim (commands.Reclaim symbol) out = inr (symbol, refl)
-served_or_reclaim (commands.Versions symbol) out = inl refl
-served_or_reclaim (commands.Keys symbol) out = inl refl
-served_or_reclaim (commands.Snapshot snap picks) out = absurd (true≢false (sym out))
-served_or_reclaim (commands.DeleteSnapshot snap) out = absurd (true≢false (sym out))
-served_or_reclaim commands.Symbols out = absurd (true≢false (sym out))
-served_or_reclaim commands.Snapshots out = absurd (true≢false (sym out))
+served_or_reclaim commands.Symbols out = inl refl
+served_or_reclaim commands.Snapshots out = inl refl
 served_or_reclaim (commands.Read symbol as_of range columns clauses) out = inl refl
-
--- a command that is carried out and is none of those without a frame brings one
-pub frame_brought : (command : Command) → is_carried_out command ≡ true → ((symbol : Name) (range : Range) (at : Option ℤ) (prune : Bool) → command ≡ commands.DeleteRange symbol range at prune → ⊥)
-    → ((symbol : Name) (as_of : AsOf) (range : Range) (columns : Option (List Text)) (clauses : List Clause) → command ≡ commands.Read symbol as_of range columns clauses → ⊥) → ((symbol : Name) → command ≡ commands.Keys symbol → ⊥)
-    → ((symbol : Name) → command ≡ commands.Versions symbol → ⊥) → ((symbol : Name) (versions : Option (List ℕ)) → command ≡ commands.Delete symbol versions → ⊥) → ((symbol : Name) → command ≡ commands.Prune symbol → ⊥)
-    → ((symbol : Name) → command ≡ commands.Reclaim symbol → ⊥) → is_some (frame_named command) ≡ true
-frame_brought (commands.Write symbol frame at prune) out range read keys versions delete prunes reclaim = refl
-frame_brought (commands.Append symbol frame at prune) out range read keys versions delete prunes reclaim = refl
-frame_brought (commands.Update symbol frame within upsert at prune) out range read keys versions delete prunes reclaim = refl
-frame_brought (commands.DeleteRange symbol within at prune) out range read keys versions delete prunes reclaim = absurd (range symbol within at prune refl)
-frame_brought (commands.Stage symbol frame) out range read keys versions delete prunes reclaim = refl
-frame_brought (commands.Finalize symbol append sorted at prune) out range read keys versions delete prunes reclaim = absurd (true≢false (sym out))
-frame_brought (commands.Discard symbol) out range read keys versions delete prunes reclaim = absurd (true≢false (sym out))
-frame_brought (commands.Delete symbol numbers) out range read keys versions delete prunes reclaim = absurd (delete symbol numbers refl)
-frame_brought (commands.Prune symbol) out range read keys versions delete prunes reclaim = absurd (prunes symbol refl)
-frame_brought (commands.Reclaim symbol) out range read keys versions delete prunes reclaim = absurd (reclaim symbol refl)
-frame_brought (commands.Versions symbol) out range read keys versions delete prunes reclaim = absurd (versions symbol refl)
-frame_brought (commands.Keys symbol) out range read keys versions delete prunes reclaim = absurd (keys symbol refl)
-frame_brought (commands.Snapshot snap picks) out range read keys versions delete prunes reclaim = absurd (true≢false (sym out))
-frame_brought (commands.DeleteSnapshot snap) out range read keys versions delete prunes reclaim = absurd (true≢false (sym out))
-frame_brought commands.Symbols out range read keys versions delete prunes reclaim = absurd (true≢false (sym out))
-frame_brought commands.Snapshots out range read keys versions delete prunes reclaim = absurd (true≢false (sym out))
-frame_brought (commands.Read symbol as_of within columns clauses) out range read keys versions delete prunes reclaim = absurd (read symbol as_of within columns clauses refl)
+served_or_reclaim command out = inl out
 
 -- a command that is served is no reclaim
 pub no_reclaim : {P : Type 0} (command c : Command) (symbol : Name) → command ≡ c → is_served c ≡ true → command ≡ commands.Reclaim symbol → P
@@ -153,7 +116,7 @@ lays_as : (settings : Settings) (s : Session) (old new : History) (command c : C
 lays_as settings s old new command c reply is lays = subst (λ c. LaysOut (run_cutting settings.cutting) s c reply old new) (sym is) lays
 
 -- a command that makes no version leaves nothing open
-pub none_lays : (settings : Settings) (s : Session) (old new : History) (command c : Command) (reply : Reply) → command ≡ c → makes_none c ≡ true → LaysOut (run_cutting settings.cutting) s command reply old new
+pub none_lays : (settings : Settings) (s : Session) (old new : History) (command c : Command) (reply : Reply) → command ≡ c → kind_makes (kind_of c) ≡ false → LaysOut (run_cutting settings.cutting) s command reply old new
 none_lays settings s old new command c reply is none = lays_as settings s old new command c reply is (none_lays_out (run_cutting settings.cutting) s c reply old new none)
 
 -- how the write is laid out

@@ -1,5 +1,6 @@
 -- What one step of a library does.
---     is_carried_out      the commands that a step carries out
+--     carries, is_carried_out      the commands that a step carries out
+--     reads_or_makes      the kinds of command that read or make a version
 --     frame_named, IsNamed      the frame that a command names, which is to be there
 --     reply_with, plain_reply, refusal_reply      replies that name a place, an outcome, and commits or none
 --     client_of           what the replies of a library are judged by
@@ -8,19 +9,21 @@
 --     IsLegalWithTries    it is legal whatever the session brings beside its tries
 --     IsIsolatedIn        alone on its symbol, a step answers what it would answer where its window begins
 --     LooksFirst, IsStepAlone      where nobody else makes events, a reclaim looked where it began, and a step is that of one client alone
-use Rattle.std.specs.Prelude.{◌≡◌, ℕ, ◌<◌, Bool, true, false, List, [], map, length, Option, Some, None, IfSome}
+use Rattle.std.specs.Prelude.{◌≡◌, ℕ, ◌<◌, Bool, true, false, ◌&&◌, List, [], map, length, Option, Some, None, IfSome}
 use Rattle.base_types.specs.Faults.{Rose}
 use Rattle.frame_core.specs.declared.raw.RawFrame.{RawFrame}
 use Rattle.frame_core.specs.declared.refusal.Refused.{Refused}
 use Rattle.frame_core.specs.RawFrames.{table_of}
 use Rattle.bucket_core.specs.History.{History}
 use Rattle.store_model.specs.Law.{IsLawful}
+use Rattle.expr_clause.specs.declared.clause.Clause.{Clause}
 use Rattle.expr_clause.specs.declared.command.Command.{Command}
 use Rattle.expr_clause.specs.declared.command.Command.TheVariants as commands
 use Rattle.expr_clause.specs.Fitting.{fits}
 use Rattle.reply_model.specs.declared.outcome.Outcome.{Outcome}
 use Rattle.reply_model.specs.declared.outcome.Outcome.TheVariants as outcomes
 use Rattle.reply_model.specs.declared.reply.Reply.{Reply}
+use Rattle.reply_model.specs.Kinds.{Kind, kind_of, Makes, Finalizes, Discards, Stages, Reads, Counts, Lists, Holds, Unholds}
 use Rattle.reply_model.specs.Answering.{Session}
 use Rattle.reply_model.specs.Windows.{Client, is_cut, is_refused}
 use Rattle.reply_model.specs.Runs.{IsIsolated}
@@ -31,19 +34,31 @@ use Rattle.library_api.specs.declared.settings.Settings.{Settings}
 
 -- ---- commands
 
--- a command that a step carries out: a read has clauses within their limits
+-- the kinds of command that a step carries out: all but these
+abbrev pub carries : Kind → Bool
+carries (Finalizes symbol) = false
+carries (Discards symbol) = false
+carries (Stages symbol frame) = false
+carries Lists = false
+carries (Holds snap picks) = false
+carries (Unholds snap) = false
+carries _ = true
+
+-- the clauses of a command; only a read has some
+abbrev pub clauses_of : Command → List Clause
+clauses_of (commands.Read symbol as_of range columns clauses) = clauses
+clauses_of _ = []
+
+-- a command that a step carries out: one of these kinds, whose clauses are within their limits
 abbrev pub is_carried_out : Command → Bool
-is_carried_out (commands.Write symbol frame at prune) = true
-is_carried_out (commands.Append symbol frame at prune) = true
-is_carried_out (commands.Update symbol frame range upsert at prune) = true
-is_carried_out (commands.DeleteRange symbol range at prune) = true
-is_carried_out (commands.Delete symbol versions) = true
-is_carried_out (commands.Prune symbol) = true
-is_carried_out (commands.Reclaim symbol) = true
-is_carried_out (commands.Versions symbol) = true
-is_carried_out (commands.Keys symbol) = true
-is_carried_out (commands.Read symbol as_of range columns clauses) = fits clauses
-is_carried_out _ = false
+is_carried_out c = carries (kind_of c) && fits (clauses_of c)
+
+-- of these, the kinds of command that read a symbol or make a version of it
+abbrev pub reads_or_makes : Kind → Bool
+reads_or_makes (Makes symbol) = true
+reads_or_makes (Reads symbol) = true
+reads_or_makes (Counts symbol) = true
+reads_or_makes _ = false
 
 -- the number of the frame that a command names
 abbrev pub frame_named : Command → Option ℕ

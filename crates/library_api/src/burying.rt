@@ -2,6 +2,7 @@
 
 ghost use Rattle.std.specs.Prelude.{◌≡◌, ◌≤◌, option_copied};
 ghost use Rattle.bucket_core.specs.Calls.{IsSteady};
+ghost use Rattle.reply_model.specs.Kinds.{burial_command, Listed, Older};
 ghost use Rattle.prune_rule.specs.Replies.{commits_of};
 ghost use Rattle.version_chain.specs.Traces.{GoesOn};
 ghost use Rattle.library_api.specs.Steps.{reply_with, IsLegalWithTries};
@@ -9,7 +10,6 @@ ghost use Rattle.library_api.specs.Steps.{reply_with, IsLegalWithTries};
 use crate::commit_place::CommitPlace;
 use crate::reply::{out_of_memory, plain, refusal, with_commits};
 use bucket_core::Bucket;
-use expr_clause::Command;
 use key_kind::Symbol;
 use prune_rule::{Buried, delete_versions};
 use reply_model::{Outcome, Reply};
@@ -30,7 +30,7 @@ pub(crate) fn delete<R: Wait, B: Bucket<StoreLaw>>(
     requires few_tries { tries ≤ 1000 }
     ensures steady { IsSteady B.number B.limit B.faults B.sole bucket.old bucket.new }
     ensures grown { GoesOn (B.number bucket.old) (B.sole bucket.old) (B.seen bucket.old) (B.seen bucket.new) }
-    ensures legal { IsLegalWithTries (B.limit bucket.old) (B.number bucket.old) tries (B.faults bucket.old) (B.faults bucket.new) (B.seen bucket.old) (B.seen bucket.new) (Command.Delete symbol.now (option_copied versions.entry)) result }
+    ensures legal { IsLegalWithTries (B.limit bucket.old) (B.number bucket.old) tries (B.faults bucket.old) (B.faults bucket.new) (B.seen bucket.old) (B.seen bucket.new) (burial_command symbol.now (Listed (option_copied versions.entry))) result }
 {
     let Ok(commit) = CommitPlace::new(alloc) else {
         return refusal(alloc, out_of_memory(bucket.place()));
@@ -58,7 +58,7 @@ pub(crate) fn prune<R: Wait, B: Bucket<StoreLaw>>(
     requires few_tries { tries ≤ 1000 }
     ensures steady { IsSteady B.number B.limit B.faults B.sole bucket.old bucket.new }
     ensures grown { GoesOn (B.number bucket.old) (B.sole bucket.old) (B.seen bucket.old) (B.seen bucket.new) }
-    ensures legal { IsLegalWithTries (B.limit bucket.old) (B.number bucket.old) tries (B.faults bucket.old) (B.faults bucket.new) (B.seen bucket.old) (B.seen bucket.new) (Command.Prune symbol.now) result }
+    ensures legal { IsLegalWithTries (B.limit bucket.old) (B.number bucket.old) tries (B.faults bucket.old) (B.faults bucket.new) (B.seen bucket.old) (B.seen bucket.new) (burial_command symbol.now Older) result }
 {
     let Ok(commit) = CommitPlace::new(alloc) else {
         return refusal(alloc, out_of_memory(bucket.place()));

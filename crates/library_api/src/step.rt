@@ -1,13 +1,14 @@
 //! One command, by its kind.
 
-ghost use Rattle.std.specs.Prelude.{◌≡◌, ◌<◌, true, Some, length, slice_get, is_some, option_copied};
+ghost use Rattle.std.specs.Prelude.{◌≡◌, ◌<◌, true, Some, length, slice_get, option_copied};
 ghost use Rattle.key_kind.specs.Names.{Name as NameBytes};
 ghost use Rattle.bucket_core.specs.Calls.{IsSteady};
 ghost use Rattle.version_chain.specs.Traces.{GoesOn};
+ghost use Rattle.reply_model.specs.Kinds.{kind_of, kind_makes};
 ghost use Rattle.reply_model.specs.Standing.{GrowsAlone, LaysOut};
 ghost use Rattle.reply_model.specs.Blocks.{run_cutting};
 ghost use Rattle.library_api.specs.Libraries.{AreSettings};
-ghost use Rattle.library_api.specs.Steps.{is_carried_out, frame_named, IsNamed, client_of, IsLegalIn, LooksFirst};
+ghost use Rattle.library_api.specs.Steps.{is_carried_out, reads_or_makes, IsNamed, client_of, IsLegalIn, LooksFirst};
 
 use crate::appending::append;
 use crate::burying::{delete, prune};
@@ -47,47 +48,17 @@ pub(crate) fn perform<R: Wait, B: Bucket<StoreLaw>>(
     ensures looked { (named : NameBytes) → command.now ≡ Command.Reclaim named → LooksFirst (B.number bucket.old) (B.seen bucket.old) (B.seen bucket.new) result }
 {
     match command {
-        Command::DeleteRange {
-            symbol,
-            range,
-            at,
-            prune,
-        } => {
-            let options = settings.options(*at, *prune);
-            delete_range(rt, alloc, bucket, symbol, *range, &options)
-        }
-        Command::Read {
-            symbol,
-            as_of,
-            range,
-            columns,
-            clauses,
-        } => {
-            let columns = lent(columns);
-            read(
-                rt,
-                alloc,
-                bucket,
-                symbol,
-                as_of,
-                *range,
-                columns,
-                clauses.items(),
-            )
-        }
-        Command::Keys { symbol } => keys(rt, alloc, bucket, symbol),
-        Command::Versions { symbol } => versions(rt, alloc, bucket, symbol),
         Command::Delete { symbol, versions } => {
             delete(rt, alloc, bucket, symbol, lent(versions), settings.tries)
         }
         Command::Prune { symbol } => prune(rt, alloc, bucket, symbol, settings.tries),
         Command::Reclaim { symbol } => reclaim(rt, alloc, bucket, symbol, settings.tries),
-        _ => bring_frame(rt, alloc, bucket, settings, command, frames),
+        _ => read_or_make(rt, alloc, bucket, settings, command, frames),
     }
 }
 
-/// Carries out a command that brings a frame. It may wait for the store.
-fn bring_frame<R: Wait, B: Bucket<StoreLaw>>(
+/// Carries out a command that reads a symbol, or makes a version of it. It may wait for the store.
+fn read_or_make<R: Wait, B: Bucket<StoreLaw>>(
     rt: &R,
     alloc: Global,
     bucket: &mut B,
@@ -97,7 +68,44 @@ fn bring_frame<R: Wait, B: Bucket<StoreLaw>>(
 ) -> Reply
     requires settings { AreSettings settings }
     requires served { is_carried_out command.now ≡ true }
-    requires framed { is_some (frame_named command.now) ≡ true }
+    requires of_kind { reads_or_makes (kind_of command.now) ≡ true }
+    requires named { IsNamed (length frames.now) command.now }
+    ensures steady { IsSteady B.number B.limit B.faults B.sole bucket.old bucket.new }
+    ensures grown { GoesOn (B.number bucket.old) (B.sole bucket.old) (B.seen bucket.old) (B.seen bucket.new) }
+    ensures legal { IsLegalIn (client_of frames.now settings (B.number bucket.old) (B.limit bucket.old)) (B.faults bucket.old) (B.faults bucket.new) (B.seen bucket.old) (B.seen bucket.new) command.now result }
+    // Where nobody else makes events, it is known how a new version is laid out.
+    ensures lays { GrowsAlone (B.number bucket.old) (B.seen bucket.old) (B.seen bucket.new) → LaysOut (run_cutting settings.cutting) (client_of frames.now settings (B.number bucket.old) (B.limit bucket.old)).session command.now result (B.seen bucket.old) (B.seen bucket.new) }
+{
+    match command {
+        Command::Read {
+            symbol,
+            as_of,
+            range,
+            columns,
+            clauses,
+        } => {
+            let columns = lent(columns);
+            let clauses = clauses.items();
+            read(rt, alloc, bucket, symbol, as_of, *range, columns, clauses)
+        }
+        Command::Keys { symbol } => keys(rt, alloc, bucket, symbol),
+        Command::Versions { symbol } => versions(rt, alloc, bucket, symbol),
+        _ => make_version(rt, alloc, bucket, settings, command, frames),
+    }
+}
+
+/// Carries out a command that makes a version. It may wait for the store.
+fn make_version<R: Wait, B: Bucket<StoreLaw>>(
+    rt: &R,
+    alloc: Global,
+    bucket: &mut B,
+    settings: Settings,
+    command: &Command,
+    frames: &[RawFrame],
+) -> Reply
+    requires settings { AreSettings settings }
+    requires served { is_carried_out command.now ≡ true }
+    requires of_kind { kind_makes (kind_of command.now) ≡ true }
     requires named { IsNamed (length frames.now) command.now }
     ensures steady { IsSteady B.number B.limit B.faults B.sole bucket.old bucket.new }
     ensures grown { GoesOn (B.number bucket.old) (B.sole bucket.old) (B.seen bucket.old) (B.seen bucket.new) }
@@ -138,6 +146,15 @@ fn bring_frame<R: Wait, B: Bucket<StoreLaw>>(
             let raw = frame_at(frames, *frame);
             update(rt, alloc, bucket, symbol, raw, *range, *upsert, &options)
         }
+        Command::DeleteRange {
+            symbol,
+            range,
+            at,
+            prune,
+        } => {
+            let options = settings.options(*at, *prune);
+            delete_range(rt, alloc, bucket, symbol, *range, &options)
+        }
         _ => unreachable!(),
     }
 }
@@ -148,16 +165,14 @@ pub fn is_carried_out(command: &Command) -> bool
 {
     match command {
         Command::Read { clauses, .. } => fits(clauses.items()),
-        Command::Write { .. }
-        | Command::Append { .. }
-        | Command::Update { .. }
-        | Command::DeleteRange { .. }
-        | Command::Delete { .. }
-        | Command::Prune { .. }
-        | Command::Reclaim { .. }
-        | Command::Versions { .. }
-        | Command::Keys { .. } => true,
-        _ => false,
+        Command::Stage { .. }
+        | Command::Finalize { .. }
+        | Command::Discard { .. }
+        | Command::Snapshot { .. }
+        | Command::DeleteSnapshot { .. }
+        | Command::Symbols
+        | Command::Snapshots => false,
+        _ => true,
     }
 }
 

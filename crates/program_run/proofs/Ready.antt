@@ -19,23 +19,15 @@ use Rattle.program_run.specs.Preparing.{parts_in}
 
 -- the frame that a command names is there
 loaded_command : (n : ℕ) (c : Command) → IsLoaded n c → IsNamed n c
-loaded_command n (commands.Write symbol frame at prune) loaded = loaded
-loaded_command n (commands.Append symbol frame at prune) loaded = loaded
-loaded_command n (commands.Update symbol frame range upsert at prune) loaded = loaded
-loaded_command n (commands.DeleteRange symbol range at prune) loaded = tt
 loaded_command n (commands.Stage symbol frame) loaded = absurd loaded
 loaded_command n (commands.Finalize symbol append sorted at prune) loaded = absurd loaded
 loaded_command n (commands.Discard symbol) loaded = absurd loaded
-loaded_command n (commands.Delete symbol versions) loaded = tt
-loaded_command n (commands.Prune symbol) loaded = tt
-loaded_command n (commands.Reclaim symbol) loaded = tt
-loaded_command n (commands.Versions symbol) loaded = tt
-loaded_command n (commands.Keys symbol) loaded = tt
 loaded_command n (commands.Snapshot snap picks) loaded = absurd loaded
 loaded_command n (commands.DeleteSnapshot snap) loaded = absurd loaded
 loaded_command n commands.Symbols loaded = absurd loaded
 loaded_command n commands.Snapshots loaded = absurd loaded
 loaded_command n (commands.Read symbol as_of range columns clauses) loaded = tt
+loaded_command n c loaded = loaded
 
 -- the commands of one part
 ready-part : (n : ℕ) (list : List Command) → AllLoaded n list → list_all is_carried_out list ≡ true → AreNamed n list

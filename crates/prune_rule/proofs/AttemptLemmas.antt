@@ -30,11 +30,11 @@ use Rattle.version_chain.proofs.MarkingLemmas.{quiet_state}
 use Rattle.version_chain.proofs.SteadyLemmas.{cause_sooner, rose_sooner}
 use Rattle.reply_model.specs.Tries.{Before, IsTry, of_mark, index_linked}
 use Rattle.reply_model.proofs.Places.{history_at_end}
-use Rattle.prune_rule.specs.declared.choosing.Wish.{Wish}
+use Rattle.reply_model.specs.Kinds.{Burial}
 use Rattle.prune_rule.specs.declared.burying.Buried.{Buried}
 use Rattle.prune_rule.specs.declared.burying.Tried.{Tried}
 use Rattle.prune_rule.specs.declared.burying.Tried.TheVariants as tried
-use Rattle.prune_rule.specs.Burials.{bury_answer}
+use Rattle.reply_model.specs.CommitAnswers.{bury_answer}
 use Rattle.prune_rule.specs.Tries as burials
 use Rattle.prune_rule.specs.Tries.{DidBury, DidNothing, DidRefuse, DidMeet, IsPart, HasToBury, DidStop, DidFault, DidEnd, DidAttempt, IsMetBy}
 use Rattle.prune_rule.proofs.BuryLemmas.{bury_fits, bury_staging}
@@ -60,9 +60,9 @@ look_stops client sole old new refused g w =
       few = subst (λ (es : List Event). length es ≤ cond (is_fault refused.why) 1 0) (sym (own_of-others client s.0 s.4)) (omega arith);
     }
 
-pub walk_stops : (client : ℕ) (sole : Bool) (symbol : Name) (wish : Wish) (limit before now : ℕ) (old new : History) (refused : Refused) → Looks IsClaimed client sole old new → RefusesWalk before now old new refused
-    → DidEnd client sole symbol wish limit before now old new (Err refused)
-walk_stops client sole symbol wish limit before now old new refused g r = inr (inl (record {
+pub walk_stops : (client : ℕ) (sole : Bool) (symbol : Name) (burial : Burial) (limit before now : ℕ) (old new : History) (refused : Refused) → Looks IsClaimed client sole old new → RefusesWalk before now old new refused
+    → DidEnd client sole symbol burial limit before now old new (Err refused)
+walk_stops client sole symbol burial limit before now old new refused g r = inr (inl (record {
   own = [];
   went = went_looks client sole old new g;
   part = burials.no_event;
@@ -73,7 +73,7 @@ walk_stops client sole symbol wish limit before now old new refused g r = inr (i
 
 -- ---- the walk gave the state
 
-module _ (client : ℕ) (sole : Bool) (symbol : Name) (wish : Wish) (limit before : ℕ) (old walked : History) (state : SymbolState) (looks : Looks IsClaimed client sole old walked) (seen : IsStateAt walked symbol state) (place : IsWithin old walked state.place) where
+module _ (client : ℕ) (sole : Bool) (symbol : Name) (burial : Burial) (limit before : ℕ) (old walked : History) (state : SymbolState) (looks : Looks IsClaimed client sole old walked) (seen : IsStateAt walked symbol state) (place : IsWithin old walked state.place) where
   parts : (mid : History) × (seen.before ≡ mid ++ old) × (looks.others ≡ seen.later ++ mid)
   parts = split_more seen.later seen.before looks.others old (sym seen.split ∙ looks.is) (subst (λ n. length old ≤ n) seen.place place.from)
 
@@ -93,11 +93,11 @@ module _ (client : ℕ) (sole : Bool) (symbol : Name) (wish : Wish) (limit befor
 
   -- ---- the choice
 
-  pub choice_refused : (now : ℕ) (why : Refusal) → bury_answer wish (state_of seen.before symbol) ≡ Err why → DidEnd client sole symbol wish limit before now old walked (Err (record { place = state.place; why = why }))
-  choice_refused now why e = inl (record { went = went_walked; place = place; answered = ap (λ h. bury_answer wish (state_of h symbol)) (then_is []) ∙ e })
+  pub choice_refused : (now : ℕ) (why : Refusal) → bury_answer burial (state_of seen.before symbol) ≡ Err why → DidEnd client sole symbol burial limit before now old walked (Err (record { place = state.place; why = why }))
+  choice_refused now why e = inl (record { went = went_walked; place = place; answered = ap (λ h. bury_answer burial (state_of h symbol)) (then_is []) ∙ e })
 
-  pub choice_stops : (now : ℕ) (why : Refusal) → why ≡ refusals.NoMemory → DidEnd client sole symbol wish limit before now old walked (Err (record { place = state.place; why = why }))
-  choice_stops now why is = subst (λ y. DidEnd client sole symbol wish limit before now old walked (Err (record { place = state.place; why = y }))) (sym is) (inr (inl (record {
+  pub choice_stops : (now : ℕ) (why : Refusal) → why ≡ refusals.NoMemory → DidEnd client sole symbol burial limit before now old walked (Err (record { place = state.place; why = why }))
+  choice_stops now why is = subst (λ y. DidEnd client sole symbol burial limit before now old walked (Err (record { place = state.place; why = y }))) (sym is) (inr (inl (record {
     own = [];
     went = went_walked;
     part = burials.no_event;
@@ -106,23 +106,23 @@ module _ (client : ℕ) (sole : Bool) (symbol : Name) (wish : Wish) (limit befor
     busy = λ count e. cc;
   })))
 
-  pub nothing_chosen : (now : ℕ) (done : Buried) → bury_answer wish (state_of seen.before symbol) ≡ Ok [] → done.versions ≡ 0 → done.place ≡ state.place → done.commit ≡ None → DidEnd client sole symbol wish limit before now old walked (Ok done)
+  pub nothing_chosen : (now : ℕ) (done : Buried) → bury_answer burial (state_of seen.before symbol) ≡ Ok [] → done.versions ≡ 0 → done.place ≡ state.place → done.commit ≡ None → DidEnd client sole symbol burial limit before now old walked (Ok done)
   nothing_chosen now done e none at commit = inr (record {
     went = went_walked;
     place = subst (IsWithin old walked) (sym at) place;
-    answered = ap (λ n. bury_answer wish (state_of (history_at walked n) symbol)) at ∙ (ap (λ h. bury_answer wish (state_of h symbol)) (then_is []) ∙ e);
+    answered = ap (λ n. bury_answer burial (state_of (history_at walked n) symbol)) at ∙ (ap (λ h. bury_answer burial (state_of h symbol)) (then_is []) ∙ e);
     versions = none;
     commit = commit;
   })
 
   -- ---- the commit
 
-  module _ (numbers : List ℕ) (filled : IsFilled numbers) (chosen : bury_answer wish (state_of seen.before symbol) ≡ Ok numbers) where
+  module _ (numbers : List ℕ) (filled : IsFilled numbers) (chosen : bury_answer burial (state_of seen.before symbol) ≡ Ok numbers) where
     abbrev change : Change
     change = changes.Removed numbers
 
     pub may_mark : MayMark walked client symbol state change
-    may_mark = record { at = seen; none_own = others_refer_not client symbol seen.later later_by_others; fits = bury_fits (state_of seen.before symbol) (versions_numbered seen.before symbol) wish numbers chosen filled }
+    may_mark = record { at = seen; none_own = others_refer_not client symbol seen.later later_by_others; fits = bury_fits (state_of seen.before symbol) (versions_numbered seen.before symbol) burial numbers chosen filled }
 
     -- the element is all that a try puts
     tombs_link_none : (ns : List ℕ) → index_linked (map marks.Tomb ns ++ []) ≡ None
@@ -142,18 +142,18 @@ module _ (client : ℕ) (sole : Bool) (symbol : Name) (wish : Wish) (limit befor
     }
 
     -- the place at which there is something to bury
-    busy_at : (new : History) (own : List Event) → Went client sole walked new own → (upto : ℕ) → length walked ≤ upto → HasToBury symbol wish old new upto
+    busy_at : (new : History) (own : List Event) → Went client sole walked new own → (upto : ℕ) → length walked ≤ upto → HasToBury symbol burial old new upto
     busy_at new own w upto le = record {
       place = state.place;
       within = record { from = place.from; to = let longer = went_longer client sole walked new own w in omega (arith, place.to, longer) };
       before = omega (arith, place.to, le);
       numbers = numbers;
       filled = filled;
-      answered = ap (λ h. bury_answer wish (state_of (history_at h state.place) symbol)) w.is ∙ (ap (λ h. bury_answer wish (state_of h symbol)) (then_is w.more) ∙ chosen);
+      answered = ap (λ h. bury_answer burial (state_of (history_at h state.place) symbol)) w.is ∙ (ap (λ h. bury_answer burial (state_of h symbol)) (then_is w.more) ∙ chosen);
     }
 
     pub mark_buries : (new : History) (at : ℕ) → Marked client sole symbol state.place change walked new at → (done : Buried) → done.versions ≡ length numbers → done.place ≡ at → done.commit ≡ Some at
-        → DidBury client sole symbol wish old new done
+        → DidBury client sole symbol burial old new done
     mark_buries new at m done versions placed commit = record {
       numbers = numbers;
       filled = filled;
@@ -165,7 +165,7 @@ module _ (client : ℕ) (sole : Bool) (symbol : Name) (wish : Wish) (limit befor
       newest = m.newest;
       went = went_then client sole old walked m.before [] (events.Put client m.entry m.body ∷ []) went_walked m.went;
       lawful = λ l. m.lawful (went_walked.lawful l);
-      answered = ap (λ h. bury_answer wish (state_of h symbol)) before_is ∙ (ap (bury_answer wish) same.1 ∙ (bury_staging wish same.0 (state_of seen.before symbol) ∙ chosen));
+      answered = ap (λ h. bury_answer burial (state_of h symbol)) before_is ∙ (ap (bury_answer burial) same.1 ∙ (bury_staging burial same.0 (state_of seen.before symbol) ∙ chosen));
       versions = versions;
       place = placed ∙ m.place_is;
       commit = commit ∙ ap Some m.place_is;
@@ -177,7 +177,7 @@ module _ (client : ℕ) (sole : Bool) (symbol : Name) (wish : Wish) (limit befor
         same : (more : List Piece) × (state_of ((m.went.more ++ seen.later) ++ seen.before) symbol ≡ staging more (state_of seen.before symbol))
         same = quiet_state seen.before (m.went.more ++ seen.later) symbol state.place seen.place (subst (λ h. refers_after h symbol state.place ≡ false) before_is m.quiet)
 
-    pub mark_meets : (new : History) (refused : Refused) → MarkMet client sole symbol state.place change walked new refused → (now : ℕ) → refused.why ≡ refusals.Moved now → DidMeet client sole symbol wish old new now
+    pub mark_meets : (new : History) (refused : Refused) → MarkMet client sole symbol state.place change walked new refused → (now : ℕ) → refused.why ≡ refusals.Moved now → DidMeet client sole symbol burial old new now
     mark_meets new refused m now is = record {
       entry = m.entry;
       body = m.body;
@@ -192,7 +192,7 @@ module _ (client : ℕ) (sole : Bool) (symbol : Name) (wish : Wish) (limit befor
         before = omega (arith, m.met.added, moved);
         numbers = numbers;
         filled = filled;
-        answered = ap (λ h. bury_answer wish (state_of (history_at h state.place) symbol)) whole.is ∙ (ap (λ h. bury_answer wish (state_of h symbol)) (then_is whole.more) ∙ chosen);
+        answered = ap (λ h. bury_answer burial (state_of (history_at h state.place) symbol)) whole.is ∙ (ap (λ h. bury_answer burial (state_of h symbol)) (then_is whole.more) ∙ chosen);
       };
       between = omega (arith, m.met.added, moved);
       met = met_sooner client symbol state.place (length old) new now place.from (subst (IsMet client symbol state.place new) moved m.met);
@@ -210,7 +210,7 @@ module _ (client : ℕ) (sole : Bool) (symbol : Name) (wish : Wish) (limit befor
         longer : length walked ≤ length new
         longer = went_longer client sole walked new (events.Put client m.entry m.body ∷ events.Drop client m.entry ∷ []) whole
 
-    pub mark_stops : (now : ℕ) (new : History) (refused : Refused) → MarkStopped client sole symbol state.place change limit before now walked new refused → DidStop client sole symbol wish limit before now old new refused
+    pub mark_stops : (now : ℕ) (new : History) (refused : Refused) → MarkStopped client sole symbol state.place change limit before now walked new refused → DidStop client sole symbol burial limit before now old new refused
     mark_stops now new refused m = record {
       own = m.own;
       went = w;
@@ -228,7 +228,7 @@ module _ (client : ℕ) (sole : Bool) (symbol : Name) (wish : Wish) (limit befor
         part _ (one_put was entry body e) = burials.one_put entry body (try_of was entry body e)
         part _ (one_drop was entry body n e met) = burials.one_drop entry body (try_of was entry body e) (met_counts client symbol state.place old w.more n place.from (subst (λ h. IsMet client symbol state.place h n) w.is met))
 
-    pub mark_faulted : (now : ℕ) (new : History) (refused : Refused) → MarkFaulted client sole symbol state.place change before now walked new refused → DidFault client sole symbol wish before now old new refused
+    pub mark_faulted : (now : ℕ) (new : History) (refused : Refused) → MarkFaulted client sole symbol state.place change before now walked new refused → DidFault client sole symbol burial before now old new refused
     mark_faulted now new refused m = record {
       done = record { versions = length numbers; place = m.place; commit = Some m.place };
       commit = mark_buries new m.place m.marked (record { versions = length numbers; place = m.place; commit = Some m.place }) refl refl refl;
@@ -239,7 +239,7 @@ module _ (client : ℕ) (sole : Bool) (symbol : Name) (wish : Wish) (limit befor
 
     -- the refusal of the commit
     pub mark_refused : (now : ℕ) (new : History) (refused : Refused) → DidMark client sole symbol state.place change limit before now walked new (Err refused) → ((moved : ℕ) → refused.why ≡ refusals.Moved moved → ⊥)
-        → DidEnd client sole symbol wish limit before now old new (Err refused)
+        → DidEnd client sole symbol burial limit before now old new (Err refused)
     mark_refused now new refused d met = elim d [
       | inl m ↦ absurd (met m.now (ap (λ (r : Refused). r.why) m.refused_is))
       | inr rest ↦ elim rest [
@@ -248,7 +248,7 @@ module _ (client : ℕ) (sole : Bool) (symbol : Name) (wish : Wish) (limit befor
       ]
     ]
 
-    pub mark_moved : (now : ℕ) (new : History) (refused : Refused) → DidMark client sole symbol state.place change limit before now walked new (Err refused) → (moved : ℕ) → refused.why ≡ refusals.Moved moved → DidMeet client sole symbol wish old new moved
+    pub mark_moved : (now : ℕ) (new : History) (refused : Refused) → DidMark client sole symbol state.place change limit before now walked new (Err refused) → (moved : ℕ) → refused.why ≡ refusals.Moved moved → DidMeet client sole symbol burial old new moved
     mark_moved now new refused d moved is = elim d [
       | inl m ↦ mark_meets new refused m moved is
       | inr rest ↦ elim rest [
@@ -262,10 +262,10 @@ module _ (client : ℕ) (sole : Bool) (symbol : Name) (wish : Wish) (limit befor
 
     -- so a try that was met is made again, and any other refusal is that of the command
     pub mark_judged : (now : ℕ) (new : History) (refused : Refused) (r : Result Tried Refused) → DidMark client sole symbol state.place change limit before now walked new (Err refused) → IsMetBy refused r
-        → DidAttempt client sole symbol wish limit before now old new r
+        → DidAttempt client sole symbol burial limit before now old new r
     mark_judged now new refused (Ok (tried.Met at)) d m = mark_moved now new refused d at m
     mark_judged now new refused (Ok (tried.Done done)) d m = absurd m
-    mark_judged now new refused (Err same) d m = subst (λ (x : Refused). DidEnd client sole symbol wish limit before now old new (Err x)) (sym m.0) (mark_refused now new refused d m.1)
+    mark_judged now new refused (Err same) d m = subst (λ (x : Refused). DidEnd client sole symbol burial limit before now old new (Err x)) (sym m.0) (mark_refused now new refused d m.1)
 
 -- a list that is not empty
 pub filled_of : (ns : List ℕ) → (ns ≡ [] → ⊥) → IsFilled ns

@@ -22,11 +22,12 @@ use Rattle.store_model.proofs.StableRefer.{staging}
 use Rattle.version_chain.specs.declared.state.SymbolState.{SymbolState}
 use Rattle.version_chain.specs.States.{IsStateOf}
 use Rattle.reply_model.specs.Answering.{refuse_if, live_numbers}
-use Rattle.reply_model.specs.CommitAnswers.{first_absent, insert_number, ascending, older_live}
+use Rattle.reply_model.specs.Kinds.{Burial, Listed, Older}
+use Rattle.reply_model.specs.CommitAnswers.{first_absent, insert_number, ascending, older_live, to_bury, bury_answer}
 use Rattle.frame_read.proofs.ChoosingLemmas.{has_reference_told}
 use Rattle.prune_rule.specs.declared.choosing.Wish.{Wish}
 use Rattle.prune_rule.specs.declared.choosing.Wish.TheVariants as wishes
-use Rattle.prune_rule.specs.Burials.{to_bury, bury_answer, without_last, chosen_in, state_answer}
+use Rattle.prune_rule.specs.Burials.{burial_of, without_last, chosen_in, state_answer}
 use Rattle.prune_rule.proofs.StateLemmas.{live_told, absent_told}
 
 -- the answer that buries these
@@ -34,10 +35,10 @@ abbrev chose : List ℕ → Result (List ℕ) Refusal
 chose numbers = Ok numbers
 
 -- what is staged does not matter
-pub bury_staging : (wish : Wish) (more : List Piece) (st : State) → bury_answer wish (staging more st) ≡ bury_answer wish st
-bury_staging wishes.All more st = refl
-bury_staging (wishes.These numbers) more st = refl
-bury_staging wishes.ButNewest more st = refl
+pub bury_staging : (burial : Burial) (more : List Piece) (st : State) → bury_answer burial (staging more st) ≡ bury_answer burial st
+bury_staging (Listed None) more st = refl
+bury_staging (Listed (Some numbers)) more st = refl
+bury_staging Older more st = refl
 
 -- ---- all but the newest
 
@@ -84,13 +85,13 @@ insert_as (m ∷ ms) n =
 -- ---- what is chosen
 
 module _ (h : History) (symbol : Name) (state : SymbolState) (lawful : ∥ IsLawful h ∥₁) (is : IsStateOf h symbol state) where
-  chosen_told : (wish : Wish) → chosen_in wish state ≡ to_bury wish (state_of h symbol)
+  chosen_told : (wish : Wish) → chosen_in wish state ≡ to_bury (burial_of wish) (state_of h symbol)
   chosen_told wishes.All = ap Ok (live_told h symbol state lawful is)
   chosen_told (wishes.These asked) = ap (λ o. unless o (λ n. refusals.NoSuchVersion (asks.Number n)) (Ok (ascending asked.now))) (absent_told h symbol state asked.now lawful is)
   chosen_told wishes.ButNewest = ap Ok (ap without_last (live_told h symbol state lawful is) ∙ older_are (state_of h symbol))
 
   -- a walked state gives the library's answer
-  pub answer_told : (wish : Wish) → state_answer wish state ≡ bury_answer wish (state_of h symbol)
+  pub answer_told : (wish : Wish) → state_answer wish state ≡ bury_answer (burial_of wish) (state_of h symbol)
   answer_told wish =
       ap (λ (b : Bool). refuse_if (not b) refusals.NoSuchSymbol (chosen_in wish state)) (sym (has_reference_told h symbol ∙ ap is_some (sym is.was)))
       ∙ ap (refuse_if (not (state_of h symbol).has_reference) refusals.NoSuchSymbol) (chosen_told wish)
@@ -197,12 +198,12 @@ module _ (st : State) (numbered : AreNumbered st.versions) where
   live_fits f = live_may_be_buried st numbered (live_filled st f)
 
   -- what is to bury fits
-  to_bury_fits : (wish : Wish) (numbers : List ℕ) → to_bury wish st ≡ Ok numbers → IsFilled numbers → FitsRemoved st numbers
-  to_bury_fits wishes.All numbers e f = subst (FitsRemoved st) (same (live_numbers st) numbers e) (live_fits (subst IsFilled (sym (same (live_numbers st) numbers e)) f))
+  to_bury_fits : (burial : Burial) (numbers : List ℕ) → to_bury burial st ≡ Ok numbers → IsFilled numbers → FitsRemoved st numbers
+  to_bury_fits (Listed None) numbers e f = subst (FitsRemoved st) (same (live_numbers st) numbers e) (live_fits (subst IsFilled (sym (same (live_numbers st) numbers e)) f))
     where
       same : (a b : List ℕ) → chose a ≡ chose b → a ≡ b
       same a b e = cc
-  to_bury_fits wishes.ButNewest numbers e f =
+  to_bury_fits Older numbers e f =
       let is : without_last (live_numbers st) ≡ numbers = older_are st ∙ same (older_live st) numbers e in
       let g : IsFilled (without_last (live_numbers st)) = subst IsFilled (sym is) f in
       let all = live_fits (was_filled (live_numbers st) g) in
@@ -210,22 +211,22 @@ module _ (st : State) (numbered : AreNumbered st.versions) where
     where
       same : (a b : List ℕ) → chose a ≡ chose b → a ≡ b
       same a b e = cc
-  to_bury_fits (wishes.These asked) numbers e f = by (first_absent st asked.now) refl e
+  to_bury_fits (Listed (Some asked)) numbers e f = by (first_absent st asked) refl e
     where
-      by : (o : Option ℕ) → first_absent st asked.now ≡ o → unless o (λ n. refusals.NoSuchVersion (asks.Number n)) (Ok (ascending asked.now)) ≡ Ok numbers → FitsRemoved st numbers
-      by None none g = subst (FitsRemoved st) (same (ascending asked.now) numbers g) (record {
-        some = subst IsFilled (sym (same (ascending asked.now) numbers g)) f;
-        rising = ascending_rising asked.now;
-        live = ascending_all (λ n. is_live st n ≡ true) asked.now (all_live st asked.now none);
+      by : (o : Option ℕ) → first_absent st asked ≡ o → unless o (λ n. refusals.NoSuchVersion (asks.Number n)) (Ok (ascending asked)) ≡ Ok numbers → FitsRemoved st numbers
+      by None none g = subst (FitsRemoved st) (same (ascending asked) numbers g) (record {
+        some = subst IsFilled (sym (same (ascending asked) numbers g)) f;
+        rising = ascending_rising asked;
+        live = ascending_all (λ n. is_live st n ≡ true) asked (all_live st asked none);
       })
         where
           same : (a b : List ℕ) → chose a ≡ chose b → a ≡ b
           same a b e = cc
       by (Some n) some g = cc
 
-  pub bury_fits : (wish : Wish) (numbers : List ℕ) → bury_answer wish st ≡ Ok numbers → IsFilled numbers → FitsRemoved st numbers
-  bury_fits wish numbers e f = to_bury_fits wish numbers (by st.has_reference e) f
+  pub bury_fits : (burial : Burial) (numbers : List ℕ) → bury_answer burial st ≡ Ok numbers → IsFilled numbers → FitsRemoved st numbers
+  bury_fits burial numbers e f = to_bury_fits burial numbers (by st.has_reference e) f
     where
-      by : (b : Bool) → refuse_if (not b) refusals.NoSuchSymbol (to_bury wish st) ≡ Ok numbers → to_bury wish st ≡ Ok numbers
+      by : (b : Bool) → refuse_if (not b) refusals.NoSuchSymbol (to_bury burial st) ≡ Ok numbers → to_bury burial st ≡ Ok numbers
       by true g = g
       by false g = cc

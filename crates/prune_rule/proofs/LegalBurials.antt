@@ -33,9 +33,9 @@ use Rattle.reply_model.specs.declared.outcome.Outcome.{Outcome}
 use Rattle.reply_model.specs.declared.outcome.Outcome.TheVariants as outcomes
 use Rattle.reply_model.specs.declared.reply.Reply.{Reply}
 use Rattle.reply_model.specs.Answering.{Session, Answer, answered, ◌then◌, refuse_if, removed}
-use Rattle.reply_model.specs.Answers.{answer}
-use Rattle.reply_model.specs.CommitAnswers.{first_absent, ascending}
-use Rattle.reply_model.specs.Kinds.{kind_of}
+use Rattle.reply_model.specs.Answers.{answer_of, answer}
+use Rattle.reply_model.specs.CommitAnswers.{first_absent, ascending, to_bury, bury_answer, buried_outcome}
+use Rattle.reply_model.specs.Kinds.{kind_of, kind_symbol, burial_command, Burial, Listed, Older}
 use Rattle.reply_model.specs.Losses.{FindsGone}
 use Rattle.reply_model.specs.Causes.{MarksAt, IsBeside, IsMoved, IsSpent, HasToMake, makes_version, MakesAt}
 use Rattle.reply_model.specs.Moves.{AreMetTries}
@@ -49,15 +49,12 @@ use Rattle.reply_model.proofs.Places.{history_at_end}
 use Rattle.reply_model.specs.Runs.{harms}
 use Rattle.reply_model.proofs.Harmless.{try_harms_nothing}
 use Rattle.reply_model.proofs.Later.{history_at_later}
-use Rattle.prune_rule.specs.declared.choosing.Wish.{Wish}
-use Rattle.prune_rule.specs.declared.choosing.Wish.TheVariants as wishes
 use Rattle.prune_rule.specs.declared.burying.Buried.{Buried}
-use Rattle.prune_rule.specs.Burials.{to_bury, bury_answer, command_of, outcome_of}
 use Rattle.prune_rule.specs.Tries.{DidBury, DidNothing, DidRefuse, DidStop, DidRefused, DidTries, MetTries, Buries, Whole, IsPart, no_event, one_put, one_drop}
 use Rattle.prune_rule.specs.Replies.{commits_of, reply_to, IsLegalBurial}
 use Rattle.prune_rule.proofs.WindowLemmas.{is_refer, own_in_window, met_in_window, no_places, no_own_refer, one_place}
 use Rattle.prune_rule.proofs.TurnLemmas.{done_turn, open_turn, cut_turn, append_none}
-use Rattle.prune_rule.proofs.SeenLemmas.{IsBurial, deleting, pruning, SeenFacts, seen_of}
+use Rattle.prune_rule.proofs.SeenLemmas.{kind_is, SeenFacts, seen_of}
 
 -- ---- by what is buried
 
@@ -67,92 +64,63 @@ on_true {A} B b is a = subst (λ x. MatchBool x A B) (sym is) a
 on_false : (A : Type 0) {B : Type 0} (b : Bool) → b ≡ false → B → MatchBool b A B
 on_false A {B} b is x = subst (λ y. MatchBool y A B) (sym is) x
 
-burial_of : (symbol : Name) (wish : Wish) → IsBurial (command_of symbol wish) symbol
-burial_of symbol wishes.All = deleting symbol None
-burial_of symbol (wishes.These numbers) = deleting symbol (Some numbers.now)
-burial_of symbol wishes.ButNewest = pruning symbol
-
-symbol_is : (symbol : Name) (wish : Wish) → symbol_of (command_of symbol wish) ≡ Some symbol
-symbol_is symbol wishes.All = refl
-symbol_is symbol (wishes.These numbers) = refl
-symbol_is symbol wishes.ButNewest = refl
+symbol_is : (symbol : Name) (burial : Burial) → symbol_of (burial_command symbol burial) ≡ Some symbol
+symbol_is symbol burial = ap kind_symbol (kind_is symbol burial)
 
 -- the answer of what is buried
-abbrev answer_from : Wish → Result (List ℕ) Refusal → Option Answer
-answer_from wish r = Some (answered (r then λ ns. Ok (record { outcome = outcome_of wish (length ns); marks = removed ns })))
+abbrev answer_from : Burial → Result (List ℕ) Refusal → Option Answer
+answer_from burial r = Some (answered (r then λ ns. Ok (record { outcome = buried_outcome burial (length ns); marks = removed ns })))
 
-module _ {A B : Type 0} (f : A → Result B Refusal) where
-  refuse_then : (b : Bool) (why : Refusal) (r : Result A Refusal) → ((refuse_if b why r) then f) ≡ refuse_if b why (r then f)
-  refuse_then true why r = refl
-  refuse_then false why r = refl
-
-  unless_then : {X : Type 0} (o : Option X) (why : X → Refusal) (r : Result A Refusal) → ((unless o why r) then f) ≡ unless o why (r then f)
-  unless_then None why r = refl
-  unless_then (Some x) why r = refl
-
-answer_is : (s : Session) (listed l : Library) (place : ℕ) (symbol : Name) (wish : Wish) → answer s listed l place (command_of symbol wish) ≡ answer_from wish (bury_answer wish (l.state symbol))
-answer_is s listed l place symbol wishes.All =
-    ap (λ r. Some (answered r)) (sym (refuse_then (λ ns. Ok (record { outcome = outcomes.Deleted (length ns); marks = removed ns })) (not (l.state symbol).has_reference) refusals.NoSuchSymbol (to_bury wishes.All (l.state symbol))))
-answer_is s listed l place symbol (wishes.These numbers) =
-    ap (λ r. Some (answered r)) (sym (refuse_then (λ ns. Ok (record { outcome = outcomes.Deleted (length ns); marks = removed ns })) (not (l.state symbol).has_reference) refusals.NoSuchSymbol (to_bury (wishes.These numbers) (l.state symbol))
-    ∙ ap (refuse_if (not (l.state symbol).has_reference) refusals.NoSuchSymbol)
-    (unless_then (λ ns. Ok (record { outcome = outcomes.Deleted (length ns); marks = removed ns })) (first_absent (l.state symbol) numbers.now) (λ n. refusals.NoSuchVersion (asks.Number n)) (Ok (ascending numbers.now)))))
-answer_is s listed l place symbol wishes.ButNewest =
-    ap (λ r. Some (answered r)) (sym (refuse_then (λ ns. Ok (record { outcome = outcomes.Pruned (length ns); marks = removed ns })) (not (l.state symbol).has_reference) refusals.NoSuchSymbol (to_bury wishes.ButNewest (l.state symbol))))
+answer_is : (s : Session) (listed l : Library) (place : ℕ) (symbol : Name) (burial : Burial) → answer s listed l place (burial_command symbol burial) ≡ answer_from burial (bury_answer burial (l.state symbol))
+answer_is s listed l place symbol burial = ap (answer_of s listed l place (burial_command symbol burial)) (kind_is symbol burial)
 
 -- kinds of outcomes
-not_cut : (wish : Wish) (n : ℕ) → is_cut (outcome_of wish n) ≡ false
-not_cut wishes.All n = refl
-not_cut (wishes.These numbers) n = refl
-not_cut wishes.ButNewest n = refl
+not_cut : (burial : Burial) (n : ℕ) → is_cut (buried_outcome burial n) ≡ false
+not_cut (Listed versions) n = refl
+not_cut Older n = refl
 
-no_fault : (wish : Wish) (n : ℕ) → is_store_fault (outcome_of wish n) ≡ false
-no_fault wishes.All n = refl
-no_fault (wishes.These numbers) n = refl
-no_fault wishes.ButNewest n = refl
+no_fault : (burial : Burial) (n : ℕ) → is_store_fault (buried_outcome burial n) ≡ false
+no_fault (Listed versions) n = refl
+no_fault Older n = refl
 
-is_done_with : (wish : Wish) (n place : ℕ) (commits : List ℕ) → is_done (record { place = place; listed = None; commits = commits; left = []; outcome = outcome_of wish n }) ≡ not (nat_eq (length commits) 0)
-is_done_with wishes.All n place commits = refl
-is_done_with (wishes.These numbers) n place commits = refl
-is_done_with wishes.ButNewest n place commits = refl
+is_done_with : (burial : Burial) (n place : ℕ) (commits : List ℕ) → is_done (record { place = place; listed = None; commits = commits; left = []; outcome = buried_outcome burial n }) ≡ not (nat_eq (length commits) 0)
+is_done_with (Listed versions) n place commits = refl
+is_done_with Older n place commits = refl
 
-ok_outcome : (h : History) (client : Client) (symbol : Name) (wish : Wish) (reply : Reply) (w : Window) (n : ℕ) → IsAnswer h client (command_of symbol wish) reply → IsLegalOutcome h client (command_of symbol wish) reply w (outcome_of wish n)
-ok_outcome h client symbol wishes.All reply w n a = a
-ok_outcome h client symbol (wishes.These numbers) reply w n a = a
-ok_outcome h client symbol wishes.ButNewest reply w n a = a
+ok_outcome : (h : History) (client : Client) (symbol : Name) (burial : Burial) (reply : Reply) (w : Window) (n : ℕ) → IsAnswer h client (burial_command symbol burial) reply → IsLegalOutcome h client (burial_command symbol burial) reply w (buried_outcome burial n)
+ok_outcome h client symbol (Listed versions) reply w n a = a
+ok_outcome h client symbol Older reply w n a = a
 
-unknown_outcome : (h : History) (client : Client) (symbol : Name) (wish : Wish) (reply : Reply) (w : Window) → IsAnswer h client (command_of symbol wish) reply → IsLegalOutcome h client (command_of symbol wish) reply w (outcomes.Refused refusals.NoSuchSymbol)
-unknown_outcome h client symbol wishes.All reply w a = a
-unknown_outcome h client symbol (wishes.These numbers) reply w a = a
-unknown_outcome h client symbol wishes.ButNewest reply w a = a
+unknown_outcome : (h : History) (client : Client) (symbol : Name) (burial : Burial) (reply : Reply) (w : Window) → IsAnswer h client (burial_command symbol burial) reply → IsLegalOutcome h client (burial_command symbol burial) reply w (outcomes.Refused refusals.NoSuchSymbol)
+unknown_outcome h client symbol (Listed versions) reply w a = a
+unknown_outcome h client symbol Older reply w a = a
 
-absent_outcome : (h : History) (client : Client) (symbol : Name) (wish : Wish) (reply : Reply) (w : Window) (asked : Asked) → IsAnswer h client (command_of symbol wish) reply → IsLegalOutcome h client (command_of symbol wish) reply w (outcomes.Refused (refusals.NoSuchVersion asked))
-absent_outcome h client symbol wishes.All reply w asked a = a
-absent_outcome h client symbol (wishes.These numbers) reply w asked a = a
-absent_outcome h client symbol wishes.ButNewest reply w asked a = a
+absent_outcome : (h : History) (client : Client) (symbol : Name) (burial : Burial) (reply : Reply) (w : Window) (asked : Asked) → IsAnswer h client (burial_command symbol burial) reply → IsLegalOutcome h client (burial_command symbol burial) reply w (outcomes.Refused (refusals.NoSuchVersion asked))
+absent_outcome h client symbol (Listed versions) reply w asked a = a
+absent_outcome h client symbol Older reply w asked a = a
 
 -- the answer that refuses so
 abbrev declined : Refusal → Result (List ℕ) Refusal
 declined why = Err why
 
 -- the refusals of an answer
-bury_refusals : (wish : Wish) (st : State) (why : Refusal) → bury_answer wish st ≡ Err why → (refusals.NoSuchSymbol ≡ why) ⊎ ((asked : Asked) × (refusals.NoSuchVersion asked ≡ why))
-bury_refusals wish st why e = by st.has_reference e
+bury_refusals : (burial : Burial) (st : State) (why : Refusal) → bury_answer burial st ≡ Err why → (refusals.NoSuchSymbol ≡ why) ⊎ ((asked : Asked) × (refusals.NoSuchVersion asked ≡ why))
+bury_refusals burial st why e = by st.has_reference e
   where
     same : (a b : Refusal) → declined a ≡ declined b → a ≡ b
     same a b e = cc
 
-    asked_for : (wish : Wish) → to_bury wish st ≡ Err why → (asked : Asked) × (refusals.NoSuchVersion asked ≡ why)
-    asked_for wishes.All g = cc
-    asked_for wishes.ButNewest g = cc
-    asked_for (wishes.These numbers) g = of (first_absent st numbers.now) g
+    asked_for : (burial : Burial) → to_bury burial st ≡ Err why → (asked : Asked) × (refusals.NoSuchVersion asked ≡ why)
+    asked_for (Listed None) g = cc
+    asked_for Older g = cc
+    asked_for (Listed (Some numbers)) g = of (first_absent st numbers) g
       where
-        of : (o : Option ℕ) → unless o (λ n. refusals.NoSuchVersion (asks.Number n)) (Ok (ascending numbers.now)) ≡ Err why → (asked : Asked) × (refusals.NoSuchVersion asked ≡ why)
+        of : (o : Option ℕ) → unless o (λ n. refusals.NoSuchVersion (asks.Number n)) (Ok (ascending numbers)) ≡ Err why → (asked : Asked) × (refusals.NoSuchVersion asked ≡ why)
         of None g = cc
         of (Some n) g = (asks.Number n, same (refusals.NoSuchVersion (asks.Number n)) why g)
 
-    by : (b : Bool) → refuse_if (not b) refusals.NoSuchSymbol (to_bury wish st) ≡ Err why → (refusals.NoSuchSymbol ≡ why) ⊎ ((asked : Asked) × (refusals.NoSuchVersion asked ≡ why))
-    by true g = inr (asked_for wish g)
+    by : (b : Bool) → refuse_if (not b) refusals.NoSuchSymbol (to_bury burial st) ≡ Err why → (refusals.NoSuchSymbol ≡ why) ⊎ ((asked : Asked) × (refusals.NoSuchVersion asked ≡ why))
+    by true g = inr (asked_for burial g)
     by false g = inl (same refusals.NoSuchSymbol why g)
 
 -- ---- own events that are no Refers
@@ -216,9 +184,9 @@ met_sum client sole symbol old mid new first second whole a b w =
     ap (met_in client symbol) (same_front w.more (b.more ++ a.more) old (sym w.is ∙ is)) ∙ met_in-append client symbol b.more a.more
 
 -- a commit, with its Refer
-pub bury_went : (client : ℕ) (sole : Bool) (symbol : Name) (wish : Wish) (old new : History) (done : Buried) → (d : DidBury client sole symbol wish old new done)
+pub bury_went : (client : ℕ) (sole : Bool) (symbol : Name) (burial : Burial) (old new : History) (done : Buried) → (d : DidBury client sole symbol burial old new done)
     → Went client sole old new (events.Put client d.entry d.body ∷ events.Refer client symbol d.was d.entry (changes.Removed d.numbers ∷ []) ∷ [])
-bury_went client sole symbol wish old new done d = record {
+bury_went client sole symbol burial old new done d = record {
   more = referring ∷ d.went.more;
   is = d.newest ∙ ap (λ h. referring ∷ h) d.went.is;
   own_are = own_of-append client (referring ∷ []) d.went.more ∙ (λ i. d.went.own_are i ++ own_of-one client referring refl i);
@@ -231,7 +199,7 @@ bury_went client sole symbol wish old new done d = record {
 
 -- ---- the reply
 
-module _ (s : Session) (limit : ℕ) (sole : Bool) (symbol : Name) (wish : Wish) (old new : History) (faulted : Bool) where
+module _ (s : Session) (limit : ℕ) (sole : Bool) (symbol : Name) (burial : Burial) (old new : History) (faulted : Bool) where
   abbrev client : Client
   client = record { session = s; limit = limit }
 
@@ -242,10 +210,10 @@ module _ (s : Session) (limit : ℕ) (sole : Bool) (symbol : Name) (wish : Wish)
   plain place commits outcome = record { place = place; listed = None; commits = commits; left = []; outcome = outcome }
 
   abbrev legal : Reply → Type 0
-  legal reply = IsLegalSeen new client (command_of symbol wish) reply window
+  legal reply = IsLegalSeen new client (burial_command symbol burial) reply window
 
   -- the place of the newest event, which is the Refer of a burial, and the history before it
-  module _ (mid : History) (done : Buried) (d : DidBury s.client sole symbol wish mid new done) where
+  module _ (mid : History) (done : Buried) (d : DidBury s.client sole symbol burial mid new done) where
     abbrev referring : Event
     referring = events.Refer s.client symbol d.was d.entry (changes.Removed d.numbers ∷ [])
 
@@ -262,10 +230,10 @@ module _ (s : Session) (limit : ℕ) (sole : Bool) (symbol : Name) (wish : Wish)
     event_is = ap (event_at new) end_is ∙ (ap (λ h. event_at h (suc (length d.before))) d.newest ∙ event_at_end referring d.before)
 
     -- what it makes is what the library answers just before
-    answers : (listed : Library) → answer s listed (library_at new (length new - 1)) (length new - 1) (command_of symbol wish) ≡ Some (record { outcome = outcome_of wish (length d.numbers); marks = changes.Removed d.numbers ∷ [] })
+    answers : (listed : Library) → answer s listed (library_at new (length new - 1)) (length new - 1) (burial_command symbol burial) ≡ Some (record { outcome = buried_outcome burial (length d.numbers); marks = changes.Removed d.numbers ∷ [] })
     answers listed =
-        answer_is s listed (library_at new (length new - 1)) (length new - 1) symbol wish
-        ∙ (ap (λ h. answer_from wish (bury_answer wish (state_of h symbol))) earlier ∙ (ap (answer_from wish) d.answered ∙ ap (λ ms. Some (record { outcome = outcome_of wish (length d.numbers); marks = ms })) (removed_some d.numbers d.filled)))
+        answer_is s listed (library_at new (length new - 1)) (length new - 1) symbol burial
+        ∙ (ap (λ h. answer_from burial (bury_answer burial (state_of h symbol))) earlier ∙ (ap (answer_from burial) d.answered ∙ ap (λ ms. Some (record { outcome = buried_outcome burial (length d.numbers); marks = ms })) (removed_some d.numbers d.filled)))
       where
         removed_some : (ns : List ℕ) → IsFilled ns → removed ns ≡ changes.Removed ns ∷ []
         removed_some [] f = absurd f
@@ -276,19 +244,19 @@ module _ (s : Session) (limit : ℕ) (sole : Bool) (symbol : Name) (wish : Wish)
     early = went_longer s.client sole old mid (flat_map (λ t. t) r.tries) r.went
 
     -- ---- the commit stands
-    module _ (done : Buried) (d : DidBury s.client sole symbol wish mid new done) where
+    module _ (done : Buried) (d : DidBury s.client sole symbol burial mid new done) where
       abbrev last : List Event
       last = events.Put s.client d.entry d.body ∷ referring mid done d ∷ []
 
       w : Went s.client sole old new (flat_map (λ t. t) r.tries ++ last)
-      w = went_then s.client sole old mid new (flat_map (λ t. t) r.tries) last r.went (bury_went s.client sole symbol wish mid new done d)
+      w = went_then s.client sole old mid new (flat_map (λ t. t) r.tries) last r.went (bury_went s.client sole symbol burial mid new done d)
 
       seen_own : own_events new s.client window ≡ flat_map (λ t. t) r.tries ++ last
       seen_own = own_in_window s.client old new w.more faulted w.is ∙ w.own_are
 
       met_all : length r.tries ≤ refers_by_others new s.client symbol window
       met_all =
-          let sum = met_sum s.client sole symbol old mid new (flat_map (λ t. t) r.tries) last (flat_map (λ t. t) r.tries ++ last) r.went (bury_went s.client sole symbol wish mid new done d) w in
+          let sum = met_sum s.client sole symbol old mid new (flat_map (λ t. t) r.tries) last (flat_map (λ t. t) r.tries ++ last) r.went (bury_went s.client sole symbol burial mid new done d) w in
           let here = met_in_window s.client symbol old new w.more faulted w.is in
           omega (arith, r.counted, r.met, sum, here)
 
@@ -311,35 +279,35 @@ module _ (s : Session) (limit : ℕ) (sole : Bool) (symbol : Name) (wish : Wish)
       places_at : refer_places s.client (length old) (history_at new (length new)) ≡ length new ∷ []
       places_at = ap (refer_places s.client (length old)) (history_at_end new) ∙ places
 
-      bury_facts : SeenFacts new s limit (command_of symbol wish) symbol (plain (length new) (length new ∷ []) (outcome_of wish (length d.numbers))) window
+      bury_facts : SeenFacts new s limit (burial_command symbol burial) symbol (plain (length new) (length new ∷ []) (buried_outcome burial (length d.numbers))) window
       bury_facts = record {
         after = omega (arith, end_is mid done d, longer);
         before = omega arith;
         listed = refl;
         left = refl;
-        events = on_false _ (is_cut (outcome_of wish (length d.numbers))) (not_cut wish (length d.numbers))
-            (subst (λ b. IsTurn new s window symbol false b AnyMarks (own_events new s.client window)) (sym (is_done_with wish (length d.numbers) (length new) (length new ∷ [])))
+        events = on_false _ (is_cut (buried_outcome burial (length d.numbers))) (not_cut burial (length d.numbers))
+            (subst (λ b. IsTurn new s window symbol false b AnyMarks (own_events new s.client window)) (sym (is_done_with burial (length d.numbers) (length new) (length new ∷ [])))
             (subst (IsTurn new s window symbol false true AnyMarks) (sym seen_own) turn));
-        commits = subst (λ b. AreCommits b (length new ∷ []) (refer_places s.client (length old) (history_at new (length new)))) (sym (no_fault wish (length d.numbers))) (sym places_at);
-        short = λ c f. absurd (true≢false (sym c ∙ not_cut wish (length d.numbers)));
-        meant = on_false _ (is_store_fault (outcome_of wish (length d.numbers))) (no_fault wish (length d.numbers)) tt;
-        late = on_false _ (is_cut (outcome_of wish (length d.numbers))) (not_cut wish (length d.numbers)) tt;
-        outcome = ok_outcome new client symbol wish (plain (length new) (length new ∷ []) (outcome_of wish (length d.numbers))) window (length d.numbers)
-            (inr (changes.Removed d.numbers, [], symbol, answers mid done d (library_at new (length new)), symbol_is symbol wish, (d.was, d.entry, event_is mid done d), refl));
+        commits = subst (λ b. AreCommits b (length new ∷ []) (refer_places s.client (length old) (history_at new (length new)))) (sym (no_fault burial (length d.numbers))) (sym places_at);
+        short = λ c f. absurd (true≢false (sym c ∙ not_cut burial (length d.numbers)));
+        meant = on_false _ (is_store_fault (buried_outcome burial (length d.numbers))) (no_fault burial (length d.numbers)) tt;
+        late = on_false _ (is_cut (buried_outcome burial (length d.numbers))) (not_cut burial (length d.numbers)) tt;
+        outcome = ok_outcome new client symbol burial (plain (length new) (length new ∷ []) (buried_outcome burial (length d.numbers))) window (length d.numbers)
+            (inr (changes.Removed d.numbers, [], symbol, answers mid done d (library_at new (length new)), symbol_is symbol burial, (d.was, d.entry, event_is mid done d), refl));
       }
 
-      pub bury_is_legal : legal (reply_to (outcome_of wish) (Ok done))
+      pub bury_is_legal : legal (reply_to (buried_outcome burial) (Ok done))
       bury_is_legal =
-          subst (λ n. legal (plain done.place (commits_of done.commit) (outcome_of wish n))) (sym d.versions)
-          (subst (λ p. legal (plain p (commits_of done.commit) (outcome_of wish (length d.numbers)))) (sym d.place)
-          (subst (λ o. legal (plain (length new) (commits_of o) (outcome_of wish (length d.numbers)))) (sym d.commit)
-          (seen_of new s limit (command_of symbol wish) symbol (plain (length new) (length new ∷ []) (outcome_of wish (length d.numbers))) window (burial_of symbol wish) bury_facts)))
+          subst (λ n. legal (plain done.place (commits_of done.commit) (buried_outcome burial n))) (sym d.versions)
+          (subst (λ p. legal (plain p (commits_of done.commit) (buried_outcome burial (length d.numbers)))) (sym d.place)
+          (subst (λ o. legal (plain (length new) (commits_of o) (buried_outcome burial (length d.numbers)))) (sym d.commit)
+          (seen_of new s limit (burial_command symbol burial) symbol burial (plain (length new) (length new ∷ []) (buried_outcome burial (length d.numbers))) window (kind_is symbol burial) bury_facts)))
 
       -- or it stands, and the store failed
       pub fault_is_legal : (place : ℕ) → StopsAt s.client mid new (record { place = place; why = refusals.StoreFault }) → faulted ≡ true → legal (plain place [] (outcomes.Refused refusals.StoreFault))
       fault_is_legal place stops fault =
           let size : length new ≡ length stops.after + length stops.before = ap length stops.split ∙ length-append stops.after stops.before in
-          seen_of new s limit (command_of symbol wish) symbol (plain place [] (outcomes.Refused refusals.StoreFault)) window (burial_of symbol wish) (record {
+          seen_of new s limit (burial_command symbol burial) symbol burial (plain place [] (outcomes.Refused refusals.StoreFault)) window (kind_is symbol burial) (record {
             after = omega (arith, early, stops.place, stops.later);
             before = omega (arith, stops.place, size);
             listed = refl;
@@ -347,12 +315,12 @@ module _ (s : Session) (limit : ℕ) (sole : Bool) (symbol : Name) (wish : Wish)
             events = inl (record { more = []; whole = subst (IsTurn new s window symbol false true AnyMarks) (sym (append_none (own_events new s.client window) ∙ seen_own)) turn });
             commits = inr (length new, places_at);
             short = λ c f. absurd (true≢false f);
-            meant = subst (AllByRecursion (IsMeantAt new s (command_of symbol wish) (plain place [] (outcomes.Refused refusals.StoreFault)))) (sym places_at) (
+            meant = subst (AllByRecursion (IsMeantAt new s (burial_command symbol burial) (plain place [] (outcomes.Refused refusals.StoreFault)))) (sym places_at) (
               record {
                 symbol = symbol;
                 list = changes.Removed d.numbers ∷ [];
-                outcome = outcome_of wish (length d.numbers);
-                symbol_is = symbol_is symbol wish;
+                outcome = buried_outcome burial (length d.numbers);
+                symbol_is = symbol_is symbol burial;
                 event = (d.was, d.entry, event_is mid done d);
                 answered = answers mid done d (library_at new (length new));
               },
@@ -360,13 +328,12 @@ module _ (s : Session) (limit : ℕ) (sole : Bool) (symbol : Name) (wish : Wish)
             );
             late = subst (λ p. length (own_events new s.client (record window { start = p })) ≤ 1) (sym stops.place)
                 (subst (λ (es : List Event). length es ≤ 1) (sym (own_in_window s.client stops.before new stops.after faulted stops.split)) stops.few);
-            outcome = fault_outcome wish fault;
+            outcome = fault_outcome burial fault;
           })
         where
-          fault_outcome : (v : Wish) → faulted ≡ true → IsLegalOutcome new client (command_of symbol v) (plain place [] (outcomes.Refused refusals.StoreFault)) window (outcomes.Refused refusals.StoreFault)
-          fault_outcome wishes.All f = f
-          fault_outcome (wishes.These numbers) f = f
-          fault_outcome wishes.ButNewest f = f
+          fault_outcome : (v : Burial) → faulted ≡ true → IsLegalOutcome new client (burial_command symbol v) (plain place [] (outcomes.Refused refusals.StoreFault)) window (outcomes.Refused refusals.StoreFault)
+          fault_outcome (Listed versions) f = f
+          fault_outcome Older f = f
 
     -- ---- no event, but refused tries
     module _ (went : Went s.client sole mid new []) where
@@ -388,8 +355,8 @@ module _ (s : Session) (limit : ℕ) (sole : Bool) (symbol : Name) (wish : Wish)
 
       -- the answer at the place, where it has no changes
       quiet_facts : (place : ℕ) (outcome : Outcome) → IsWithin mid new place → is_cut outcome ≡ false → is_store_fault outcome ≡ false → is_done (plain place [] outcome) ≡ false
-          → IsLegalOutcome new client (command_of symbol wish) (plain place [] outcome) window outcome → legal (plain place [] outcome)
-      quiet_facts place outcome within cut fault undone legal_outcome = seen_of new s limit (command_of symbol wish) symbol (plain place [] outcome) window (burial_of symbol wish) (record {
+          → IsLegalOutcome new client (burial_command symbol burial) (plain place [] outcome) window outcome → legal (plain place [] outcome)
+      quiet_facts place outcome within cut fault undone legal_outcome = seen_of new s limit (burial_command symbol burial) symbol burial (plain place [] outcome) window (kind_is symbol burial) (record {
         after = omega (arith, early, within.from);
         before = within.to;
         listed = refl;
@@ -402,28 +369,28 @@ module _ (s : Session) (limit : ℕ) (sole : Bool) (symbol : Name) (wish : Wish)
         outcome = legal_outcome;
       })
 
-      answer_at : (place : ℕ) (result : Result (List ℕ) Refusal) → bury_answer wish (state_of (history_at new place) symbol) ≡ result → answer s (library_at new place) (library_at new place) place (command_of symbol wish) ≡ answer_from wish result
-      answer_at place result e = answer_is s (library_at new place) (library_at new place) place symbol wish ∙ ap (answer_from wish) e
+      answer_at : (place : ℕ) (result : Result (List ℕ) Refusal) → bury_answer burial (state_of (history_at new place) symbol) ≡ result → answer s (library_at new place) (library_at new place) place (burial_command symbol burial) ≡ answer_from burial result
+      answer_at place result e = answer_is s (library_at new place) (library_at new place) place symbol burial ∙ ap (answer_from burial) e
 
-    pub nothing_is_legal : (done : Buried) → DidNothing s.client sole symbol wish mid new done → legal (reply_to (outcome_of wish) (Ok done))
+    pub nothing_is_legal : (done : Buried) → DidNothing s.client sole symbol burial mid new done → legal (reply_to (buried_outcome burial) (Ok done))
     nothing_is_legal done d =
-        subst (λ n. legal (plain done.place (commits_of done.commit) (outcome_of wish n))) (sym d.versions)
-        (subst (λ o. legal (plain done.place (commits_of o) (outcome_of wish 0))) (sym d.commit)
-        (quiet_facts d.went done.place (outcome_of wish 0) d.place (not_cut wish 0) (no_fault wish 0) (is_done_with wish 0 done.place [])
-        (ok_outcome new client symbol wish (plain done.place [] (outcome_of wish 0)) window 0 (inl (answer_at d.went done.place (Ok []) d.answered, refl)))))
+        subst (λ n. legal (plain done.place (commits_of done.commit) (buried_outcome burial n))) (sym d.versions)
+        (subst (λ o. legal (plain done.place (commits_of o) (buried_outcome burial 0))) (sym d.commit)
+        (quiet_facts d.went done.place (buried_outcome burial 0) d.place (not_cut burial 0) (no_fault burial 0) (is_done_with burial 0 done.place [])
+        (ok_outcome new client symbol burial (plain done.place [] (buried_outcome burial 0)) window 0 (inl (answer_at d.went done.place (Ok []) d.answered, refl)))))
 
-    pub refuse_is_legal : (place : ℕ) (why : Refusal) → DidRefuse s.client sole symbol wish mid new (record { place = place; why = why }) → legal (plain place [] (outcomes.Refused why))
-    refuse_is_legal place why d = elim (bury_refusals wish (state_of (history_at new place) symbol) why d.answered) [
+    pub refuse_is_legal : (place : ℕ) (why : Refusal) → DidRefuse s.client sole symbol burial mid new (record { place = place; why = why }) → legal (plain place [] (outcomes.Refused why))
+    refuse_is_legal place why d = elim (bury_refusals burial (state_of (history_at new place) symbol) why d.answered) [
       | inl unknown ↦ subst (λ y. legal (plain place [] (outcomes.Refused y))) unknown
           (quiet_facts d.went place (outcomes.Refused refusals.NoSuchSymbol) d.place refl refl refl
-          (unknown_outcome new client symbol wish (plain place [] (outcomes.Refused refusals.NoSuchSymbol)) window (inl (answer_at d.went place (Err refusals.NoSuchSymbol) (d.answered ∙ ap Err (sym unknown)), refl))))
+          (unknown_outcome new client symbol burial (plain place [] (outcomes.Refused refusals.NoSuchSymbol)) window (inl (answer_at d.went place (Err refusals.NoSuchSymbol) (d.answered ∙ ap Err (sym unknown)), refl))))
       | inr absent ↦ subst (λ y. legal (plain place [] (outcomes.Refused y))) absent.1
           (quiet_facts d.went place (outcomes.Refused (refusals.NoSuchVersion absent.0)) d.place refl refl refl
-          (absent_outcome new client symbol wish (plain place [] (outcomes.Refused (refusals.NoSuchVersion absent.0))) window absent.0 (inl (answer_at d.went place (Err (refusals.NoSuchVersion absent.0)) (d.answered ∙ ap Err (sym absent.1)), refl))))
+          (absent_outcome new client symbol burial (plain place [] (outcomes.Refused (refusals.NoSuchVersion absent.0))) window absent.0 (inl (answer_at d.went place (Err (refusals.NoSuchVersion absent.0)) (d.answered ∙ ap Err (sym absent.1)), refl))))
     ]
 
     -- ---- a call failed
-    module _ (before now : ℕ) (rises : Rose before now → faulted ≡ true) (place : ℕ) (why : Refusal) (d : DidStop s.client sole symbol wish limit before now mid new (record { place = place; why = why })) where
+    module _ (before now : ℕ) (rises : Rose before now → faulted ≡ true) (place : ℕ) (why : Refusal) (d : DidStop s.client sole symbol burial limit before now mid new (record { place = place; why = why })) where
       w_cut : Went s.client sole old new (flat_map (λ t. t) r.tries ++ d.own)
       w_cut = went_then s.client sole old mid new (flat_map (λ t. t) r.tries) d.own r.went d.went
 
@@ -448,11 +415,11 @@ module _ (s : Session) (limit : ℕ) (sole : Bool) (symbol : Name) (wish : Wish)
       late_cut = subst (λ p. length (own_events new s.client (record window { start = p })) ≤ one_if (is_fault why)) (sym d.stops.place)
           (subst (λ (es : List Event). length es ≤ one_if (is_fault why)) (sym (own_in_window s.client d.stops.before new d.stops.after faulted d.stops.split)) d.stops.few)
 
-      cut_facts : is_cut (outcomes.Refused why) ≡ true → is_store_fault (outcomes.Refused why) ≡ is_fault why → IsLegalOutcome new client (command_of symbol wish) (plain place [] (outcomes.Refused why)) window (outcomes.Refused why)
-          → AreCommits (is_store_fault (outcomes.Refused why)) [] [] → MatchBool (is_store_fault (outcomes.Refused why)) (AllByRecursion (IsMeantAt new s (command_of symbol wish) (plain place [] (outcomes.Refused why))) []) ⊤ → legal (plain place [] (outcomes.Refused why))
+      cut_facts : is_cut (outcomes.Refused why) ≡ true → is_store_fault (outcomes.Refused why) ≡ is_fault why → IsLegalOutcome new client (burial_command symbol burial) (plain place [] (outcomes.Refused why)) window (outcomes.Refused why)
+          → AreCommits (is_store_fault (outcomes.Refused why)) [] [] → MatchBool (is_store_fault (outcomes.Refused why)) (AllByRecursion (IsMeantAt new s (burial_command symbol burial) (plain place [] (outcomes.Refused why))) []) ⊤ → legal (plain place [] (outcomes.Refused why))
       cut_facts cut fault legal_outcome commits meant =
           let size : length new ≡ length d.stops.after + length d.stops.before = ap length d.stops.split ∙ length-append d.stops.after d.stops.before in
-          seen_of new s limit (command_of symbol wish) symbol (plain place [] (outcomes.Refused why)) window (burial_of symbol wish) (record {
+          seen_of new s limit (burial_command symbol burial) symbol burial (plain place [] (outcomes.Refused why)) window (kind_is symbol burial) (record {
             after = omega (arith, early, d.stops.place, d.stops.later);
             before = omega (arith, d.stops.place, size);
             listed = refl;
@@ -460,50 +427,46 @@ module _ (s : Session) (limit : ℕ) (sole : Bool) (symbol : Name) (wish : Wish)
             events = on_true _ (is_cut (outcomes.Refused why)) cut begun;
             commits = subst (AreCommits (is_store_fault (outcomes.Refused why)) []) (sym places_cut) commits;
             short = λ c f. no_end;
-            meant = subst (λ ps. MatchBool (is_store_fault (outcomes.Refused why)) (AllByRecursion (IsMeantAt new s (command_of symbol wish) (plain place [] (outcomes.Refused why))) ps) ⊤) (sym places_cut) meant;
+            meant = subst (λ ps. MatchBool (is_store_fault (outcomes.Refused why)) (AllByRecursion (IsMeantAt new s (burial_command symbol burial) (plain place [] (outcomes.Refused why))) ps) ⊤) (sym places_cut) meant;
             late = on_true ⊤ (is_cut (outcomes.Refused why)) cut (subst (λ b. length (own_events new s.client (record window { start = place })) ≤ one_if b) (sym fault) late_cut);
             outcome = legal_outcome;
           })
 
     module _ (before now : ℕ) (rises : Rose before now → faulted ≡ true) (place : ℕ) where
-      memory_outcome : (v : Wish) → IsLegalOutcome new client (command_of symbol v) (plain place [] (outcomes.Refused refusals.NoMemory)) window (outcomes.Refused refusals.NoMemory)
-      memory_outcome wishes.All = tt
-      memory_outcome (wishes.These numbers) = tt
-      memory_outcome wishes.ButNewest = tt
+      memory_outcome : (v : Burial) → IsLegalOutcome new client (burial_command symbol v) (plain place [] (outcomes.Refused refusals.NoMemory)) window (outcomes.Refused refusals.NoMemory)
+      memory_outcome (Listed versions) = tt
+      memory_outcome Older = tt
 
-      failed_outcome : (v : Wish) → faulted ≡ true → IsLegalOutcome new client (command_of symbol v) (plain place [] (outcomes.Refused refusals.StoreFault)) window (outcomes.Refused refusals.StoreFault)
-      failed_outcome wishes.All f = f
-      failed_outcome (wishes.These numbers) f = f
-      failed_outcome wishes.ButNewest f = f
+      failed_outcome : (v : Burial) → faulted ≡ true → IsLegalOutcome new client (burial_command symbol v) (plain place [] (outcomes.Refused refusals.StoreFault)) window (outcomes.Refused refusals.StoreFault)
+      failed_outcome (Listed versions) f = f
+      failed_outcome Older f = f
 
-      spent_outcome : (v : Wish) (count : ℕ) → IsSpent new client (command_of symbol v) count (plain place [] (outcomes.Refused (refusals.Spent count))) window
-          → IsLegalOutcome new client (command_of symbol v) (plain place [] (outcomes.Refused (refusals.Spent count))) window (outcomes.Refused (refusals.Spent count))
-      spent_outcome wishes.All count f = f
-      spent_outcome (wishes.These numbers) count f = f
-      spent_outcome wishes.ButNewest count f = f
+      spent_outcome : (v : Burial) (count : ℕ) → IsSpent new client (burial_command symbol v) count (plain place [] (outcomes.Refused (refusals.Spent count))) window
+          → IsLegalOutcome new client (burial_command symbol v) (plain place [] (outcomes.Refused (refusals.Spent count))) window (outcomes.Refused (refusals.Spent count))
+      spent_outcome (Listed versions) count f = f
+      spent_outcome Older count f = f
 
-      to_make : (v : Wish) (reply : Reply) → reply.listed ≡ None → (q : ℕ) → length old ≤ q → q ≤ place → (numbers : List ℕ) → IsFilled numbers → bury_answer v (state_of (history_at new q) symbol) ≡ Ok numbers
-          → HasToMake new client (command_of symbol v) reply (length old) place
+      to_make : (v : Burial) (reply : Reply) → reply.listed ≡ None → (q : ℕ) → length old ≤ q → q ≤ place → (numbers : List ℕ) → IsFilled numbers → bury_answer v (state_of (history_at new q) symbol) ≡ Ok numbers
+          → HasToMake new client (burial_command symbol v) reply (length old) place
       to_make v reply listed q from to numbers filled e = by v (q, from, to, λ listing. subst MarksAt (sym (answer_is s listing (library_at new q) q symbol v ∙ ap (answer_from v) e)) (inl (some_marks numbers filled)))
         where
           some_marks : (ns : List ℕ) → IsFilled ns → removed ns ≡ [] → ⊥
           some_marks [] f x = absurd f
           some_marks (n ∷ ns) f x = cc
 
-          by : (v : Wish) → ((q : ℕ) × (length old ≤ q) × (q ≤ place) × ((listing : Library) → MarksAt (answer s listing (library_at new q) q (command_of symbol v)))) → HasToMake new client (command_of symbol v) reply (length old) place
-          by wishes.All x = (x.0, x.1, x.2, x.3 (library_at new (unwrap_or reply.listed x.0)))
-          by (wishes.These numbers) x = (x.0, x.1, x.2, x.3 (library_at new (unwrap_or reply.listed x.0)))
-          by wishes.ButNewest x = (x.0, x.1, x.2, x.3 (library_at new (unwrap_or reply.listed x.0)))
+          by : (v : Burial) → ((q : ℕ) × (length old ≤ q) × (q ≤ place) × ((listing : Library) → MarksAt (answer s listing (library_at new q) q (burial_command symbol v)))) → HasToMake new client (burial_command symbol v) reply (length old) place
+          by (Listed versions) x = (x.0, x.1, x.2, x.3 (library_at new (unwrap_or reply.listed x.0)))
+          by Older x = (x.0, x.1, x.2, x.3 (library_at new (unwrap_or reply.listed x.0)))
 
-      pub stop_is_legal : (why : Refusal) → DidStop s.client sole symbol wish limit before now mid new (record { place = place; why = why }) → legal (plain place [] (outcomes.Refused why))
-      stop_is_legal refusals.NoMemory d = cut_facts before now rises place refusals.NoMemory d refl refl (memory_outcome wish) refl tt
-      stop_is_legal refusals.StoreFault d = cut_facts before now rises place refusals.StoreFault d refl refl (failed_outcome wish (rises d.cause)) (inl refl) tt
+      pub stop_is_legal : (why : Refusal) → DidStop s.client sole symbol burial limit before now mid new (record { place = place; why = why }) → legal (plain place [] (outcomes.Refused why))
+      stop_is_legal refusals.NoMemory d = cut_facts before now rises place refusals.NoMemory d refl refl (memory_outcome burial) refl tt
+      stop_is_legal refusals.StoreFault d = cut_facts before now rises place refusals.StoreFault d refl refl (failed_outcome burial (rises d.cause)) (inl refl) tt
       stop_is_legal (refusals.Spent full) d =
           let busy = d.busy full refl in
-          cut_facts before now rises place (refusals.Spent full) d refl refl (spent_outcome wish full (record {
+          cut_facts before now rises place (refusals.Spent full) d refl refl (spent_outcome burial full (record {
             here = d.cause.1;
             full = d.cause.0.1;
-            busy = inr (to_make wish (plain place [] (outcomes.Refused (refusals.Spent full))) refl busy.place (omega (arith, early, busy.within.from)) busy.before busy.numbers busy.filled busy.answered);
+            busy = inr (to_make burial (plain place [] (outcomes.Refused (refusals.Spent full))) refl busy.place (omega (arith, early, busy.within.from)) busy.before busy.numbers busy.filled busy.answered);
           })) refl tt
       stop_is_legal why d = absurd d.cause
 
@@ -511,12 +474,12 @@ module _ (s : Session) (limit : ℕ) (sole : Bool) (symbol : Name) (wish : Wish)
   moved_reply p = plain p [] (outcomes.Refused (refusals.Moved p))
 
   -- each try was met
-  pub moved_is_legal : (place : ℕ) (r : DidRefused s.client sole symbol old new s.tries) → IsMet s.client symbol (length old) new place → MetTries s.client symbol wish s.tries old new place → legal (plain place [] (outcomes.Refused (refusals.Moved place)))
+  pub moved_is_legal : (place : ℕ) (r : DidRefused s.client sole symbol old new s.tries) → IsMet s.client symbol (length old) new place → MetTries s.client symbol burial s.tries old new place → legal (plain place [] (outcomes.Refused (refusals.Moved place)))
   moved_is_legal place r m each =
       let seen_own : own_events new s.client window ≡ flat_map (λ t. t) r.tries = own_in_window s.client old new r.went.more faulted r.went.is ∙ r.went.own_are in
       let here = met_in_window s.client symbol old new r.went.more faulted r.went.is in
       let met_all : length r.tries ≤ refers_by_others new s.client symbol window = omega (arith, r.counted, r.met, here) in
-      seen_of new s limit (command_of symbol wish) symbol (plain place [] (outcomes.Refused (refusals.Moved place))) window (burial_of symbol wish) (record {
+      seen_of new s limit (burial_command symbol burial) symbol burial (plain place [] (outcomes.Refused (refusals.Moved place))) window (kind_is symbol burial) (record {
         after = omega (arith, m.added);
         before = m.within;
         listed = refl;
@@ -526,7 +489,7 @@ module _ (s : Session) (limit : ℕ) (sole : Bool) (symbol : Name) (wish : Wish)
         short = λ c f. absurd (true≢false (sym c));
         meant = tt;
         late = tt;
-        outcome = moved_outcome wish (record {
+        outcome = moved_outcome burial (record {
           here = refl;
           inside = m.added;
           event = m.event;
@@ -539,71 +502,67 @@ module _ (s : Session) (limit : ℕ) (sole : Bool) (symbol : Name) (wish : Wish)
           listed = omega arith;
           stop = length new;
           to = omega arith;
-          beside = beside wish;
-          tries = subst (λ b. AreMetTries new s.client symbol b (MakesAt new client (command_of symbol wish) (moved_reply place) symbol) (FindsGone new client (command_of symbol wish) (moved_reply place) symbol) s.tries (length old) (length new) place) (sym (makes_none wish))
-              (tries_later s.client symbol false new [] (λ q. Buries symbol wish (history_at new q)) (MakesAt new client (command_of symbol wish) (moved_reply place) symbol) (Whole new) (FindsGone new client (command_of symbol wish) (moved_reply place) symbol)
-              (λ q le b. makes wish place q b) (λ q z a b l. absurd l) s.tries (length old) (length new) place (omega arith) each);
+          beside = beside burial;
+          tries = subst (λ b. AreMetTries new s.client symbol b (MakesAt new client (burial_command symbol burial) (moved_reply place) symbol) (FindsGone new client (burial_command symbol burial) (moved_reply place) symbol) s.tries (length old) (length new) place) (sym (makes_none burial))
+              (tries_later s.client symbol false new [] (λ q. Buries symbol burial (history_at new q)) (MakesAt new client (burial_command symbol burial) (moved_reply place) symbol) (Whole new) (FindsGone new client (burial_command symbol burial) (moved_reply place) symbol)
+              (λ q le b. makes burial place q b) (λ q z a b l. absurd l) s.tries (length old) (length new) place (omega arith) each);
         });
       })
     where
-      beside : (v : Wish) → IsBeside new s.client (kind_of (command_of symbol v)) (moved_reply place) symbol window (length old) (length new)
-      beside wishes.All = (own_nowhere new s.client (length old), own_nowhere new s.client (length new))
-      beside (wishes.These numbers) = (own_nowhere new s.client (length old), own_nowhere new s.client (length new))
-      beside wishes.ButNewest = (own_nowhere new s.client (length old), own_nowhere new s.client (length new))
+      beside : (v : Burial) → IsBeside new s.client (kind_of (burial_command symbol v)) (moved_reply place) symbol window (length old) (length new)
+      beside (Listed versions) = (own_nowhere new s.client (length old), own_nowhere new s.client (length new))
+      beside Older = (own_nowhere new s.client (length old), own_nowhere new s.client (length new))
 
-      makes_none : (v : Wish) → makes_version (command_of symbol v) ≡ false
-      makes_none wishes.All = refl
-      makes_none (wishes.These numbers) = refl
-      makes_none wishes.ButNewest = refl
+      makes_none : (v : Burial) → makes_version (burial_command symbol v) ≡ false
+      makes_none (Listed versions) = refl
+      makes_none Older = refl
 
       some_marks : (ns : List ℕ) → IsFilled ns → removed ns ≡ [] → ⊥
       some_marks [] f x = absurd f
       some_marks (n ∷ ns) f x = cc
 
-      makes : (v : Wish) (p q : ℕ) → Buries symbol v (history_at new q) → MakesAt new client (command_of symbol v) (moved_reply p) symbol q
+      makes : (v : Burial) (p q : ℕ) → Buries symbol v (history_at new q) → MakesAt new client (burial_command symbol v) (moved_reply p) symbol q
       makes v p q b = by v (subst MarksAt (sym (answer_is s (library_at new q) (library_at new q) q symbol v ∙ ap (answer_from v) b.2)) (inl (some_marks b.0 b.1)))
         where
-          by : (v : Wish) → MarksAt (answer s (library_at new q) (library_at new q) q (command_of symbol v)) → MakesAt new client (command_of symbol v) (moved_reply p) symbol q
-          by wishes.All x = x
-          by (wishes.These numbers) x = x
-          by wishes.ButNewest x = x
+          by : (v : Burial) → MarksAt (answer s (library_at new q) (library_at new q) q (burial_command symbol v)) → MakesAt new client (burial_command symbol v) (moved_reply p) symbol q
+          by (Listed versions) x = x
+          by Older x = x
 
-      moved_outcome : (v : Wish) → IsMoved new client (command_of symbol v) (moved_reply place) symbol place window → IsLegalOutcome new client (command_of symbol v) (plain place [] (outcomes.Refused (refusals.Moved place))) window (outcomes.Refused (refusals.Moved place))
-      moved_outcome wishes.All f = (symbol, (refl, refl), f)
-      moved_outcome (wishes.These numbers) f = (symbol, (refl, refl), f)
-      moved_outcome wishes.ButNewest f = (symbol, (refl, refl), f)
+      moved_outcome : (v : Burial) → IsMoved new client (burial_command symbol v) (moved_reply place) symbol place window → IsLegalOutcome new client (burial_command symbol v) (plain place [] (outcomes.Refused (refusals.Moved place))) window (outcomes.Refused (refusals.Moved place))
+      moved_outcome (Listed versions) f = (symbol, (refl, refl), f)
+      moved_outcome Older f = (symbol, (refl, refl), f)
 
 -- ---- all tries
 
-pub burial_is_legal : (s : Session) (limit : ℕ) (sole : Bool) (symbol : Name) (wish : Wish) (before now : ℕ) (old new : History) (faulted : Bool) → (Rose before now → faulted ≡ true)
-    → (result : Result Buried Refused) → DidTries s.client sole symbol wish s.tries limit before now old new result
-    → IsLegalSeen new (record { session = s; limit = limit }) (command_of symbol wish) (reply_to (outcome_of wish) result) (record { start = length old; stop = length new; faulted = faulted })
-burial_is_legal s limit sole symbol wish before now old new faulted rises (Ok done) d = elim d.last [
-  | inl c ↦ bury_is_legal s limit sole symbol wish old new faulted d.count d.mid d.few d.refused done c
-  | inr n ↦ nothing_is_legal s limit sole symbol wish old new faulted d.count d.mid d.few d.refused done n
+pub burial_is_legal : (s : Session) (limit : ℕ) (sole : Bool) (symbol : Name) (burial : Burial) (before now : ℕ) (old new : History) (faulted : Bool) → (Rose before now → faulted ≡ true)
+    → (result : Result Buried Refused) → DidTries s.client sole symbol burial s.tries limit before now old new result
+    → IsLegalSeen new (record { session = s; limit = limit }) (burial_command symbol burial) (reply_to (buried_outcome burial) result) (record { start = length old; stop = length new; faulted = faulted })
+burial_is_legal s limit sole symbol burial before now old new faulted rises (Ok done) d = elim d.last [
+  | inl c ↦ bury_is_legal s limit sole symbol burial old new faulted d.count d.mid d.few d.refused done c
+  | inr n ↦ nothing_is_legal s limit sole symbol burial old new faulted d.count d.mid d.few d.refused done n
 ]
-burial_is_legal s limit sole symbol wish before now old new faulted rises (Err refused) d = elim d [
-  | inl all ↦ subst (λ y. IsLegalSeen new (record { session = s; limit = limit }) (command_of symbol wish) (reply_to (outcome_of wish) (Err (record { place = refused.place; why = y }))) (record { start = length old; stop = length new; faulted = faulted })) (sym all.why)
-      (moved_is_legal s limit sole symbol wish old new faulted refused.place all.all all.met all.each)
+burial_is_legal s limit sole symbol burial before now old new faulted rises (Err refused) d = elim d [
+  | inl all ↦ subst (λ y. IsLegalSeen new (record { session = s; limit = limit }) (burial_command symbol burial) (reply_to (buried_outcome burial) (Err (record { place = refused.place; why = y }))) (record { start = length old; stop = length new; faulted = faulted })) (sym all.why)
+      (moved_is_legal s limit sole symbol burial old new faulted refused.place all.all all.met all.each)
   | inr t ↦ elim t.last [
-    | inl r ↦ refuse_is_legal s limit sole symbol wish old new faulted t.count t.mid t.few t.refused refused.place refused.why r
+    | inl r ↦ refuse_is_legal s limit sole symbol burial old new faulted t.count t.mid t.few t.refused refused.place refused.why r
     | inr rest ↦ elim rest [
-      | inl stop ↦ stop_is_legal s limit sole symbol wish old new faulted t.count t.mid t.few t.refused before now rises refused.place refused.why stop
-      | inr f ↦ subst (λ y. IsLegalSeen new (record { session = s; limit = limit }) (command_of symbol wish) (reply_to (outcome_of wish) (Err (record { place = refused.place; why = y }))) (record { start = length old; stop = length new; faulted = faulted })) (sym f.why)
-          (fault_is_legal s limit sole symbol wish old new faulted t.count t.mid t.few t.refused f.done f.commit refused.place
+      | inl stop ↦ stop_is_legal s limit sole symbol burial old new faulted t.count t.mid t.few t.refused before now rises refused.place refused.why stop
+      | inr f ↦ subst (λ y. IsLegalSeen new (record { session = s; limit = limit }) (burial_command symbol burial) (reply_to (buried_outcome burial) (Err (record { place = refused.place; why = y }))) (record { start = length old; stop = length new; faulted = faulted })) (sym f.why)
+          (fault_is_legal s limit sole symbol burial old new faulted t.count t.mid t.few t.refused f.done f.commit refused.place
           (subst (λ y. StopsAt s.client t.mid new (record { place = refused.place; why = y })) f.why f.stops) (rises f.rose))
     ]
   ]
 ]
 
-pub tries_are_legal : (client : ℕ) (sole : Bool) (symbol : Name) (wish : Wish) (most limit before now : ℕ) (old new : History) (result : Result Buried Refused)
-    → DidTries client sole symbol wish most limit before now old new result → IsLegalBurial limit client most (command_of symbol wish) (outcome_of wish) before now old new result
-tries_are_legal client sole symbol wish most limit before now old new result d = λ s faulted client_is tries_are rises. (
+pub tries_are_legal : (client : ℕ) (sole : Bool) (symbol : Name) (burial : Burial) (most limit before now : ℕ) (old new : History) (result : Result Buried Refused)
+    → DidTries client sole symbol burial most limit before now old new result → IsLegalBurial limit client most symbol burial before now old new result
+tries_are_legal client sole symbol burial most limit before now old new result d = λ s faulted client_is tries_are rises. (
   omega arith,
-  subst (λ h. IsLegalSeen h (record { session = s; limit = limit }) (command_of symbol wish) (reply_to (outcome_of wish) result) (record { start = length old; stop = length new; faulted = faulted })) (sym (history_at_end new))
-      (burial_is_legal s limit sole symbol wish before now old new faulted rises result
-      (subst (λ c. DidTries c sole symbol wish s.tries limit before now old new result) (sym client_is)
-      (subst (λ t. DidTries client sole symbol wish t limit before now old new result) (sym tries_are) d))),
+  subst (λ h. IsLegalSeen h (record { session = s; limit = limit }) (burial_command symbol burial) (reply_to (buried_outcome burial) result) (record { start = length old; stop = length new; faulted = faulted })) (sym (history_at_end new))
+      (burial_is_legal s limit sole symbol burial before now old new faulted rises result
+      (subst (λ c. DidTries c sole symbol burial s.tries limit before now old new result) (sym client_is)
+      (subst (λ t. DidTries client sole symbol burial t limit before now old new result) (sym tries_are) d))),
 )
 
 -- ---- how the history went on
@@ -624,19 +583,19 @@ went_goes_on client sole old new own w = record {
   lawful = w.lawful;
 }
 
-pub goes_on : (client : ℕ) (sole : Bool) (symbol : Name) (wish : Wish) (most limit before now : ℕ) (old new : History) (r : Result Buried Refused)
-    → DidTries client sole symbol wish most limit before now old new r → GoesOn client sole old new
-goes_on client sole symbol wish most limit before now old new (Ok done) d = elim d.last [
-  | inl c ↦ went_goes_on client sole old new _ (went_then client sole old d.mid new _ _ d.refused.went (bury_went client sole symbol wish d.mid new done c))
+pub goes_on : (client : ℕ) (sole : Bool) (symbol : Name) (burial : Burial) (most limit before now : ℕ) (old new : History) (r : Result Buried Refused)
+    → DidTries client sole symbol burial most limit before now old new r → GoesOn client sole old new
+goes_on client sole symbol burial most limit before now old new (Ok done) d = elim d.last [
+  | inl c ↦ went_goes_on client sole old new _ (went_then client sole old d.mid new _ _ d.refused.went (bury_went client sole symbol burial d.mid new done c))
   | inr n ↦ went_goes_on client sole old new _ (went_then client sole old d.mid new _ _ d.refused.went n.went)
 ]
-goes_on client sole symbol wish most limit before now old new (Err refused) d = elim d [
+goes_on client sole symbol burial most limit before now old new (Err refused) d = elim d [
   | inl all ↦ went_goes_on client sole old new _ all.all.went
   | inr t ↦ elim t.last [
     | inl r ↦ went_goes_on client sole old new _ (went_then client sole old t.mid new _ _ t.refused.went r.went)
     | inr rest ↦ elim rest [
       | inl stop ↦ went_goes_on client sole old new _ (went_then client sole old t.mid new _ _ t.refused.went stop.went)
-      | inr f ↦ went_goes_on client sole old new _ (went_then client sole old t.mid new _ _ t.refused.went (bury_went client sole symbol wish t.mid new f.done f.commit))
+      | inr f ↦ went_goes_on client sole old new _ (went_then client sole old t.mid new _ _ t.refused.went (bury_went client sole symbol burial t.mid new f.done f.commit))
     ]
   ]
 ]

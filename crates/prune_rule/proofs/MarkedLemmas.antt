@@ -13,7 +13,9 @@ use Rattle.version_chain.specs.States.{IsStateAt, IsWithin}
 use Rattle.version_chain.specs.Marking.{DidMark}
 use Rattle.prune_rule.specs.declared.choosing.Wish.{Wish}
 use Rattle.prune_rule.specs.declared.burying.Tried.{Tried}
-use Rattle.prune_rule.specs.Burials.{bury_answer, state_answer}
+use Rattle.reply_model.specs.Kinds.{Burial}
+use Rattle.reply_model.specs.CommitAnswers.{bury_answer}
+use Rattle.prune_rule.specs.Burials.{state_answer}
 use Rattle.prune_rule.specs.Tries.{DidEnd, DidAttempt}
 use Rattle.prune_rule.specs.Marked.{IsTriedBy, DidDecline, DidFindNone, DidCommit, DidOn}
 use Rattle.prune_rule.proofs.AttemptLemmas.{choice_refused, choice_stops, nothing_chosen, mark_buries, mark_judged, mark_steady}
@@ -36,32 +38,32 @@ on_steady number limit faults sole a b steady symbol wish state now x y r d = el
   ]
 ]
 
-module _ (client : ℕ) (sole : Bool) (symbol : Name) (wish : Wish) (limit before : ℕ) (old walked : History) (state : SymbolState) (looks : Looks IsClaimed client sole old walked) (seen : IsStateAt walked symbol state) (place : IsWithin old walked state.place)
-    (told : state_answer wish state ≡ bury_answer wish (state_of seen.before symbol)) (now : ℕ) (new : History) (result : Result Tried Refused) where
-  declined_ends : DidDecline wish state walked new result → DidAttempt client sole symbol wish limit before now old new result
+module _ (client : ℕ) (sole : Bool) (symbol : Name) (wish : Wish) (burial : Burial) (limit before : ℕ) (old walked : History) (state : SymbolState) (looks : Looks IsClaimed client sole old walked) (seen : IsStateAt walked symbol state) (place : IsWithin old walked state.place)
+    (told : state_answer wish state ≡ bury_answer burial (state_of seen.before symbol)) (now : ℕ) (new : History) (result : Result Tried Refused) where
+  declined_ends : DidDecline wish state walked new result → DidAttempt client sole symbol burial limit before now old new result
   declined_ends d =
-      let end : DidEnd client sole symbol wish limit before now old walked (Err (record { place = state.place; why = d.why })) = elim d.declined [
-        | inl memory ↦ choice_stops client sole symbol wish limit before old walked state looks seen place now d.why memory
-        | inr refuses ↦ choice_refused client sole symbol wish limit before old walked state looks seen place now d.why (sym told ∙ refuses)
+      let end : DidEnd client sole symbol burial limit before now old walked (Err (record { place = state.place; why = d.why })) = elim d.declined [
+        | inl memory ↦ choice_stops client sole symbol burial limit before old walked state looks seen place now d.why memory
+        | inr refuses ↦ choice_refused client sole symbol burial limit before old walked state looks seen place now d.why (sym told ∙ refuses)
       ] in
-      subst (DidAttempt client sole symbol wish limit before now old new) (sym d.is) (subst (λ h. DidEnd client sole symbol wish limit before now old h (Err (record { place = state.place; why = d.why }))) (sym d.same) end)
+      subst (DidAttempt client sole symbol burial limit before now old new) (sym d.is) (subst (λ h. DidEnd client sole symbol burial limit before now old h (Err (record { place = state.place; why = d.why }))) (sym d.same) end)
 
-  none_ends : DidFindNone wish state walked new result → DidAttempt client sole symbol wish limit before now old new result
+  none_ends : DidFindNone wish state walked new result → DidAttempt client sole symbol burial limit before now old new result
   none_ends n =
-      let end : DidEnd client sole symbol wish limit before now old walked (Ok (record { versions = 0; place = state.place; commit = None })) =
-      nothing_chosen client sole symbol wish limit before old walked state looks seen place now (record { versions = 0; place = state.place; commit = None }) (sym told ∙ n.answered) refl refl refl in
-      subst (DidAttempt client sole symbol wish limit before now old new) (sym n.is) (subst (λ h. DidEnd client sole symbol wish limit before now old h (Ok (record { versions = 0; place = state.place; commit = None }))) (sym n.same) end)
+      let end : DidEnd client sole symbol burial limit before now old walked (Ok (record { versions = 0; place = state.place; commit = None })) =
+      nothing_chosen client sole symbol burial limit before old walked state looks seen place now (record { versions = 0; place = state.place; commit = None }) (sym told ∙ n.answered) refl refl refl in
+      subst (DidAttempt client sole symbol burial limit before now old new) (sym n.is) (subst (λ h. DidEnd client sole symbol burial limit before now old h (Ok (record { versions = 0; place = state.place; commit = None }))) (sym n.same) end)
 
-  commit_ends : DidCommit client sole symbol wish state limit before now walked new result → DidAttempt client sole symbol wish limit before now old new result
+  commit_ends : DidCommit client sole symbol wish state limit before now walked new result → DidAttempt client sole symbol burial limit before now old new result
   commit_ends m = by m.marked m.did m.judged
     where
-      by : (marked : Result ℕ Refused) → DidMark client sole symbol state.place (changes.Removed m.numbers) limit before now walked new marked → IsTriedBy (length m.numbers) marked result → DidAttempt client sole symbol wish limit before now old new result
+      by : (marked : Result ℕ Refused) → DidMark client sole symbol state.place (changes.Removed m.numbers) limit before now walked new marked → IsTriedBy (length m.numbers) marked result → DidAttempt client sole symbol burial limit before now old new result
       by (Ok at) did is =
-          subst (DidAttempt client sole symbol wish limit before now old new) (sym is)
-          (inl (mark_buries client sole symbol wish limit before old walked state looks seen place m.numbers m.filled (sym told ∙ m.answered) new at did (record { versions = length m.numbers; place = at; commit = Some at }) refl refl refl))
-      by (Err refused) did met = mark_judged client sole symbol wish limit before old walked state looks seen place m.numbers m.filled (sym told ∙ m.answered) now new refused result did met
+          subst (DidAttempt client sole symbol burial limit before now old new) (sym is)
+          (inl (mark_buries client sole symbol burial limit before old walked state looks seen place m.numbers m.filled (sym told ∙ m.answered) new at did (record { versions = length m.numbers; place = at; commit = Some at }) refl refl refl))
+      by (Err refused) did met = mark_judged client sole symbol burial limit before old walked state looks seen place m.numbers m.filled (sym told ∙ m.answered) now new refused result did met
 
-  pub attempt_ends : DidOn client sole symbol wish state limit before now walked new result → DidAttempt client sole symbol wish limit before now old new result
+  pub attempt_ends : DidOn client sole symbol wish state limit before now walked new result → DidAttempt client sole symbol burial limit before now old new result
   attempt_ends d = elim d [
     | inl declined ↦ declined_ends declined
     | inr rest ↦ elim rest [

@@ -15,7 +15,7 @@ use Rattle.version_chain.proofs.TraceLemmas.{append_assoc, went_none, went_then,
 use Rattle.version_chain.proofs.MeetLemmas.{met_sooner, met_counts}
 use Rattle.version_chain.proofs.SteadyLemmas.{cause_sooner, rose_sooner}
 use Rattle.reply_model.specs.Tries.{IsRefused}
-use Rattle.prune_rule.specs.declared.choosing.Wish.{Wish}
+use Rattle.reply_model.specs.Kinds.{Burial}
 use Rattle.prune_rule.specs.declared.burying.Buried.{Buried}
 use Rattle.prune_rule.specs.Tries.{DidBury, DidMeet, DidEnd, DidRefused, Buries, Whole}
 
@@ -35,20 +35,20 @@ pub tries_none : (client : ℕ) (sole : Bool) (symbol : Name) (old : History) �
 tries_none client sole symbol old = record { tries = []; refused = tt; counted = refl; went = went_none client sole old; met = omega arith }
 
 -- the own events of a met try
-pub met_went : (client : ℕ) (sole : Bool) (symbol : Name) (wish : Wish) (old new : History) (now : ℕ) → (m : DidMeet client sole symbol wish old new now)
+pub met_went : (client : ℕ) (sole : Bool) (symbol : Name) (burial : Burial) (old new : History) (now : ℕ) → (m : DidMeet client sole symbol burial old new now)
     → Went client sole old new (events.Put client m.entry m.body ∷ events.Drop client m.entry ∷ [])
-met_went client sole symbol wish old new now m = went_then client sole old m.showed new (events.Put client m.entry m.body ∷ []) (events.Drop client m.entry ∷ []) m.put m.dropped
+met_went client sole symbol burial old new now m = went_then client sole old m.showed new (events.Put client m.entry m.body ∷ []) (events.Drop client m.entry ∷ []) m.put m.dropped
 
 -- as the reader of the history sees it
-pub met_one : (client : ℕ) (sole : Bool) (symbol : Name) (wish : Wish) (old new : History) (now : ℕ) → DidMeet client sole symbol wish old new now
-    → IsMetTry new client symbol false (λ q. Buries symbol wish (history_at new q)) (Whole new) (length old) (length new) now
-met_one client sole symbol wish old new now m =
-    tries.met_one client symbol false (Buries symbol wish) Whole m.busy.place now old m.showed new m.put.more m.dropped.more ((m.entry, m.body) ∷ []) m.entry m.busy.within.from m.between m.is_try m.put.is m.put.own_are m.shown m.dropped.is m.dropped.own_are (m.busy.numbers, m.busy.filled, m.busy.answered)
+pub met_one : (client : ℕ) (sole : Bool) (symbol : Name) (burial : Burial) (old new : History) (now : ℕ) → DidMeet client sole symbol burial old new now
+    → IsMetTry new client symbol false (λ q. Buries symbol burial (history_at new q)) (Whole new) (length old) (length new) now
+met_one client sole symbol burial old new now m =
+    tries.met_one client symbol false (Buries symbol burial) Whole m.busy.place now old m.showed new m.put.more m.dropped.more ((m.entry, m.body) ∷ []) m.entry m.busy.within.from m.between m.is_try m.put.is m.put.own_are m.shown m.dropped.is m.dropped.own_are (m.busy.numbers, m.busy.filled, m.busy.answered)
 
-pub tries_more : (client : ℕ) (sole : Bool) (symbol : Name) (wish : Wish) (old mid new : History) (n now : ℕ) → DidRefused client sole symbol old mid n → DidMeet client sole symbol wish mid new now → DidRefused client sole symbol old new (n + 1)
-tries_more client sole symbol wish old mid new n now a b =
+pub tries_more : (client : ℕ) (sole : Bool) (symbol : Name) (burial : Burial) (old mid new : History) (n now : ℕ) → DidRefused client sole symbol old mid n → DidMeet client sole symbol burial mid new now → DidRefused client sole symbol old new (n + 1)
+tries_more client sole symbol burial old mid new n now a b =
     let own : List Event = events.Put client b.entry b.body ∷ events.Drop client b.entry ∷ [] in
-    let last : Went client sole mid new own = met_went client sole symbol wish mid new now b in
+    let last : Went client sole mid new own = met_went client sole symbol burial mid new now b in
     let w : Went client sole old new (flat_map (λ t. t) (a.tries ++ own ∷ [])) =
     went_as client sole old new (flat_map (λ t. t) a.tries ++ own) (flat_map (λ t. t) (a.tries ++ own ∷ [])) (sym (flat_last a.tries own)) (went_then client sole old mid new (flat_map (λ t. t) a.tries) own a.went last) in
     let is : new ≡ (last.more ++ a.went.more) ++ old = last.is ∙ (ap (λ h. last.more ++ h) a.went.is ∙ sym (append_assoc last.more a.went.more old)) in
@@ -63,15 +63,15 @@ tries_more client sole symbol wish old mid new n now a b =
       met = let some : 1 ≤ met_in client symbol last.more = met_counts client symbol (length mid) mid last.more now (omega arith) (subst (λ h. IsMet client symbol (length mid) h now) last.is b.met) in omega (arith, count, a.met, some);
     }
 
-pub last_met : (client : ℕ) (sole : Bool) (symbol : Name) (wish : Wish) (old mid new : History) (n now : ℕ) → DidRefused client sole symbol old mid n → DidMeet client sole symbol wish mid new now → IsMet client symbol (length old) new now
-last_met client sole symbol wish old mid new n now a b = met_sooner client symbol (length mid) (length old) new now (went_longer client sole old mid (flat_map (λ t. t) a.tries) a.went) b.met
+pub last_met : (client : ℕ) (sole : Bool) (symbol : Name) (burial : Burial) (old mid new : History) (n now : ℕ) → DidRefused client sole symbol old mid n → DidMeet client sole symbol burial mid new now → IsMet client symbol (length old) new now
+last_met client sole symbol burial old mid new n now a b = met_sooner client symbol (length mid) (length old) new now (went_longer client sole old mid (flat_map (λ t. t) a.tries) a.went) b.met
 
 -- what a try did, of the bucket as it was before earlier calls
-module _ {B : Type 0} (number limit faults : B → ℕ) (sole : B → Bool) (a b : B) (steady : IsSteady number limit faults sole a b) (symbol : Name) (wish : Wish) (now : ℕ) (x y : History) where
+module _ {B : Type 0} (number limit faults : B → ℕ) (sole : B → Bool) (a b : B) (steady : IsSteady number limit faults sole a b) (symbol : Name) (burial : Burial) (now : ℕ) (x y : History) where
   went : (u v : History) (own : List Event) → Went (number b) (sole b) u v own → Went (number b) (sole a) u v own
   went u v own w = record { more = w.more; is = w.is; own_are = w.own_are; alone = λ t. w.alone (steady.stays_sole t); lawful = w.lawful }
 
-  buries : (done : Buried) → DidBury (number b) (sole b) symbol wish x y done → DidBury (number b) (sole a) symbol wish x y done
+  buries : (done : Buried) → DidBury (number b) (sole b) symbol burial x y done → DidBury (number b) (sole a) symbol burial x y done
   buries done d = record {
     numbers = d.numbers;
     filled = d.filled;
@@ -89,7 +89,7 @@ module _ {B : Type 0} (number limit faults : B → ℕ) (sole : B → Bool) (a b
     commit = d.commit;
   }
 
-  ends : (r : Result Buried Refused) → DidEnd (number b) (sole b) symbol wish (limit b) (faults b) now x y r → DidEnd (number b) (sole a) symbol wish (limit b) (faults a) now x y r
+  ends : (r : Result Buried Refused) → DidEnd (number b) (sole b) symbol burial (limit b) (faults b) now x y r → DidEnd (number b) (sole a) symbol burial (limit b) (faults a) now x y r
   ends (Ok done) d = elim d [
     | inl c ↦ inl (buries done c)
     | inr n ↦ inr (record { went = went x y [] n.went; place = n.place; answered = n.answered; versions = n.versions; commit = n.commit })
@@ -109,13 +109,13 @@ module _ {B : Type 0} (number limit faults : B → ℕ) (sole : B → Bool) (a b
     ]
   ]
 
-  pub end_steady : (r : Result Buried Refused) → DidEnd (number b) (sole b) symbol wish (limit b) (faults b) now x y r → DidEnd (number a) (sole a) symbol wish (limit a) (faults a) now x y r
+  pub end_steady : (r : Result Buried Refused) → DidEnd (number b) (sole b) symbol burial (limit b) (faults b) now x y r → DidEnd (number a) (sole a) symbol burial (limit a) (faults a) now x y r
   end_steady r d =
-      subst (λ n. DidEnd n (sole a) symbol wish (limit a) (faults a) now x y r) steady.same_number
-      (subst (λ l. DidEnd (number b) (sole a) symbol wish l (faults a) now x y r) steady.same_limit (ends r d))
+      subst (λ n. DidEnd n (sole a) symbol burial (limit a) (faults a) now x y r) steady.same_number
+      (subst (λ l. DidEnd (number b) (sole a) symbol burial l (faults a) now x y r) steady.same_limit (ends r d))
 
-  pub meet_steady : (place : ℕ) → DidMeet (number b) (sole b) symbol wish x y place → DidMeet (number a) (sole a) symbol wish x y place
-  meet_steady place d = subst (λ n. DidMeet n (sole a) symbol wish x y place) steady.same_number (record {
+  pub meet_steady : (place : ℕ) → DidMeet (number b) (sole b) symbol burial x y place → DidMeet (number a) (sole a) symbol burial x y place
+  meet_steady place d = subst (λ n. DidMeet n (sole a) symbol burial x y place) steady.same_number (record {
     entry = d.entry;
     body = d.body;
     is_try = d.is_try;

@@ -1,50 +1,27 @@
--- Which versions a command buries.
---     to_bury             the versions that are buried in a state, ascending, or the version that is asked and not live
---     bury_answer         the same, where the symbol has a reference
---     command_of, outcome_of      the command, and its outcome where so many are buried
+-- Which versions a burial buries in a walked state.
+--     burial_of           a wish, as a burial
 --     live_among, without_last      the numbers of the links that are not buried; all of a list but its last
---     chosen_in, state_answer      the same of a walked state
+--     chosen_in, state_answer      what a walked state answers: the versions, or the version that is asked and not live; where the symbol has a reference
 --     Declines            want of memory, or the refusal of an answer
 use Rattle.std.specs.Prelude.{◌≡◌, ◌⊎◌, ℕ, not, List, [], ◌∷◌, map, filter, find, is_some, Some, None, Result, Ok, Err}
 use Rattle.frame_core.specs.declared.refusal.Asked.TheVariants as asks
 use Rattle.frame_core.specs.declared.refusal.Refusal.{Refusal}
 use Rattle.frame_core.specs.declared.refusal.Refusal.TheVariants as refusals
 use Rattle.frame_core.specs.RawFrames.{unless}
-use Rattle.key_kind.specs.Names.{Name}
 use Rattle.store_model.specs.declared.chain.LinkRow.{LinkRow}
-use Rattle.store_model.specs.Library.{State}
 use Rattle.version_chain.specs.declared.state.SymbolState.{SymbolState}
 use Rattle.version_chain.specs.States.{is_tomb, live_link}
-use Rattle.expr_clause.specs.declared.command.Command.{Command}
-use Rattle.expr_clause.specs.declared.command.Command.TheVariants as commands
-use Rattle.reply_model.specs.declared.outcome.Outcome.{Outcome}
-use Rattle.reply_model.specs.declared.outcome.Outcome.TheVariants as outcomes
-use Rattle.reply_model.specs.Answering.{refuse_if, live_numbers}
-use Rattle.reply_model.specs.CommitAnswers.{first_absent, ascending, older_live}
+use Rattle.reply_model.specs.Answering.{refuse_if}
+use Rattle.reply_model.specs.CommitAnswers.{ascending}
+use Rattle.reply_model.specs.Kinds.{Burial, Listed, Older}
 use Rattle.prune_rule.specs.declared.choosing.Wish.{Wish}
 use Rattle.prune_rule.specs.declared.choosing.Wish.TheVariants as wishes
 
--- every live version; the asked ones, each once, where all are live; every live version but the newest
-abbrev pub to_bury : Wish → State → Result (List ℕ) Refusal
-to_bury wishes.All st = Ok (live_numbers st)
-to_bury (wishes.These numbers) st = unless (first_absent st numbers.now) (λ n. refusals.NoSuchVersion (asks.Number n)) (Ok (ascending numbers.now))
-to_bury wishes.ButNewest st = Ok (older_live st)
-
--- the same, where the symbol has a reference
-abbrev pub bury_answer : Wish → State → Result (List ℕ) Refusal
-bury_answer wish st = refuse_if (not st.has_reference) refusals.NoSuchSymbol (to_bury wish st)
-
--- the command
-abbrev pub command_of : Name → Wish → Command
-command_of symbol wishes.All = commands.Delete symbol None
-command_of symbol (wishes.These numbers) = commands.Delete symbol (Some numbers.now)
-command_of symbol wishes.ButNewest = commands.Prune symbol
-
--- the outcome where so many are buried
-abbrev pub outcome_of : Wish → ℕ → Outcome
-outcome_of wishes.All n = outcomes.Deleted n
-outcome_of (wishes.These numbers) n = outcomes.Deleted n
-outcome_of wishes.ButNewest n = outcomes.Pruned n
+-- what a wish of a command buries
+abbrev pub burial_of : Wish → Burial
+burial_of wishes.All = Listed None
+burial_of (wishes.These numbers) = Listed (Some numbers.now)
+burial_of wishes.ButNewest = Older
 
 -- ---- of a walked state
 
@@ -58,7 +35,7 @@ without_last [] = []
 without_last (n ∷ []) = []
 without_last (n ∷ m ∷ ns) = n ∷ without_last (m ∷ ns)
 
--- what is to bury
+-- what is buried
 abbrev pub chosen_in : Wish → SymbolState → Result (List ℕ) Refusal
 chosen_in wishes.All state = Ok (live_among state.tombs state.links)
 chosen_in (wishes.These numbers) state = unless (find (λ n. not (is_some (live_link state n))) numbers.now) (λ n. refusals.NoSuchVersion (asks.Number n)) (Ok (ascending numbers.now))

@@ -4,11 +4,13 @@
 use Rattle.std.specs.Prelude.{◌≡◌, ℕ, Bool, true, List, [], ◌∷◌, length, Option, Some, None, Result, Ok, Err}
 use Rattle.base_types.specs.Faults.{Rose}
 use Rattle.frame_core.specs.declared.refusal.Refused.{Refused}
+use Rattle.key_kind.specs.Names.{Name}
 use Rattle.bucket_core.specs.History.{History}
-use Rattle.expr_clause.specs.declared.command.Command.{Command}
 use Rattle.reply_model.specs.declared.outcome.Outcome.{Outcome}
 use Rattle.reply_model.specs.declared.outcome.Outcome.TheVariants as outcomes
 use Rattle.reply_model.specs.declared.reply.Reply.{Reply}
+use Rattle.reply_model.specs.Kinds.{Burial, burial_command}
+use Rattle.reply_model.specs.CommitAnswers.{buried_outcome}
 use Rattle.reply_model.specs.Answering.{Session}
 use Rattle.reply_model.specs.Legal.{IsLegalReply}
 use Rattle.prune_rule.specs.declared.burying.Buried.{Buried}
@@ -24,7 +26,8 @@ reply_to outcome (Ok done) = record { place = done.place; listed = None; commits
 reply_to outcome (Err refused) = record { place = refused.place; listed = None; commits = []; left = []; outcome = outcomes.Refused refused.why }
 
 -- for each session of this client with so many tries the reply is legal, with the window that the call added and a flag that is set where the faults rose
-abbrev pub IsLegalBurial : ℕ → ℕ → ℕ → Command → (ℕ → Outcome) → ℕ → ℕ → History → History → Result Buried Refused → Type 0
-IsLegalBurial limit client tries command outcome before now old new result =
+abbrev pub IsLegalBurial : ℕ → ℕ → ℕ → Name → Burial → ℕ → ℕ → History → History → Result Buried Refused → Type 0
+IsLegalBurial limit client tries symbol burial before now old new result =
     (s : Session) (faulted : Bool) → s.client ≡ client → s.tries ≡ tries → (Rose before now → faulted ≡ true)
-    → IsLegalReply new (record { session = s; limit = limit }) command (reply_to outcome result) (record { start = length old; stop = length new; faulted = faulted })
+    → IsLegalReply new (record { session = s; limit = limit }) (burial_command symbol burial) (reply_to (buried_outcome burial) result)
+    (record { start = length old; stop = length new; faulted = faulted })

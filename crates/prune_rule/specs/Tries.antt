@@ -26,14 +26,14 @@ use Rattle.version_chain.specs.Stops.{StopsAt, HasCause}
 use Rattle.version_chain.specs.Marking.{IsMet}
 use Rattle.reply_model.specs.Tries.{IsTry, IsRefused}
 use Rattle.reply_model.specs.Moves.{AreMetTries}
-use Rattle.prune_rule.specs.declared.choosing.Wish.{Wish}
+use Rattle.reply_model.specs.Kinds.{Burial}
+use Rattle.reply_model.specs.CommitAnswers.{bury_answer}
 use Rattle.prune_rule.specs.declared.burying.Buried.{Buried}
 use Rattle.prune_rule.specs.declared.burying.Tried.{Tried}
 use Rattle.prune_rule.specs.declared.burying.Tried.TheVariants as tried
-use Rattle.prune_rule.specs.Burials.{bury_answer}
 
 -- the Put of an element, and behind it the Refer that buries what the library answers just before it, at least one version
-pub record DidBury (client : ℕ) (sole : Bool) (symbol : Name) (wish : Wish) (old new : History) (done : Buried) : Type 0 where
+pub record DidBury (client : ℕ) (sole : Bool) (symbol : Name) (burial : Burial) (old new : History) (done : Buried) : Type 0 where
   pub numbers : List ℕ
   pub filled : IsFilled numbers
   pub was : Option Key
@@ -44,24 +44,24 @@ pub record DidBury (client : ℕ) (sole : Bool) (symbol : Name) (wish : Wish) (o
   pub newest : new ≡ events.Refer client symbol was entry (changes.Removed numbers ∷ []) ∷ before
   pub went : Went client sole old before (events.Put client entry body ∷ [])
   pub lawful : IsLawful old → IsLawful new
-  pub answered : bury_answer wish (state_of before symbol) ≡ Ok numbers
+  pub answered : bury_answer burial (state_of before symbol) ≡ Ok numbers
   pub versions : done.versions ≡ length numbers
   pub place : done.place ≡ length new
   pub commit : done.commit ≡ Some (length new)
 
 -- no event, since nothing is to bury at the place
-pub record DidNothing (client : ℕ) (sole : Bool) (symbol : Name) (wish : Wish) (old new : History) (done : Buried) : Type 0 where
+pub record DidNothing (client : ℕ) (sole : Bool) (symbol : Name) (burial : Burial) (old new : History) (done : Buried) : Type 0 where
   pub went : Went client sole old new []
   pub place : IsWithin old new done.place
-  pub answered : bury_answer wish (state_of (history_at new done.place) symbol) ≡ Ok []
+  pub answered : bury_answer burial (state_of (history_at new done.place) symbol) ≡ Ok []
   pub versions : done.versions ≡ 0
   pub commit : done.commit ≡ None
 
 -- no event, since the library refuses at the place
-pub record DidRefuse (client : ℕ) (sole : Bool) (symbol : Name) (wish : Wish) (old new : History) (refused : Refused) : Type 0 where
+pub record DidRefuse (client : ℕ) (sole : Bool) (symbol : Name) (burial : Burial) (old new : History) (refused : Refused) : Type 0 where
   pub went : Went client sole old new []
   pub place : IsWithin old new refused.place
-  pub answered : bury_answer wish (state_of (history_at new refused.place) symbol) ≡ Err refused.why
+  pub answered : bury_answer burial (state_of (history_at new refused.place) symbol) ≡ Err refused.why
 
 -- the own events of a try that stopped: none; the Put of its element; or its Drop too, where the try was met
 pub data IsPart (client : ℕ) (symbol : Name) (met : ℕ) : List Event → Type 0 where
@@ -70,16 +70,16 @@ pub data IsPart (client : ℕ) (symbol : Name) (met : ℕ) : List Event → Type
   one_drop : (entry : Key) (body : Bytes) → IsTry symbol false ((entry, body) ∷ []) entry → 1 ≤ met → IsPart client symbol met (events.Put client entry body ∷ events.Drop client entry ∷ [])
 
 -- at a place of the call there is something to bury
-pub record HasToBury (symbol : Name) (wish : Wish) (old new : History) (upto : ℕ) : Type 0 where
+pub record HasToBury (symbol : Name) (burial : Burial) (old new : History) (upto : ℕ) : Type 0 where
   pub place : ℕ
   pub within : IsWithin old new place
   pub before : place ≤ upto
   pub numbers : List ℕ
   pub filled : IsFilled numbers
-  pub answered : bury_answer wish (state_of (history_at new place) symbol) ≡ Ok numbers
+  pub answered : bury_answer burial (state_of (history_at new place) symbol) ≡ Ok numbers
 
 -- a refused try: its Put, then a call that showed the Refer of this place, and the Drop of the same key; where it looked there was something to bury
-pub record DidMeet (client : ℕ) (sole : Bool) (symbol : Name) (wish : Wish) (old new : History) (now : ℕ) : Type 0 where
+pub record DidMeet (client : ℕ) (sole : Bool) (symbol : Name) (burial : Burial) (old new : History) (now : ℕ) : Type 0 where
   pub entry : Key
   pub body : Bytes
   pub is_try : IsTry symbol false ((entry, body) ∷ []) entry
@@ -88,34 +88,34 @@ pub record DidMeet (client : ℕ) (sole : Bool) (symbol : Name) (wish : Wish) (o
   pub shown : referred_at showed symbol ≡ now
   pub dropped : Went client sole showed new (events.Drop client entry ∷ [])
   pub met : IsMet client symbol (length old) new now
-  pub busy : HasToBury symbol wish old new now
+  pub busy : HasToBury symbol burial old new now
   pub between : busy.place < now
 
 -- a call of a try failed; the store was full only where there was something to bury
-pub record DidStop (client : ℕ) (sole : Bool) (symbol : Name) (wish : Wish) (limit before now : ℕ) (old new : History) (refused : Refused) : Type 0 where
+pub record DidStop (client : ℕ) (sole : Bool) (symbol : Name) (burial : Burial) (limit before now : ℕ) (old new : History) (refused : Refused) : Type 0 where
   pub own : List Event
   pub went : Went client sole old new own
   pub part : IsPart client symbol (met_in client symbol went.more) own
   pub stops : StopsAt client old new refused
   pub cause : HasCause limit before now new refused refused.why
-  pub busy : (count : ℕ) → refused.why ≡ refusals.Spent count → HasToBury symbol wish old new refused.place
+  pub busy : (count : ℕ) → refused.why ≡ refusals.Spent count → HasToBury symbol burial old new refused.place
 
 -- the store failed, and yet the commit stands
-pub record DidFault (client : ℕ) (sole : Bool) (symbol : Name) (wish : Wish) (before now : ℕ) (old new : History) (refused : Refused) : Type 0 where
+pub record DidFault (client : ℕ) (sole : Bool) (symbol : Name) (burial : Burial) (before now : ℕ) (old new : History) (refused : Refused) : Type 0 where
   pub done : Buried
-  pub commit : DidBury client sole symbol wish old new done
+  pub commit : DidBury client sole symbol burial old new done
   pub why : refused.why ≡ refusals.StoreFault
   pub stops : StopsAt client old new refused
   pub rose : Rose before now
 
 -- how a command ended that was not met again
-abbrev pub DidEnd : ℕ → Bool → Name → Wish → ℕ → ℕ → ℕ → History → History → Result Buried Refused → Type 0
-DidEnd client sole symbol wish limit before now old new (Ok done) =
-    DidBury client sole symbol wish old new done ⊎ DidNothing client sole symbol wish old new done
-DidEnd client sole symbol wish limit before now old new (Err refused) =
-    DidRefuse client sole symbol wish old new refused
-    ⊎ DidStop client sole symbol wish limit before now old new refused
-    ⊎ DidFault client sole symbol wish before now old new refused
+abbrev pub DidEnd : ℕ → Bool → Name → Burial → ℕ → ℕ → ℕ → History → History → Result Buried Refused → Type 0
+DidEnd client sole symbol burial limit before now old new (Ok done) =
+    DidBury client sole symbol burial old new done ⊎ DidNothing client sole symbol burial old new done
+DidEnd client sole symbol burial limit before now old new (Err refused) =
+    DidRefuse client sole symbol burial old new refused
+    ⊎ DidStop client sole symbol burial limit before now old new refused
+    ⊎ DidFault client sole symbol burial before now old new refused
 
 -- a try that was met at this place; or the refusal of the command
 abbrev pub IsMetBy : Refused → Result Tried Refused → Type 0
@@ -124,10 +124,10 @@ IsMetBy refused (Ok (tried.Done done)) = ⊥
 IsMetBy refused (Err same) = (same ≡ refused) × ((now : ℕ) → refused.why ≡ refusals.Moved now → ⊥)
 
 -- what one try did
-abbrev pub DidAttempt : ℕ → Bool → Name → Wish → ℕ → ℕ → ℕ → History → History → Result Tried Refused → Type 0
-DidAttempt client sole symbol wish limit before now old new (Ok (tried.Done done)) = DidEnd client sole symbol wish limit before now old new (Ok done)
-DidAttempt client sole symbol wish limit before now old new (Ok (tried.Met place)) = DidMeet client sole symbol wish old new place
-DidAttempt client sole symbol wish limit before now old new (Err refused) = DidEnd client sole symbol wish limit before now old new (Err refused)
+abbrev pub DidAttempt : ℕ → Bool → Name → Burial → ℕ → ℕ → ℕ → History → History → Result Tried Refused → Type 0
+DidAttempt client sole symbol burial limit before now old new (Ok (tried.Done done)) = DidEnd client sole symbol burial limit before now old new (Ok done)
+DidAttempt client sole symbol burial limit before now old new (Ok (tried.Met place)) = DidMeet client sole symbol burial old new place
+DidAttempt client sole symbol burial limit before now old new (Err refused) = DidEnd client sole symbol burial limit before now old new (Err refused)
 
 -- so many refused tries
 pub record DidRefused (client : ℕ) (sole : Bool) (symbol : Name) (old new : History) (count : ℕ) : Type 0 where
@@ -146,27 +146,29 @@ pub record Then (client : ℕ) (sole : Bool) (symbol : Name) (most : ℕ) (old n
   pub last : Last mid
 
 -- in this history there is something to bury
-abbrev pub Buries : Name → Wish → History → Type 0
-Buries symbol wish h = (numbers : List ℕ) × IsFilled numbers × (bury_answer wish (state_of h symbol) ≡ Ok numbers)
+abbrev pub Buries : Name → Burial → History → Type 0
+Buries symbol burial h = (numbers : List ℕ) × IsFilled numbers × (bury_answer burial (state_of h symbol) ≡ Ok numbers)
 
 -- a burial reads nothing that may be lost
 abbrev pub Whole : History → ℕ → ℕ → Type 0
 Whole h look showed = ⊥
 
 -- so many tries were met, each where there was something to bury, the last by the Refer of this place
-abbrev pub MetTries : ℕ → Name → Wish → ℕ → History → History → ℕ → Type 0
-MetTries client symbol wish count old new now = AreMetTries new client symbol false (λ q. Buries symbol wish (history_at new q)) (Whole new) count (length old) (length new) now
+abbrev pub MetTries : ℕ → Name → Burial → ℕ → History → History → ℕ → Type 0
+MetTries client symbol burial count old new now =
+    AreMetTries new client symbol false (λ q. Buries symbol burial (history_at new q)) (Whole new) count (length old) (length new) now
 
 -- each try was met; the last by the Refer of this place
-pub record DidMeetAll (client : ℕ) (sole : Bool) (symbol : Name) (wish : Wish) (most : ℕ) (old new : History) (refused : Refused) : Type 0 where
+pub record DidMeetAll (client : ℕ) (sole : Bool) (symbol : Name) (burial : Burial) (most : ℕ) (old new : History) (refused : Refused) : Type 0 where
   pub all : DidRefused client sole symbol old new most
-  pub each : MetTries client symbol wish most old new refused.place
+  pub each : MetTries client symbol burial most old new refused.place
   pub met : IsMet client symbol (length old) new refused.place
   pub why : refused.why ≡ refusals.Moved refused.place
 
 -- what all tries did
-abbrev pub DidTries : ℕ → Bool → Name → Wish → ℕ → ℕ → ℕ → ℕ → History → History → Result Buried Refused → Type 0
-DidTries client sole symbol wish most limit before now old new (Ok done) =
-    Then client sole symbol most old new (λ mid. DidEnd client sole symbol wish limit before now mid new (Ok done))
-DidTries client sole symbol wish most limit before now old new (Err refused) =
-    DidMeetAll client sole symbol wish most old new refused ⊎ Then client sole symbol most old new (λ mid. DidEnd client sole symbol wish limit before now mid new (Err refused))
+abbrev pub DidTries : ℕ → Bool → Name → Burial → ℕ → ℕ → ℕ → ℕ → History → History → Result Buried Refused → Type 0
+DidTries client sole symbol burial most limit before now old new (Ok done) =
+    Then client sole symbol most old new (λ mid. DidEnd client sole symbol burial limit before now mid new (Ok done))
+DidTries client sole symbol burial most limit before now old new (Err refused) =
+    DidMeetAll client sole symbol burial most old new refused
+    ⊎ Then client sole symbol most old new (λ mid. DidEnd client sole symbol burial limit before now mid new (Err refused))

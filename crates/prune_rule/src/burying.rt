@@ -3,10 +3,10 @@
 ghost use Rattle.std.specs.Prelude.{◌≤◌, option_copied};
 ghost use Rattle.bucket_core.specs.Calls.{IsSteady};
 ghost use Rattle.bucket_core.specs.declared.event.Change.TheVariants.{Removed};
-ghost use Rattle.expr_clause.specs.declared.command.Command.TheVariants.{Delete, Prune};
-ghost use Rattle.reply_model.specs.declared.outcome.Outcome.TheVariants.{Deleted, Pruned};
+ghost use Rattle.reply_model.specs.Kinds.{Listed, Older};
 ghost use Rattle.version_chain.specs.Traces.{GoesOn};
 ghost use Rattle.version_chain.specs.Marking.{MayMark, DidMark};
+ghost use Rattle.prune_rule.specs.Burials.{burial_of};
 ghost use Rattle.prune_rule.specs.Tries.{DidAttempt, DidTries, IsMetBy};
 ghost use Rattle.prune_rule.specs.Marked.{MayBury, IsTriedBy, DidOn};
 ghost use Rattle.prune_rule.specs.Replies.{IsLegalBurial};
@@ -56,7 +56,7 @@ pub fn delete_versions<R: Wait, B: Bucket<StoreLaw>>(
     requires few_tries { tries ≤ 1000 }
     ensures steady { IsSteady B.number B.limit B.faults B.sole bucket.old bucket.new }
     ensures grown { GoesOn (B.number bucket.old) (B.sole bucket.old) (B.seen bucket.old) (B.seen bucket.new) }
-    ensures legal { IsLegalBurial (B.limit bucket.old) (B.number bucket.old) tries (Delete symbol.now (option_copied versions.entry)) Deleted (B.faults bucket.old) (B.faults bucket.new) (B.seen bucket.old) (B.seen bucket.new) result }
+    ensures legal { IsLegalBurial (B.limit bucket.old) (B.number bucket.old) tries symbol.now (Listed (option_copied versions.entry)) (B.faults bucket.old) (B.faults bucket.new) (B.seen bucket.old) (B.seen bucket.new) result }
 {
     match versions {
         Some(numbers) => bury(rt, alloc, bucket, symbol, Wish::These(numbers), tries),
@@ -79,7 +79,7 @@ pub fn prune<R: Wait, B: Bucket<StoreLaw>>(
     requires few_tries { tries ≤ 1000 }
     ensures steady { IsSteady B.number B.limit B.faults B.sole bucket.old bucket.new }
     ensures grown { GoesOn (B.number bucket.old) (B.sole bucket.old) (B.seen bucket.old) (B.seen bucket.new) }
-    ensures legal { IsLegalBurial (B.limit bucket.old) (B.number bucket.old) tries (Prune symbol.now) Pruned (B.faults bucket.old) (B.faults bucket.new) (B.seen bucket.old) (B.seen bucket.new) result }
+    ensures legal { IsLegalBurial (B.limit bucket.old) (B.number bucket.old) tries symbol.now Older (B.faults bucket.old) (B.faults bucket.new) (B.seen bucket.old) (B.seen bucket.new) result }
 {
     bury(rt, alloc, bucket, symbol, Wish::ButNewest, tries)
 }
@@ -95,7 +95,7 @@ fn bury<R: Wait, B: Bucket<StoreLaw>>(
 ) -> Result<Buried, Refused>
     requires some_tries { 1 ≤ tries }
     ensures steady { IsSteady B.number B.limit B.faults B.sole bucket.old bucket.new }
-    ensures did { DidTries (B.number bucket.old) (B.sole bucket.old) symbol.now wish.entry tries (B.limit bucket.old) (B.faults bucket.old) (B.faults bucket.new) (B.seen bucket.old) (B.seen bucket.new) result }
+    ensures did { DidTries (B.number bucket.old) (B.sole bucket.old) symbol.now (burial_of wish.entry) tries (B.limit bucket.old) (B.faults bucket.old) (B.faults bucket.new) (B.seen bucket.old) (B.seen bucket.new) result }
 {
     let mut met = 0;
     for _ in 0..tries {
@@ -119,7 +119,7 @@ fn attempt<R: Wait, B: Bucket<StoreLaw>>(
     wish: Wish,
 ) -> Result<Tried, Refused>
     ensures steady { IsSteady B.number B.limit B.faults B.sole bucket.old bucket.new }
-    ensures did { DidAttempt (B.number bucket.old) (B.sole bucket.old) symbol.now wish.entry (B.limit bucket.old) (B.faults bucket.old) (B.faults bucket.new) (B.seen bucket.old) (B.seen bucket.new) result }
+    ensures did { DidAttempt (B.number bucket.old) (B.sole bucket.old) symbol.now (burial_of wish.entry) (B.limit bucket.old) (B.faults bucket.old) (B.faults bucket.new) (B.seen bucket.old) (B.seen bucket.new) result }
 {
     let state = walk(rt, alloc, bucket, symbol)?;
     attempt_on(rt, alloc, bucket, symbol, &state, wish)

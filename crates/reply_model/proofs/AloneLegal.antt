@@ -1,12 +1,9 @@
 -- Each legal reply for a window without events of others is a step of the fold: commits, and commands that only look.
 use Rattle.std.proofs.Common.{◌≡◌, ℕ, suc, ◌+◌, ◌-◌, ◌≤◌, Bool, true, false, List, [], ◌∷◌, ◌++◌, length, Option, Some, None, Ok, refl, sym, ◌∙◌, ap, subst, inl, inr, arith, length-append, cond}
-use Rattle.std.specs.Prelude.{⊤, ℤ, not, nat_eq, nat_le, option_map, Result, Err}
+use Rattle.std.specs.Prelude.{⊤, ℤ, nat_eq, nat_le, option_map, Result, Err}
 use Rattle.std.proofs.lemmas.Bool.{eq-eqb, le-leb, and_from}
 use Rattle.frame_core.specs.Frames.{Frame, replace_range}
-use Rattle.frame_core.specs.RawFrames.{unless}
-use Rattle.frame_core.specs.declared.refusal.Asked.TheVariants as asks
 use Rattle.frame_core.specs.declared.refusal.Refusal.{Refusal}
-use Rattle.frame_core.specs.declared.refusal.Refusal.TheVariants as refusals
 use Rattle.key_kind.specs.Names.{Name}
 use Rattle.key_kind.specs.declared.key.Key.{Key}
 use Rattle.bucket_core.specs.declared.event.Change.{Change}
@@ -20,11 +17,11 @@ use Rattle.store_model.specs.Law.{IsLawful}
 use Rattle.expr_clause.specs.declared.command.Command.{Command}
 use Rattle.expr_clause.specs.declared.command.Command.TheVariants as commands
 use Rattle.reply_model.specs.declared.outcome.Outcome.{Outcome}
-use Rattle.reply_model.specs.declared.outcome.Outcome.TheVariants as outcomes
 use Rattle.reply_model.specs.declared.reply.Reply.{Reply}
-use Rattle.reply_model.specs.CommitAnswers.{append_answer, update_range, may_update, update_answer, delete_answer, prune_answer, first_absent, ascending, older_live}
-use Rattle.reply_model.specs.Answering.{Session, Answer, base_or, may_append, joined_within, ◌then◌, answered, refused, refuse_if, frame_of, stamp_of, committed, removed, live_numbers, pruned}
-use Rattle.reply_model.specs.Answers.{answer}
+use Rattle.reply_model.specs.CommitAnswers.{append_answer, update_range, may_update, update_answer, bury_answer, buried_outcome, burial_answer}
+use Rattle.reply_model.specs.Kinds.{Burial}
+use Rattle.reply_model.specs.Answering.{Session, Answer, base_or, may_append, joined_within, ◌then◌, answered, refused, frame_of, stamp_of, committed, removed, pruned}
+use Rattle.reply_model.specs.Answers.{made_answer, answer}
 use Rattle.reply_model.specs.Windows.{Client, library_at, refer_places, symbol_of, listed_at}
 use Rattle.store_model.specs.Links.{links}
 use Rattle.store_model.specs.Commits.{is_version}
@@ -88,50 +85,31 @@ frame_version_first : (o : Option (Result Frame Refusal)) (next : Frame → Resu
 frame_version_first None next outcome first rest makes e = absurd cc
 frame_version_first (Some x) next outcome first rest makes e = version_first (x then next) outcome first rest (makes_then x next makes) e
 
-pub write_first : (s : Session) (list l : Library) (q : ℕ) (symbol : Name) (frame : ℕ) (at : Option ℤ) (prune : Bool) (outcome : Outcome) (first : Change) (rest : List Change)
-    → answer s list l q (commands.Write symbol frame at prune) ≡ Some (record { outcome = outcome; marks = first ∷ rest }) → is_version first ≡ true
-write_first s list l q symbol frame at prune outcome first rest e =
-    frame_version_first (frame_of s frame) (λ f. Ok (committed (l.state symbol) prune (changes.Wrote f (stamp_of s at)))) outcome first rest (λ f. commit_makes (l.state symbol) prune (changes.Wrote f (stamp_of s at)) refl) e
-
-pub append_first : (s : Session) (list l : Library) (q : ℕ) (symbol : Name) (frame : ℕ) (at : Option ℤ) (prune : Bool) (outcome : Outcome) (first : Change) (rest : List Change)
-    → answer s list l q (commands.Append symbol frame at prune) ≡ Some (record { outcome = outcome; marks = first ∷ rest }) → is_version first ≡ true
-append_first s list l q symbol frame at prune outcome first rest e =
-    frame_version_first (frame_of s frame) (λ f. append_answer (l.state symbol) prune (stamp_of s at) f) outcome first rest (λ f. append_makes (l.state symbol) prune (stamp_of s at) f) e
-
-pub update_first : (s : Session) (list l : Library) (q : ℕ) (symbol : Name) (frame : ℕ) (range : Option Range) (upsert : Bool) (at : Option ℤ) (prune : Bool) (outcome : Outcome) (first : Change) (rest : List Change)
-    → answer s list l q (commands.Update symbol frame range upsert at prune) ≡ Some (record { outcome = outcome; marks = first ∷ rest }) → is_version first ≡ true
-update_first s list l q symbol frame range upsert at prune outcome first rest e =
-    frame_version_first (frame_of s frame) (λ f. update_answer (l.state symbol) upsert prune (stamp_of s at) range f) outcome first rest
-    (λ f. update_makes (l.state symbol) upsert prune (stamp_of s at) range f) e
-
-pub delete_range_first : (s : Session) (list l : Library) (q : ℕ) (symbol : Name) (range : Range) (at : Option ℤ) (prune : Bool) (outcome : Outcome) (first : Change) (rest : List Change)
-    → answer s list l q (commands.DeleteRange symbol range at prune) ≡ Some (record { outcome = outcome; marks = first ∷ rest }) → is_version first ≡ true
-delete_range_first s list l q symbol range at prune outcome first rest e =
-    version_first (base_or (l.state symbol) then λ v. update_answer (l.state symbol) false prune (stamp_of s at) (Some range) (record v.frame { rows = [] })) outcome first rest
-    (makes_then (base_or (l.state symbol)) (λ v. update_answer (l.state symbol) false prune (stamp_of s at) (Some range) (record v.frame { rows = [] }))
-    (λ v. update_makes (l.state symbol) false prune (stamp_of s at) (Some range) (record v.frame { rows = [] }))) e
+-- so it is of each command that makes one
+pub made_first : (s : Session) (st : State) (c : Command) (outcome : Outcome) (first : Change) (rest : List Change) → made_answer s st c ≡ Some (record { outcome = outcome; marks = first ∷ rest }) → is_version first ≡ true
+made_first s st (commands.Write symbol frame at prune) outcome first rest e =
+    frame_version_first (frame_of s frame) (λ f. Ok (committed st prune (changes.Wrote f (stamp_of s at)))) outcome first rest (λ f. commit_makes st prune (changes.Wrote f (stamp_of s at)) refl) e
+made_first s st (commands.Append symbol frame at prune) outcome first rest e =
+    frame_version_first (frame_of s frame) (λ f. append_answer st prune (stamp_of s at) f) outcome first rest (λ f. append_makes st prune (stamp_of s at) f) e
+made_first s st (commands.Update symbol frame range upsert at prune) outcome first rest e =
+    frame_version_first (frame_of s frame) (λ f. update_answer st upsert prune (stamp_of s at) range f) outcome first rest (λ f. update_makes st upsert prune (stamp_of s at) range f) e
+made_first s st (commands.DeleteRange symbol range at prune) outcome first rest e =
+    version_first (base_or st then λ v. update_answer st false prune (stamp_of s at) (Some range) (record v.frame { rows = [] })) outcome first rest
+    (makes_then (base_or st) (λ v. update_answer st false prune (stamp_of s at) (Some range) (record v.frame { rows = [] }))
+    (λ v. update_makes st false prune (stamp_of s at) (Some range) (record v.frame { rows = [] }))) e
+made_first s st c outcome first rest e = absurd cc
 
 -- an answer that only buries
 abbrev pub OnlyBuries : Result Answer Refusal → Type 0
 OnlyBuries (Err why) = ⊤
 OnlyBuries (Ok a) = (numbers : List ℕ) × (a.marks ≡ removed numbers)
 
-buries_if : (b : Bool) (why : Refusal) (x : Result Answer Refusal) → OnlyBuries x → OnlyBuries (refuse_if b why x)
-buries_if true why x o = tt
-buries_if false why x o = o
-
-pub delete_buries : (st : State) (versions : Option (List ℕ)) → OnlyBuries (delete_answer st versions)
-delete_buries st None = buries_if (not st.has_reference) refusals.NoSuchSymbol (Ok (record { outcome = outcomes.Deleted (length (live_numbers st)); marks = removed (live_numbers st) })) (live_numbers st, refl)
-delete_buries st (Some numbers) =
-    let done : Answer = record { outcome = outcomes.Deleted (length (ascending numbers)); marks = removed (ascending numbers) } in
-    buries_if (not st.has_reference) refusals.NoSuchSymbol (unless (first_absent st numbers) (λ n. refusals.NoSuchVersion (asks.Number n)) (Ok done)) (each (first_absent st numbers))
+pub burial_buries : (burial : Burial) (st : State) → OnlyBuries (burial_answer burial st)
+burial_buries burial st = by (bury_answer burial st)
   where
-    each : (o : Option ℕ) → OnlyBuries (unless o (λ n. refusals.NoSuchVersion (asks.Number n)) (Ok (record { outcome = outcomes.Deleted (length (ascending numbers)); marks = removed (ascending numbers) })))
-    each None = (ascending numbers, refl)
-    each (Some n) = tt
-
-pub prune_buries : (st : State) → OnlyBuries (prune_answer st)
-prune_buries st = buries_if (not st.has_reference) refusals.NoSuchSymbol (Ok (record { outcome = outcomes.Pruned (length (older_live st)); marks = removed (older_live st) })) (older_live st, refl)
+    by : (r : Result (List ℕ) Refusal) → OnlyBuries (r then λ numbers. Ok (record { outcome = buried_outcome burial (length numbers); marks = removed numbers }))
+    by (Ok numbers) = (numbers, refl)
+    by (Err why) = tt
 
 -- its first change buries
 pub buried_first : (x : Result Answer Refusal) (outcome : Outcome) (first : Change) (rest : List Change) → OnlyBuries x → Some (answered x) ≡ Some (record { outcome = outcome; marks = first ∷ rest })

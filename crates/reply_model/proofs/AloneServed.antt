@@ -1,8 +1,8 @@
 -- The theorem for each command that is served.
 use Rattle.std.proofs.Common.{◌≡◌, ℕ, suc, ◌-◌, ◌≤◌, Bool, true, false, List, [], ◌∷◌, ◌++◌, map, length, take, Option, Some, None, refl, sym, ◌∙◌, ap, subst, inl, inr, arith, length-append, cond}
-use Rattle.std.specs.Prelude.{◌⊎◌, ℤ, MatchBool}
+use Rattle.std.specs.Prelude.{◌⊎◌, MatchBool}
 use Rattle.std.specs.List.{list_any}
-use Rattle.std.proofs.lemmas.Bool.{true≢false}
+use Rattle.std.proofs.lemmas.Bool.{true≢false, and_parts}
 use Rattle.frame_core.specs.Ranges.{Range}
 use Rattle.frame_core.specs.Texts.{Text}
 use Rattle.frame_core.specs.declared.refusal.Refusal.{Refusal}
@@ -10,6 +10,7 @@ use Rattle.frame_core.specs.declared.refusal.Refusal.TheVariants as refusals
 use Rattle.key_kind.specs.Names.{Name}
 use Rattle.key_kind.specs.declared.key.Key.{Key}
 use Rattle.bucket_core.specs.declared.event.Change.{Change}
+use Rattle.bucket_core.specs.declared.event.Event.{Event}
 use Rattle.bucket_core.specs.History.{History, history_at}
 use Rattle.store_model.specs.Library.{State, state_of, is_buried, base_of, first_of}
 use Rattle.store_model.specs.Law.{IsLawful}
@@ -17,7 +18,10 @@ use Rattle.store_model.specs.Links.{Linked, links}
 use Rattle.store_model.specs.Commits.{is_version}
 use Rattle.key_kind.specs.declared.key.KeyKind.TheVariants as kinds
 use Rattle.store_model.specs.Snapshots.{Library, Snapshot, library_of}
-use Rattle.reply_model.specs.CommitAnswers.{delete_answer, prune_answer}
+use Rattle.reply_model.specs.CommitAnswers.{burial_answer}
+use Rattle.reply_model.specs.Kinds.{Kind, kind_of, kind_symbol, Burial}
+use Rattle.reply_model.specs.Kinds as does
+use Rattle.reply_model.specs.Left.{left_of, known_events, stood_before}
 use Rattle.bucket_core.specs.declared.event.Change.TheVariants as changes
 use Rattle.expr_clause.specs.declared.command.AsOf.{AsOf}
 use Rattle.expr_clause.specs.declared.command.AsOf.TheVariants as moments
@@ -28,27 +32,26 @@ use Rattle.reply_model.specs.declared.outcome.Outcome.{Outcome}
 use Rattle.reply_model.specs.declared.outcome.Outcome.TheVariants as outcomes
 use Rattle.reply_model.specs.declared.reply.Reply.{Reply}
 use Rattle.reply_model.specs.Answering.{Answer}
-use Rattle.reply_model.specs.Answers.{answer, symbol_row}
+use Rattle.reply_model.specs.Answers.{answer_of, answer, symbol_row}
 use Rattle.reply_model.specs.Windows.{Window, Client, library_at, symbol_of, is_refused, is_cut, unnames, own_events}
 use Rattle.reply_model.specs.Tries.{IsTurn}
-use Rattle.reply_model.specs.OwnEvents.{AnyMarks, is_done}
+use Rattle.reply_model.specs.OwnEvents.{AnyMarks, IsOwnOf, is_done}
 use Rattle.reply_model.specs.Rows.{keys_of, keys_outcome, IsAnswer, IsSymbolRow, AreSymbolRows, number_of}
-use Rattle.reply_model.specs.Legal.{IsLegalRefusal, IsLegalOutcome, IsLegalSeen}
+use Rattle.reply_model.specs.Legal.{IsListedOf, IsLegalRefusal, IsLegalOutcome, IsLegalSeen}
 use Rattle.reply_model.specs.Blocks.{Cutting, tiles_in, blocks_made}
 use Rattle.reply_model.specs.Causes.{IsVersionGone}
 use Rattle.reply_model.specs.Sole.{Alone, keys_alone, step_alone}
-use Rattle.reply_model.specs.Standing.{StandsAs, StepsTo, IsStep, is_served, LaysOut, LegalAloneSteps}
+use Rattle.reply_model.specs.Standing.{StandsAs, StepsTo, IsStep, is_served_of, is_served, LaysOut, LegalAloneSteps}
 use Rattle.reply_model.proofs.Places.{history_at_end}
-use Rattle.expr_clause.specs.declared.clause.Clause.{Clause}
 use Rattle.reply_model.proofs.Isolated.{some_answer, Gone, plain_outcome, read_is_live}
-use Rattle.reply_model.proofs.Quiet.{is_plain}
+use Rattle.reply_model.proofs.Quiet.{is_plain_of, is_plain}
 use Rattle.reply_model.proofs.AloneWindows.{added, none_behind, IsKept, Commits, turn_commits}
-use Rattle.reply_model.proofs.AloneSteps.{TellsSame, is_told, answer_told, run_tells, rows_same}
+use Rattle.reply_model.proofs.AloneSteps.{TellsSame, is_told_of, is_told, answer_told, run_tells, rows_same}
 use Rattle.reply_model.proofs.AloneHeard.{Heard, commits_are, own_are, adds_none, not_met, listed_step}
 use Rattle.reply_model.proofs.TryCounts.{PutsKeys}
 use Rattle.reply_model.proofs.Makings.{MakesVersion, Makes}
 use Rattle.reply_model.proofs.BlockCounts.{laid_makes}
-use Rattle.reply_model.proofs.AloneLegal.{write_first, append_first, update_first, delete_range_first, delete_buries, prune_buries, buried_first, made_events, Plain, looking, committing_reply}
+use Rattle.reply_model.proofs.AloneLegal.{made_first, burial_buries, buried_first, made_events, Plain, looking, committing_reply}
 
 -- ---- what is known of a legal reply
 
@@ -118,78 +121,10 @@ version_step c client command symbol reply more old faulted heard told named unl
     turn_step c client command symbol true reply more old r stands named heard.lawful (plain_of client command reply more old faulted heard told unlisted unleft) is (is_done reply)
     (version_counts c client command symbol reply more old r stands told named laid version) (turn_commits more old client.session symbol true (is_done reply) faulted heard.own turn)
 
-write_step : (c : Cutting) (client : Client) (symbol : Name) (frame : ℕ) (at : Option ℤ) (prune : Bool) (reply : Reply) (more old : History) (faulted : Bool)
-    → Heard client (commands.Write symbol frame at prune) reply more old faulted → LaysOut c client.session (commands.Write symbol frame at prune) reply old (more ++ old)
-    → IsStep c client.session (commands.Write symbol frame at prune) reply old (more ++ old)
-write_step c client symbol frame at prune reply more old faulted heard laid =
-    let command = commands.Write symbol frame at prune in
-    elim (answered_or_gone client command reply more old faulted refl heard) [
-      | inl gone ↦ absurd gone
-      | inr is ↦ version_step c client command symbol reply more old faulted heard refl refl heard.seen.listed heard.seen.left.left laid
-          (λ list l q first rest e. write_first client.session list l q symbol frame at prune reply.outcome first rest e) is (own_are client command reply more old faulted heard)
-    ]
-
-append_step : (c : Cutting) (client : Client) (symbol : Name) (frame : ℕ) (at : Option ℤ) (prune : Bool) (reply : Reply) (more old : History) (faulted : Bool)
-    → Heard client (commands.Append symbol frame at prune) reply more old faulted → LaysOut c client.session (commands.Append symbol frame at prune) reply old (more ++ old)
-    → IsStep c client.session (commands.Append symbol frame at prune) reply old (more ++ old)
-append_step c client symbol frame at prune reply more old faulted heard laid =
-    let command = commands.Append symbol frame at prune in
-    elim (answered_or_gone client command reply more old faulted refl heard) [
-      | inl gone ↦ absurd gone
-      | inr is ↦ version_step c client command symbol reply more old faulted heard refl refl heard.seen.listed heard.seen.left.left laid
-          (λ list l q first rest e. append_first client.session list l q symbol frame at prune reply.outcome first rest e) is (own_are client command reply more old faulted heard)
-    ]
-
-update_step : (c : Cutting) (client : Client) (symbol : Name) (frame : ℕ) (range : Option Range) (upsert : Bool) (at : Option ℤ) (prune : Bool) (reply : Reply) (more old : History) (faulted : Bool)
-    → Heard client (commands.Update symbol frame range upsert at prune) reply more old faulted → LaysOut c client.session (commands.Update symbol frame range upsert at prune) reply old (more ++ old)
-    → IsStep c client.session (commands.Update symbol frame range upsert at prune) reply old (more ++ old)
-update_step c client symbol frame range upsert at prune reply more old faulted heard laid =
-    let command = commands.Update symbol frame range upsert at prune in
-    elim (answered_or_gone client command reply more old faulted refl heard) [
-      | inl gone ↦ absurd gone
-      | inr is ↦ version_step c client command symbol reply more old faulted heard refl refl heard.seen.listed heard.seen.left.left laid
-          (λ list l q first rest e. update_first client.session list l q symbol frame range upsert at prune reply.outcome first rest e) is (own_are client command reply more old faulted heard)
-    ]
-
-delete_range_step : (c : Cutting) (client : Client) (symbol : Name) (range : Range) (at : Option ℤ) (prune : Bool) (reply : Reply) (more old : History) (faulted : Bool)
-    → Heard client (commands.DeleteRange symbol range at prune) reply more old faulted → LaysOut c client.session (commands.DeleteRange symbol range at prune) reply old (more ++ old)
-    → IsStep c client.session (commands.DeleteRange symbol range at prune) reply old (more ++ old)
-delete_range_step c client symbol range at prune reply more old faulted heard laid =
-    let command = commands.DeleteRange symbol range at prune in
-    elim (answered_or_gone client command reply more old faulted refl heard) [
-      | inl gone ↦ absurd gone
-      | inr is ↦ version_step c client command symbol reply more old faulted heard refl refl heard.seen.listed heard.seen.left.left laid
-          (λ list l q first rest e. delete_range_first client.session list l q symbol range at prune reply.outcome first rest e) is (own_are client command reply more old faulted heard)
-    ]
-
 -- a burial makes no blocks
 burial_makes : (c : Cutting) (r : Alone) (symbol : Name) (before : List Linked) (newest : Option Linked) (tiles : ℕ) (first : Change) (rest : List Change) → ((numbers : List ℕ) × (first ≡ changes.Removed numbers))
     → Makes c (r.library.state symbol) (r.shape symbol) false before newest tiles first rest
 burial_makes c r symbol before newest tiles first rest b = record { is = ap (λ x. blocks_made c (r.library.state symbol) (r.shape symbol) x) b.1; mark = ap is_version b.1 }
-
-delete_step : (c : Cutting) (client : Client) (symbol : Name) (versions : Option (List ℕ)) (reply : Reply) (more old : History) (faulted : Bool)
-    → Heard client (commands.Delete symbol versions) reply more old faulted → IsStep c client.session (commands.Delete symbol versions) reply old (more ++ old)
-delete_step c client symbol versions reply more old faulted heard r stands =
-    let command = commands.Delete symbol versions in
-    elim (answered_or_gone client command reply more old faulted refl heard) [
-      | inl gone ↦ absurd gone
-      | inr is ↦ turn_step c client command symbol false reply more old r stands refl heard.lawful (plain_of client command reply more old faulted heard refl heard.seen.listed heard.seen.left.left)
-          is (is_done reply) (λ behind entry kept puts list q first rest answered here. burial_makes c r symbol (links old symbol) (first_of (links (more ++ old) symbol)) puts.tiles first rest
-          (buried_first (delete_answer ((library_of (behind ++ old)).state symbol) versions) reply.outcome first rest (delete_buries ((library_of (behind ++ old)).state symbol) versions) answered))
-          (turn_commits more old client.session symbol false (is_done reply) faulted heard.own (own_are client command reply more old faulted heard))
-    ]
-
-prune_step : (c : Cutting) (client : Client) (symbol : Name) (reply : Reply) (more old : History) (faulted : Bool)
-    → Heard client (commands.Prune symbol) reply more old faulted → IsStep c client.session (commands.Prune symbol) reply old (more ++ old)
-prune_step c client symbol reply more old faulted heard r stands =
-    let command = commands.Prune symbol in
-    elim (answered_or_gone client command reply more old faulted refl heard) [
-      | inl gone ↦ absurd gone
-      | inr is ↦ turn_step c client command symbol false reply more old r stands refl heard.lawful (plain_of client command reply more old faulted heard refl heard.seen.listed heard.seen.left.left)
-          is (is_done reply) (λ behind entry kept puts list q first rest answered here. burial_makes c r symbol (links old symbol) (first_of (links (more ++ old) symbol)) puts.tiles first rest
-          (buried_first (prune_answer ((library_of (behind ++ old)).state symbol)) reply.outcome first rest (prune_buries ((library_of (behind ++ old)).state symbol)) answered))
-          (turn_commits more old client.session symbol false (is_done reply) faulted heard.own (own_are client command reply more old faulted heard))
-    ]
 
 -- ---- commands that only look
 
@@ -214,27 +149,101 @@ not_gone symbol (moments.Number n) range columns number reply old faulted after 
 not_gone symbol (moments.Moment t) range columns number reply old faulted after before g =
     live_is_not_gone symbol (moments.Moment t) range columns number reply old faulted after before g (read_is_live (library_at old g.read_at) symbol (moments.Moment t) g.version refl g.read)
 
-read_step : (c : Cutting) (client : Client) (symbol : Name) (as_of : AsOf) (range : Range) (columns : Option (List Text)) (clauses : List Clause) (reply : Reply) (old : History) (faulted : Bool)
-    → Heard client (commands.Read symbol as_of range columns clauses) reply [] old faulted → IsStep c client.session (commands.Read symbol as_of range columns clauses) reply old old
-read_step c client symbol as_of range columns clauses reply old faulted heard r stands =
-    let command = commands.Read symbol as_of range columns clauses in
-    elim (answered_or_gone client command reply [] old faulted refl heard) [
-      | inl gone ↦ absurd (not_gone symbol as_of range columns gone.0 reply old faulted heard.seen.after heard.seen.before gone.1)
+-- nothing is gone to a command where nothing was added
+nothing_gone : (command : Command) (reply : Reply) (old : History) (faulted : Bool) → length old ≤ reply.place → reply.place ≤ length old → Gone old command reply (added [] old faulted) → ⊥
+nothing_gone (commands.Read symbol as_of range columns clauses) reply old faulted after before gone = not_gone symbol as_of range columns gone.0 reply old faulted after before gone.1
+nothing_gone command reply old faulted after before gone = gone
+
+-- such a command, where nothing was added
+look_step : (c : Cutting) (client : Client) (command : Command) (reply : Reply) (old : History) (faulted : Bool) → Heard client command reply [] old faulted → is_told command ≡ true → reply.listed ≡ None → reply.left ≡ []
+    → IsStep c client.session command reply old old
+look_step c client command reply old faulted heard told unlisted unleft r stands =
+    elim (answered_or_gone client command reply [] old faulted (and_parts (is_plain_of (kind_of command)) (is_served_of (kind_of command)) told).0 heard) [
+      | inl gone ↦ absurd (nothing_gone command reply old faulted heard.seen.after heard.seen.before gone)
       | inr is ↦ looking c client command r reply old stands
-          (plain_of client command reply [] old faulted heard refl heard.seen.listed heard.seen.left.left)
+          (plain_of client command reply [] old faulted heard told unlisted unleft)
           (none_behind client.session.client (length old) old (omega arith)) is
     ]
 
-versions_step : (c : Cutting) (client : Client) (symbol : Name) (reply : Reply) (old : History) (faulted : Bool)
-    → Heard client (commands.Versions symbol) reply [] old faulted → IsStep c client.session (commands.Versions symbol) reply old old
-versions_step c client symbol reply old faulted heard r stands =
-    let command = commands.Versions symbol in
-    elim (answered_or_gone client command reply [] old faulted refl heard) [
-      | inl gone ↦ absurd gone
-      | inr is ↦ looking c client command r reply old stands
-          (plain_of client command reply [] old faulted heard refl heard.seen.listed heard.seen.left.left)
-          (none_behind client.session.client (length old) old (omega arith)) is
-    ]
+-- ---- commands whose answer is one of a symbol's state
+
+abbrev reads : Kind → Bool
+reads (does.Reads symbol) = true
+reads k = false
+
+-- something is gone only to a command that reads
+gone_to_none : (h : History) (command : Command) (reply : Reply) (w : Window) → reads (kind_of command) ≡ false → Gone h command reply w → ⊥
+gone_to_none h (commands.Read symbol as_of range columns clauses) reply w other gone = true≢false other
+gone_to_none h command reply w other gone = gone
+
+module _ (c : Cutting) (client : Client) (command : Command) (reply : Reply) (more old : History) (faulted : Bool) (heard : Heard client command reply more old faulted) (told : is_told command ≡ true) where
+  abbrev window : Window
+  window = added more old faulted
+
+  abbrev own : List Event
+  own = own_events (more ++ old) client.session.client window
+
+  -- its reply names no list, and leaves nothing held
+  unlisted : reply.listed ≡ None
+  unlisted = by_kind (kind_of command) told heard.seen.listed
+    where
+      by_kind : (k : Kind) → is_told_of k ≡ true → IsListedOf k reply own → reply.listed ≡ None
+      by_kind (does.Makes a) is l = l
+      by_kind (does.Buries a burial) is l = l
+      by_kind (does.Reads a) is l = l
+      by_kind k is l = absurd (true≢false (sym is))
+
+  unleft : reply.left ≡ []
+  unleft = heard.seen.left.left ∙ by_kind (kind_of command) told
+    where
+      by_kind : (k : Kind) → is_told_of k ≡ true → left_of k reply (known_events (more ++ old) client.session.client reply window) (stood_before (more ++ old) client.session.client k reply window) ≡ []
+      by_kind (does.Makes a) is = refl
+      by_kind (does.Buries a burial) is = refl
+      by_kind (does.Reads a) is = refl
+      by_kind k is = absurd (true≢false (sym is))
+
+  -- its own events are those of its kind
+  own_of_kind : (k : Kind) → kind_of command ≡ k → IsOwnOf (more ++ old) client.session window k reply (is_done reply) own
+  own_of_kind k e = subst (λ x. IsOwnOf (more ++ old) client.session window x reply (is_done reply) own) e (own_are client command reply more old faulted heard)
+
+  -- where it does not read, its reply is its answer
+  answered_is : (k : Kind) → kind_of command ≡ k → reads k ≡ false → IsAnswer (more ++ old) client command reply
+  answered_is k e other = elim (answered_or_gone client command reply more old faulted (and_parts (is_plain_of (kind_of command)) (is_served_of (kind_of command)) told).0 heard) [
+    | inl gone ↦ absurd (gone_to_none (more ++ old) command reply window (ap reads e ∙ other) gone)
+    | inr is ↦ is
+  ]
+
+  -- a command that makes a version
+  makes_step : (symbol : Name) → kind_of command ≡ does.Makes symbol → LaysOut c client.session command reply old (more ++ old) → IsStep c client.session command reply old (more ++ old)
+  makes_step symbol e laid =
+      version_step c client command symbol reply more old faulted heard told (ap kind_symbol e) unlisted unleft laid
+      (λ list l q first rest a. made_first client.session (l.state symbol) command reply.outcome first rest (sym (ap (answer_of client.session list l q command) e) ∙ a))
+      (answered_is (does.Makes symbol) e refl) (own_of_kind (does.Makes symbol) e)
+
+  -- a burial
+  burial_step : (symbol : Name) (burial : Burial) → kind_of command ≡ does.Buries symbol burial → IsStep c client.session command reply old (more ++ old)
+  burial_step symbol burial e r stands =
+      turn_step c client command symbol false reply more old r stands (ap kind_symbol e) heard.lawful (plain_of client command reply more old faulted heard told unlisted unleft)
+      (answered_is (does.Buries symbol burial) e refl) (is_done reply)
+      (λ behind entry kept puts list q first rest answered here. burial_makes c r symbol (links old symbol) (first_of (links (more ++ old) symbol)) puts.tiles first rest
+      (buried_first (burial_answer burial ((library_of (behind ++ old)).state symbol)) reply.outcome first rest (burial_buries burial ((library_of (behind ++ old)).state symbol))
+      (sym (ap (answer_of client.session list (library_of (behind ++ old)) q command) e) ∙ answered)))
+      (turn_commits more old client.session symbol false (is_done reply) faulted heard.own (own_of_kind (does.Buries symbol burial) e))
+
+  -- a command that reads
+  reads_step : (symbol : Name) → kind_of command ≡ does.Reads symbol → IsStep c client.session command reply old (more ++ old)
+  reads_step symbol e =
+      let none : more ≡ [] = adds_none client command reply more old faulted heard (own_of_kind (does.Reads symbol) e) in
+      subst (λ es. IsStep c client.session command reply old (es ++ old)) (sym none) (look_step c client command reply old faulted (subst (λ es. Heard client command reply es old faulted) none heard) told unlisted unleft)
+
+  answered_step : LaysOut c client.session command reply old (more ++ old) → IsStep c client.session command reply old (more ++ old)
+  answered_step laid = by_kind (kind_of command) refl told
+    where
+      by_kind : (k : Kind) → kind_of command ≡ k → is_told_of k ≡ true → IsStep c client.session command reply old (more ++ old)
+      by_kind (does.Makes symbol) e is = makes_step symbol e laid
+      by_kind (does.Buries symbol burial) e is = burial_step symbol burial e
+      by_kind (does.Reads symbol) e is = reads_step symbol e
+      by_kind k e is = absurd (true≢false (sym is))
 
 -- ---- the lists of the library
 
@@ -350,36 +359,16 @@ keys_step c client symbol reply old faulted heard r stands =
 
 served_step : (c : Cutting) (client : Client) (command : Command) (reply : Reply) (more old : History) (faulted : Bool) → Heard client command reply more old faulted → is_served command ≡ true
     → LaysOut c client.session command reply old (more ++ old) → IsStep c client.session command reply old (more ++ old)
-served_step c client (commands.Write a frame at prune) reply more old faulted heard served laid = write_step c client a frame at prune reply more old faulted heard laid
-served_step c client (commands.Delete a versions) reply more old faulted heard served laid = delete_step c client a versions reply more old faulted heard
-served_step c client (commands.Prune a) reply more old faulted heard served laid = prune_step c client a reply more old faulted heard
-served_step c client (commands.Read a as_of range columns clauses) reply more old faulted heard served laid =
-    let command = commands.Read a as_of range columns clauses in
-    let none : more ≡ [] = adds_none client command reply more old faulted heard (own_are client command reply more old faulted heard) in
-    subst (λ es. IsStep c client.session command reply old (es ++ old)) (sym none)
-    (read_step c client a as_of range columns clauses reply old faulted (subst (λ es. Heard client command reply es old faulted) none heard))
-served_step c client (commands.Versions a) reply more old faulted heard served laid =
-    let command = commands.Versions a in
-    let none : more ≡ [] = adds_none client command reply more old faulted heard (own_are client command reply more old faulted heard) in
-    subst (λ es. IsStep c client.session command reply old (es ++ old)) (sym none) (versions_step c client a reply old faulted (subst (λ es. Heard client command reply es old faulted) none heard))
 served_step c client commands.Symbols reply more old faulted heard served laid =
     let none : more ≡ [] = adds_none client commands.Symbols reply more old faulted heard (own_are client commands.Symbols reply more old faulted heard) in
     subst (λ es. IsStep c client.session commands.Symbols reply old (es ++ old)) (sym none) (symbols_step c client reply old faulted (subst (λ es. Heard client commands.Symbols reply es old faulted) none heard))
 served_step c client commands.Snapshots reply more old faulted heard served laid =
     let none : more ≡ [] = adds_none client commands.Snapshots reply more old faulted heard (own_are client commands.Snapshots reply more old faulted heard) in
     subst (λ es. IsStep c client.session commands.Snapshots reply old (es ++ old)) (sym none) (snapshots_step c client reply old faulted (subst (λ es. Heard client commands.Snapshots reply es old faulted) none heard))
-served_step c client (commands.Append a frame at prune) reply more old faulted heard served laid = append_step c client a frame at prune reply more old faulted heard laid
-served_step c client (commands.Update a frame range upsert at prune) reply more old faulted heard served laid = update_step c client a frame range upsert at prune reply more old faulted heard laid
-served_step c client (commands.DeleteRange a range at prune) reply more old faulted heard served laid = delete_range_step c client a range at prune reply more old faulted heard laid
-served_step c client (commands.Finalize a append sorted at prune) reply more old faulted heard served laid = absurd (true≢false (sym served))
-served_step c client (commands.Discard a) reply more old faulted heard served laid = absurd (true≢false (sym served))
-served_step c client (commands.Stage a frame) reply more old faulted heard served laid = absurd (true≢false (sym served))
-served_step c client (commands.Reclaim a) reply more old faulted heard served laid = absurd (true≢false (sym served))
 served_step c client (commands.Keys a) reply more old faulted heard served laid =
     let none : more ≡ [] = adds_none client (commands.Keys a) reply more old faulted heard (own_are client (commands.Keys a) reply more old faulted heard) in
     subst (λ es. IsStep c client.session (commands.Keys a) reply old (es ++ old)) (sym none) (keys_step c client a reply old faulted (subst (λ es. Heard client (commands.Keys a) reply es old faulted) none heard))
-served_step c client (commands.Snapshot name picks) reply more old faulted heard served laid = absurd (true≢false (sym served))
-served_step c client (commands.DeleteSnapshot name) reply more old faulted heard served laid = absurd (true≢false (sym served))
+served_step c client command reply more old faulted heard served laid = answered_step c client command reply more old faulted heard served laid
 
 pub legal_alone_steps : LegalAloneSteps
 legal_alone_steps old new c client command reply faulted lawful grows legal served cut laid =

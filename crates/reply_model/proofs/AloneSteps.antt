@@ -1,5 +1,5 @@
 -- In a window without events of others each legal reply is the one that the fold of one client alone gives.
-use Rattle.std.proofs.Common.{◌≡◌, ℕ, suc, ◌+◌, Bool, true, false, List, [], ◌∷◌, map, length, Option, Some, None, Ok, refl, sym, ◌∙◌, ap, subst, cond}
+use Rattle.std.proofs.Common.{◌≡◌, ℕ, suc, ◌+◌, Bool, true, false, List, [], ◌∷◌, map, length, Option, Some, None, refl, sym, ◌∙◌, ap, subst, cond}
 use Rattle.std.specs.Prelude.{◌&&◌, find, nat_eq, option_map, int_le}
 use Rattle.std.proofs.lemmas.Bool.{true≢false}
 use Rattle.frame_core.specs.declared.refusal.Asked.TheVariants as asks
@@ -8,7 +8,6 @@ use Rattle.key_kind.specs.Names.{Name, same_name}
 use Rattle.key_kind.specs.declared.key.Key.{Key}
 use Rattle.key_kind.proofs.KeyTests.{same_name_is}
 use Rattle.bucket_core.specs.declared.event.Change.{Change}
-use Rattle.bucket_core.specs.declared.event.Change.TheVariants as changes
 use Rattle.bucket_core.specs.declared.event.Event.TheVariants as events
 use Rattle.bucket_core.specs.History.{History}
 use Rattle.store_model.specs.Library.{State, live_versions, state_of, after_changes}
@@ -18,15 +17,16 @@ use Rattle.expr_clause.specs.declared.command.AsOf.TheVariants as moments
 use Rattle.expr_clause.specs.declared.command.Command.{Command}
 use Rattle.expr_clause.specs.declared.command.Command.TheVariants as commands
 use Rattle.reply_model.specs.declared.reply.Reply.{Reply}
-use Rattle.reply_model.specs.CommitAnswers.{append_answer, update_answer, delete_answer, prune_answer}
-use Rattle.reply_model.specs.Answering.{Session, Answer, base_or, ◌then◌, answered, with_frame, stamp_of, committed, version_or, or_refuse}
-use Rattle.reply_model.specs.Answers.{answer, symbol_row}
-use Rattle.reply_model.specs.ReadAnswers.{versions_answer, read_version, read_answer, back, numbered, picked}
+use Rattle.reply_model.specs.CommitAnswers.{burial_answer}
+use Rattle.reply_model.specs.Kinds.{Kind, kind_of, Makes, Finalizes, Buries, Discards, Reads}
+use Rattle.reply_model.specs.Answering.{Session, Answer, ◌then◌, answered, committed, version_or, or_refuse}
+use Rattle.reply_model.specs.Answers.{made_answer, read_answer, answer_of, answer, symbol_row}
+use Rattle.reply_model.specs.ReadAnswers.{version_answer, versions_answer, read_version, back, numbered, picked}
 use Rattle.reply_model.specs.Windows.{symbol_of}
 use Rattle.reply_model.specs.Blocks.{Cutting}
-use Rattle.reply_model.specs.Sole.{Alone, events_of, committing, answering, list_place, plain_reply, next_turn, step_alone}
-use Rattle.reply_model.specs.Standing.{HasShape, IsCutBy, StandsAs, StepsTo, is_served}
-use Rattle.reply_model.proofs.Quiet.{is_plain}
+use Rattle.reply_model.specs.Sole.{Alone, events_of, committing, answering, list_place_of, list_place, plain_reply, next_turn, step_alone}
+use Rattle.reply_model.specs.Standing.{HasShape, IsCutBy, StandsAs, StepsTo, is_served_of}
+use Rattle.reply_model.proofs.Quiet.{is_plain_of}
 use Rattle.reply_model.proofs.AloneWindows.{IsKept}
 
 -- ---- answers by the library alone
@@ -47,30 +47,27 @@ read_same l m symbol (moments.Snapshot snap) same =
     ∙ ap (λ (st : State). or_refuse (snapshot_named m snap) refusals.NoSuchSnapshot then λ s.
     or_refuse (picked s symbol) refusals.NoSuchSymbol then λ n. or_refuse (numbered st n) refusals.NoSuchSymbol) (same.states symbol)
 
--- the commands that are served and whose answer is one of a symbol's state
+-- the commands that are served and whose answer is one of a symbol's state, by their kinds
+abbrev pub is_told_of : Kind → Bool
+is_told_of k = is_plain_of k && is_served_of k
+
 abbrev pub is_told : Command → Bool
-is_told c = is_plain c && is_served c
+is_told c = is_told_of (kind_of c)
+
+read_told : (l m : Library) (c : Command) → TellsSame l m → read_answer l c ≡ read_answer m c
+read_told l m (commands.Read a as_of range columns clauses) same = ap (λ v. Some (answered (v then λ x. version_answer x range columns clauses))) (read_same l m a as_of same)
+read_told l m (commands.Versions a) same = ap (λ (st : State). Some (answered (versions_answer st))) (same.states a)
+read_told l m c same = refl
 
 -- such an answer goes by the library alone
 pub answer_told : (s : Session) (list other l m : Library) (p q : ℕ) (c : Command) → is_told c ≡ true → TellsSame l m → answer s list l p c ≡ answer s other m q c
-answer_told s list other l m p q (commands.Write a frame at prune) told same = ap (λ (st : State). with_frame s frame (λ f. Ok (committed st prune (changes.Wrote f (stamp_of s at))))) (same.states a)
-answer_told s list other l m p q (commands.Delete a versions) told same = ap (λ (st : State). Some (answered (delete_answer st versions))) (same.states a)
-answer_told s list other l m p q (commands.Prune a) told same = ap (λ (st : State). Some (answered (prune_answer st))) (same.states a)
-answer_told s list other l m p q (commands.Versions a) told same = ap (λ (st : State). Some (answered (versions_answer st))) (same.states a)
-answer_told s list other l m p q (commands.Read a as_of range columns clauses) told same = ap (λ v. Some (answered (v then λ x. read_answer x range columns clauses))) (read_same l m a as_of same)
-answer_told s list other l m p q (commands.Append a frame at prune) told same = ap (λ (st : State). with_frame s frame (λ f. append_answer st prune (stamp_of s at) f)) (same.states a)
-answer_told s list other l m p q (commands.Update a frame range upsert at prune) told same = ap (λ (st : State). with_frame s frame (λ f. update_answer st upsert prune (stamp_of s at) range f)) (same.states a)
-answer_told s list other l m p q (commands.DeleteRange a range at prune) told same =
-    ap (λ (st : State). Some (answered (base_or st then λ v. update_answer st false prune (stamp_of s at) (Some range) (record v.frame { rows = [] })))) (same.states a)
-answer_told s list other l m p q (commands.Finalize a append sorted at prune) told same = absurd (true≢false (sym told))
-answer_told s list other l m p q (commands.Discard a) told same = absurd (true≢false (sym told))
-answer_told s list other l m p q (commands.Stage a frame) told same = absurd (true≢false (sym told))
-answer_told s list other l m p q (commands.Reclaim a) told same = absurd (true≢false (sym told))
-answer_told s list other l m p q (commands.Keys a) told same = absurd (true≢false (sym told))
-answer_told s list other l m p q (commands.Snapshot name picks) told same = absurd (true≢false (sym told))
-answer_told s list other l m p q (commands.DeleteSnapshot name) told same = absurd (true≢false (sym told))
-answer_told s list other l m p q commands.Symbols told same = absurd (true≢false (sym told))
-answer_told s list other l m p q commands.Snapshots told same = absurd (true≢false (sym told))
+answer_told s list other l m p q c told same = by_kind (kind_of c) told
+  where
+    by_kind : (k : Kind) → is_told_of k ≡ true → answer_of s list l p c k ≡ answer_of s other m q c k
+    by_kind (Makes a) is = ap (λ (st : State). made_answer s st c) (same.states a)
+    by_kind (Buries a burial) is = ap (λ (st : State). Some (answered (burial_answer burial st))) (same.states a)
+    by_kind (Reads a) is = read_told l m c same
+    by_kind k is = absurd (true≢false (sym is))
 
 pub rows_same : (l m : Library) (p : ℕ) → TellsSame l m → (names : List Name) → map (symbol_row l p) names ≡ map (symbol_row m p) names
 rows_same l m p same [] = refl
@@ -113,29 +110,21 @@ stands_behind c client symbol list old before was entry r stands kept counted sh
 
 step_is : (c : Cutting) (s : Session) (command : Command) (r : Alone) → is_told command ≡ true
     → step_alone c s command r ≡ option_map (λ (a : Answer). next_turn (answering c command (symbol_of command) a.outcome a.marks r)) (answer s r.library r.library r.events command)
-step_is c s (commands.Write a frame at prune) r told = refl
-step_is c s (commands.Delete a versions) r told = refl
-step_is c s (commands.Prune a) r told = refl
-step_is c s (commands.Versions a) r told = refl
-step_is c s (commands.Read a as_of range columns clauses) r told = refl
-step_is c s (commands.Append a frame at prune) r told = refl
-step_is c s (commands.Update a frame range upsert at prune) r told = refl
-step_is c s (commands.DeleteRange a range at prune) r told = refl
-step_is c s (commands.Finalize a append sorted at prune) r told = absurd (true≢false (sym told))
-step_is c s (commands.Discard a) r told = absurd (true≢false (sym told))
 step_is c s (commands.Stage a frame) r told = absurd (true≢false (sym told))
 step_is c s (commands.Reclaim a) r told = absurd (true≢false (sym told))
 step_is c s (commands.Keys a) r told = absurd (true≢false (sym told))
 step_is c s (commands.Snapshot name picks) r told = absurd (true≢false (sym told))
 step_is c s (commands.DeleteSnapshot name) r told = absurd (true≢false (sym told))
-step_is c s commands.Symbols r told = absurd (true≢false (sym told))
-step_is c s commands.Snapshots r told = absurd (true≢false (sym told))
+step_is c s command r told = refl
 
 -- such a command makes no list
 no_list : (command : Command) (place : ℕ) → is_told command ≡ true → list_place command place ≡ None
-no_list (commands.Finalize a append sorted at prune) place told = absurd (true≢false (sym told))
-no_list (commands.Discard a) place told = absurd (true≢false (sym told))
-no_list command place told = refl
+no_list command place told = by_kind (kind_of command) told
+  where
+    by_kind : (k : Kind) → is_told_of k ≡ true → list_place_of k place ≡ None
+    by_kind (Finalizes a) is = absurd (true≢false (sym is))
+    by_kind (Discards a) is = absurd (true≢false (sym is))
+    by_kind k is = refl
 
 -- a reply by its parts
 pub reply_is : (reply : Reply) (place : ℕ) (listed : Option ℕ) (commits : List ℕ) → reply.place ≡ place → reply.listed ≡ listed → reply.commits ≡ commits → reply.left ≡ []

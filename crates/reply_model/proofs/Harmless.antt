@@ -19,7 +19,7 @@ use Rattle.reply_model.specs.declared.reply.Reply.{Reply}
 use Rattle.reply_model.specs.Answering.{Session}
 use Rattle.reply_model.specs.Windows.{Window, own_events, is_cut}
 use Rattle.reply_model.specs.Tries.{put_of, drop_of, IsKeyOf, Before, of_mark, of_version, IsTry, IsRefused, IsAccepted, IsTurn, Turn, AreTurns}
-use Rattle.reply_model.specs.Kinds.{Kind, kind_of, Makes, Edits, Holds, Unholds}
+use Rattle.reply_model.specs.Kinds.{Kind, kind_of, Makes, Finalizes, Buries, Discards, Holds, Unholds}
 use Rattle.reply_model.specs.OwnEvents.{IsOwnOf, is_last_of, IsHold, IsRelease, IsHolding, IsUnholding, AnyMarks, IsOwn, is_done, is_end, is_empty_burial, holder_at, IsBeginning}
 use Rattle.reply_model.specs.Runs.{is_mark, harms, RefusedHarmsNothing}
 
@@ -138,7 +138,9 @@ unholding_harms_nothing h s w snap true es e = ap (list_any harms) e.is ∙ turn
 -- a command that is not done
 undone_command : (h : History) (s : Session) (w : Window) (k : Kind) (reply : Reply) (es : List Event) → IsOwnOf h s w k reply false es → list_any harms es ≡ false
 undone_command h s w (Makes symbol) reply es o = undone_harms_nothing h s w symbol true AnyMarks es o
-undone_command h s w (Edits symbol) reply es o = undone_harms_nothing h s w symbol false AnyMarks es o
+undone_command h s w (Finalizes symbol) reply es o = undone_harms_nothing h s w symbol true AnyMarks es o
+undone_command h s w (Buries symbol burial) reply es o = undone_harms_nothing h s w symbol false AnyMarks es o
+undone_command h s w (Discards symbol) reply es o = undone_harms_nothing h s w symbol false AnyMarks es o
 undone_command h s w (Holds snap picks) reply es o = holding_harms_nothing h s w snap picks false es o
 undone_command h s w (Unholds snap) reply es o = unholding_harms_nothing h s w snap false es o
 undone_command h s w k reply es o = ap (list_any harms) o

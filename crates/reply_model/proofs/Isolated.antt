@@ -12,7 +12,6 @@ use Rattle.frame_core.specs.declared.refusal.Refusal.{Refusal}
 use Rattle.frame_core.specs.declared.refusal.Refusal.TheVariants as refusals
 use Rattle.store_model.proofs.Lists.{contains_first, contains_later, contains_none, contains_cases, filter_in}
 use Rattle.key_kind.specs.Names.{Name}
-use Rattle.bucket_core.specs.declared.event.Change.TheVariants as changes
 use Rattle.bucket_core.specs.declared.event.Event.{Event}
 use Rattle.bucket_core.specs.declared.event.Event.TheVariants as events
 use Rattle.bucket_core.specs.History.{History, author, event_at, history_at}
@@ -26,11 +25,12 @@ use Rattle.expr_clause.specs.declared.command.Command.TheVariants as commands
 use Rattle.reply_model.specs.declared.outcome.Outcome.{Outcome}
 use Rattle.reply_model.specs.declared.outcome.Outcome.TheVariants as outcomes
 use Rattle.reply_model.specs.declared.reply.Reply.{Reply}
-use Rattle.reply_model.specs.CommitAnswers.{append_answer, update_answer, delete_answer, prune_answer}
-use Rattle.reply_model.specs.Answering.{Session, Answer, ◌then◌, answered, with_frame, stamp_of, committed, base_or, version_or, refuse_if, or_refuse}
-use Rattle.reply_model.specs.Answers.{answer}
+use Rattle.reply_model.specs.CommitAnswers.{burial_answer}
+use Rattle.reply_model.specs.Kinds.{Kind, kind_of, kind_symbol, Makes, Finalizes, Buries, Discards, Reads}
 use Rattle.expr_clause.specs.declared.clause.Clause.{Clause}
-use Rattle.reply_model.specs.ReadAnswers.{versions_answer, read_version, read_answer, back}
+use Rattle.reply_model.specs.Answering.{Session, Answer, ◌then◌, answered, stamp_of, version_or, refuse_if, or_refuse}
+use Rattle.reply_model.specs.Answers.{made_answer, finalized_answer, read_answer, answer_of, answer}
+use Rattle.reply_model.specs.ReadAnswers.{read_version, ask}
 use Rattle.reply_model.specs.PieceAnswers.{finalize_answer, discard_answer}
 use Rattle.reply_model.specs.Windows.{Window, Client, library_at, own_events, symbol_of, is_cut, is_store_fault, listed_at, refer_places, AreCommits}
 use Rattle.reply_model.specs.OwnEvents.{IsStaging, IsOwn, is_done, IsBeginning, HasOwnEvents}
@@ -39,7 +39,7 @@ use Rattle.reply_model.specs.Rows.{IsAnswer}
 use Rattle.reply_model.specs.Legal.{IsLegalRefusal, IsLegalOk, IsLegalOutcome, IsLegalSeen, IsListedWithin}
 use Rattle.reply_model.specs.Runs.{names_symbol, reads_snapshot, IsAlone}
 use Rattle.reply_model.proofs.Places.{history_at_end, is_refer_of, refer_listed, listed_after, none_own_at}
-use Rattle.reply_model.proofs.Quiet.{is_plain, Quiet, others_unnamed, state_kept, staged_kept, own_stages_nothing}
+use Rattle.reply_model.proofs.Quiet.{is_plain_of, is_plain, Quiet, others_unnamed, state_kept, staged_kept, own_stages_nothing}
 
 -- ---- answers by the state alone
 
@@ -53,38 +53,39 @@ same_state l m a symbol named e = subst (λ n. l.state n ≡ m.state n) (sym (so
 same_pieces : (l m : Library) (a symbol : Name) → Some a ≡ Some symbol → (l.state symbol).staged ≡ (m.state symbol).staged → (l.state a).staged ≡ (m.state a).staged
 same_pieces l m a symbol named e = subst (λ n. (l.state n).staged ≡ (m.state n).staged) (sym (some_name a symbol named)) e
 
+-- the state of a symbol, if one is named
+abbrev pub state_named : Library → Option Name → State
+state_named l None = unknown
+state_named l (Some symbol) = l.state symbol
+
+same_named : (l m : Library) (o : Option Name) (symbol : Name) → o ≡ Some symbol → l.state symbol ≡ m.state symbol → state_named l o ≡ state_named m o
+same_named l m o symbol named e = subst (λ x. state_named l x ≡ state_named m x) (sym named) e
+
+-- a read that is through no snapshot goes by the state of its symbol
+read_by_state : (l m : Library) (c : Command) → reads_snapshot c ≡ false → state_named l (symbol_of c) ≡ state_named m (symbol_of c) → read_answer l c ≡ read_answer m c
+read_by_state l m (commands.Read a (moments.Snapshot name) range columns clauses) snap same = absurd (true≢false snap)
+read_by_state l m c snap same = ap (λ (st : State). read_answer (record l { state = λ x. st }) c) same
+
+-- a finalize goes by the pieces that were staged at its list
+finalized_by_pieces : (s : Session) (x y st : State) (c : Command) → x.staged ≡ y.staged → finalized_answer s x st c ≡ finalized_answer s y st c
+finalized_by_pieces s x y st (commands.Finalize a append sorted at prune) e = ap (λ (ps : List Piece). Some (answered (finalize_answer (record unknown { staged = ps }) st append sorted prune (stamp_of s at)))) e
+finalized_by_pieces s x y st c e = refl
+
 -- an answer goes by the state of its symbol, and by the pieces that were staged at its list
 answer_same : (s : Session) (list other : Library) (l m : Library) (p q : ℕ) (c : Command) (symbol : Name) → is_plain c ≡ true → symbol_of c ≡ Some symbol → reads_snapshot c ≡ false
     → (list.state symbol).staged ≡ (other.state symbol).staged → l.state symbol ≡ m.state symbol → answer s list l p c ≡ answer s other m q c
-answer_same s list other l m p q (commands.Write a frame at prune) symbol plain named snap listed same = ap (λ (st : State). with_frame s frame (λ f. Ok (committed st prune (changes.Wrote f (stamp_of s at))))) (same_state l m a symbol named same)
-answer_same s list other l m p q (commands.Append a frame at prune) symbol plain named snap listed same = ap (λ (st : State). with_frame s frame (λ f. append_answer st prune (stamp_of s at) f)) (same_state l m a symbol named same)
-answer_same s list other l m p q (commands.Update a frame range upsert at prune) symbol plain named snap listed same =
-    ap (λ (st : State). with_frame s frame (λ f. update_answer st upsert prune (stamp_of s at) range f)) (same_state l m a symbol named same)
-answer_same s list other l m p q (commands.DeleteRange a range at prune) symbol plain named snap listed same =
-    ap (λ (st : State). Some (answered (base_or st then λ v. update_answer st false prune (stamp_of s at) (Some range) (record v.frame { rows = [] })))) (same_state l m a symbol named same)
-answer_same s list other l m p q (commands.Finalize a append sorted at prune) symbol plain named snap listed same =
-    ap (λ (ps : List Piece). Some (answered (finalize_answer (record unknown { staged = ps }) (l.state a) append sorted prune (stamp_of s at)))) (same_pieces list other a symbol named listed)
-    ∙ ap (λ (st : State). Some (answered (finalize_answer (other.state a) st append sorted prune (stamp_of s at)))) (same_state l m a symbol named same)
-answer_same s list other l m p q (commands.Discard a) symbol plain named snap listed same =
-    ap (λ (ps : List Piece). Some (answered (discard_answer (record unknown { staged = ps }) (l.state a)))) (same_pieces list other a symbol named listed)
-    ∙ ap (λ (st : State). Some (answered (discard_answer (other.state a) st))) (same_state l m a symbol named same)
-answer_same s list other l m p q (commands.Delete a versions) symbol plain named snap listed same = ap (λ (st : State). Some (answered (delete_answer st versions))) (same_state l m a symbol named same)
-answer_same s list other l m p q (commands.Prune a) symbol plain named snap listed same = ap (λ (st : State). Some (answered (prune_answer st))) (same_state l m a symbol named same)
-answer_same s list other l m p q (commands.Versions a) symbol plain named snap listed same = ap (λ (st : State). Some (answered (versions_answer st))) (same_state l m a symbol named same)
-answer_same s list other l m p q (commands.Read a (moments.Back k) range columns clauses) symbol plain named snap listed same =
-    ap (λ (st : State). Some (answered (version_or st (asks.Back k) (back (live_versions st) k) then λ v. read_answer v range columns clauses))) (same_state l m a symbol named same)
-answer_same s list other l m p q (commands.Read a (moments.Number n) range columns clauses) symbol plain named snap listed same =
-    ap (λ (st : State). Some (answered (version_or st (asks.Number n) (find (λ v. nat_eq v.number n) (live_versions st)) then λ v. read_answer v range columns clauses))) (same_state l m a symbol named same)
-answer_same s list other l m p q (commands.Read a (moments.Moment t) range columns clauses) symbol plain named snap listed same =
-    ap (λ (st : State). Some (answered (version_or st (asks.Moment t) (find (λ v. int_le v.stamp t) (live_versions st)) then λ v. read_answer v range columns clauses))) (same_state l m a symbol named same)
-answer_same s list other l m p q (commands.Read a (moments.Snapshot name) range columns clauses) symbol plain named snap listed same = absurd (true≢false snap)
-answer_same s list other l m p q (commands.Stage a frame) symbol plain named snap listed same = absurd (true≢false (sym plain))
-answer_same s list other l m p q (commands.Reclaim a) symbol plain named snap listed same = absurd (true≢false (sym plain))
-answer_same s list other l m p q (commands.Keys a) symbol plain named snap listed same = absurd (true≢false (sym plain))
-answer_same s list other l m p q (commands.Snapshot name picks) symbol plain named snap listed same = absurd (true≢false (sym plain))
-answer_same s list other l m p q (commands.DeleteSnapshot name) symbol plain named snap listed same = absurd (true≢false (sym plain))
-answer_same s list other l m p q commands.Symbols symbol plain named snap listed same = absurd (true≢false (sym plain))
-answer_same s list other l m p q commands.Snapshots symbol plain named snap listed same = absurd (true≢false (sym plain))
+answer_same s list other l m p q c symbol plain named snap listed same = by_kind (kind_of c) plain named
+  where
+    by_kind : (k : Kind) → is_plain_of k ≡ true → kind_symbol k ≡ Some symbol → answer_of s list l p c k ≡ answer_of s other m q c k
+    by_kind (Makes a) is on = ap (λ (st : State). made_answer s st c) (same_state l m a symbol on same)
+    by_kind (Finalizes a) is on = finalized_by_pieces s (list.state a) (other.state a) (l.state a) c (same_pieces list other a symbol on listed)
+        ∙ ap (λ (st : State). finalized_answer s (other.state a) st c) (same_state l m a symbol on same)
+    by_kind (Buries a burial) is on = ap (λ (st : State). Some (answered (burial_answer burial st))) (same_state l m a symbol on same)
+    by_kind (Discards a) is on =
+        ap (λ (ps : List Piece). Some (answered (discard_answer (record unknown { staged = ps }) (l.state a)))) (same_pieces list other a symbol on listed)
+        ∙ ap (λ (st : State). Some (answered (discard_answer (other.state a) st))) (same_state l m a symbol on same)
+    by_kind (Reads a) is on = read_by_state l m c snap (same_named l m (symbol_of c) symbol named same)
+    by_kind k is on = absurd (true≢false (sym is))
 
 -- ---- the clauses of a plain command
 

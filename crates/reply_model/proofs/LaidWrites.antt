@@ -2,7 +2,7 @@
 --     newest_link         the newest link has the index that was put under its row's key
 --     write_lays_out      a write is laid out where its frame is
 --     none_lays_out       a command that makes no version leaves nothing open
-use Rattle.std.proofs.Common.{◌≡◌, ℕ, Bool, true, false, List, [], ◌∷◌, ◌++◌, map, Option, Some, None, Ok, refl, sym, ◌∙◌, ap, subst, inl, inr, cond}
+use Rattle.std.proofs.Common.{◌≡◌, ℕ, Bool, true, false, List, [], ◌∷◌, ◌++◌, map, length, Option, Some, None, Ok, refl, sym, ◌∙◌, ap, subst, inl, inr, cond}
 use Rattle.std.specs.Prelude.{ℤ, ⊤, Result, Err, IfSome, not, reverse, option_map}
 use Rattle.std.specs.List.{cons_option}
 use Rattle.std.proofs.lemmas.Bool.{true≢false}
@@ -18,8 +18,8 @@ use Rattle.bucket_core.specs.declared.event.Change.TheVariants as changes
 use Rattle.bucket_core.specs.declared.event.Event.TheVariants as events
 use Rattle.bucket_core.specs.History.{History}
 use Rattle.store_model.specs.declared.chain.LinkRow.{LinkRow}
-use Rattle.store_model.specs.Library.{State, Version, state_of, first_of, new_version}
-use Rattle.store_model.specs.Snapshots.{library_of}
+use Rattle.store_model.specs.Library.{State, Version, Piece, state_of, first_of, new_version}
+use Rattle.store_model.specs.Snapshots.{Library, library_of}
 use Rattle.store_model.specs.Law.{IsLawful}
 use Rattle.store_model.specs.Links.{Linked, links, links_of, links_in, links_at, linked, index_put}
 use Rattle.store_model.specs.Commits.{FitsLink, is_version, marks_of}
@@ -31,15 +31,19 @@ use Rattle.expr_clause.specs.declared.command.Command.TheVariants as commands
 use Rattle.reply_model.specs.declared.outcome.Outcome.{Outcome}
 use Rattle.reply_model.specs.declared.outcome.Outcome.TheVariants as outcomes
 use Rattle.reply_model.specs.declared.reply.Reply.{Reply}
-use Rattle.reply_model.specs.Answering.{Session, Answer, ◌then◌, answered, refused, refuse_if, frame_of, stamp_of, committed, pruned}
-use Rattle.reply_model.specs.CommitAnswers.{delete_answer, prune_answer}
-use Rattle.reply_model.specs.ReadAnswers.{version_row, versions_answer, read_version, read_answer, query}
+use Rattle.reply_model.specs.Answering.{Session, Answer, ◌then◌, answered, refused, refuse_if, or_refuse, frame_of, stamp_of, committed, pruned}
+use Rattle.reply_model.specs.CommitAnswers.{burial_answer}
+use Rattle.reply_model.specs.PieceAnswers.{taken, discarded}
+use Rattle.reply_model.specs.Kinds.{Kind, kind_of, kind_makes}
+use Rattle.reply_model.specs.Kinds as does
+use Rattle.reply_model.specs.Answers.{symbol_row, read_answer, list_answer, answer_of}
+use Rattle.reply_model.specs.ReadAnswers.{version_answer, query, version_row, versions_answer, read_version}
 use Rattle.reply_model.specs.Windows.{is_refused}
 use Rattle.reply_model.specs.Blocks.{Cutting}
 use Rattle.reply_model.specs.Standing.{LaysOut, IsLaid}
 use Rattle.reply_model.proofs.Isolated.{some_answer}
 use Rattle.reply_model.proofs.FreshKeys.{index_is}
-use Rattle.reply_model.proofs.AloneLegal.{delete_buries, prune_buries, buried_first}
+use Rattle.reply_model.proofs.AloneLegal.{burial_buries, buried_first}
 
 -- ---- the newest link
 
@@ -124,18 +128,6 @@ write_lays_out c s symbol frame at prune reply old new laid cut other change res
 
 -- ---- commands that make no version
 
--- the commands whose commits make no version, or that only look
-abbrev pub makes_none : Command → Bool
-makes_none (commands.Delete symbol versions) = true
-makes_none (commands.Prune symbol) = true
-makes_none (commands.Reclaim symbol) = true
-makes_none (commands.Versions symbol) = true
-makes_none (commands.Keys symbol) = true
-makes_none (commands.Read symbol as_of range columns clauses) = true
-makes_none commands.Symbols = true
-makes_none commands.Snapshots = true
-makes_none command = false
-
 -- the answer has no changes
 abbrev HasNoMarks : Result Answer Refusal → Type 0
 HasNoMarks (Err why) = ⊤
@@ -159,31 +151,51 @@ no_change x outcome change rest none e = not_none (sym (marks x none) ∙ ap (λ
     marks (Err why) o = refl
     marks (Ok a) o = o
 
--- they leave nothing open
-pub none_lays_out : (c : Cutting) (s : Session) (command : Command) (reply : Reply) (old new : History) → makes_none command ≡ true → LaysOut c s command reply old new
-none_lays_out c s (commands.Delete a versions) reply old new is cut symbol change rest named answered_is version =
-    let b = buried_first (delete_answer ((library_of old).state a) versions) reply.outcome change rest (delete_buries ((library_of old).state a) versions) answered_is in
-    absurd (true≢false (sym version ∙ ap is_version b.1))
-none_lays_out c s (commands.Prune a) reply old new is cut symbol change rest named answered_is version =
-    let b = buried_first (prune_answer ((library_of old).state a)) reply.outcome change rest (prune_buries ((library_of old).state a)) answered_is in
-    absurd (true≢false (sym version ∙ ap is_version b.1))
-none_lays_out c s (commands.Versions a) reply old new is cut symbol change rest named answered_is version =
-    let st : State = (library_of old).state a in
-    absurd (no_change (versions_answer st) reply.outcome change rest (no_marks_if (not st.has_reference) refusals.NoSuchSymbol (Ok (record { outcome = outcomes.Versions (reverse (map (version_row st) st.versions)); marks = [] })) refl) answered_is)
-none_lays_out c s (commands.Read a as_of range columns clauses) reply old new is cut symbol change rest named answered_is version =
-    absurd (no_change (read_version (library_of old) a as_of then λ v. read_answer v range columns clauses) reply.outcome change rest
-    (no_marks_then (read_version (library_of old) a as_of) (λ v. read_answer v range columns clauses)
-    (λ v. no_marks_then (query v.frame range columns clauses) (λ f. Ok (record { outcome = outcomes.Whole v.number f; marks = [] })) (λ f. refl))) answered_is)
-none_lays_out c s (commands.Keys a) reply old new is cut symbol change rest named answered_is version = absurd cc
-none_lays_out c s (commands.Reclaim a) reply old new is cut symbol change rest named answered_is version = absurd cc
-none_lays_out c s commands.Symbols reply old new is cut symbol change rest named answered_is version = absurd cc
-none_lays_out c s commands.Snapshots reply old new is cut symbol change rest named answered_is version = absurd cc
-none_lays_out c s (commands.Write a frame at prune) reply old new is cut symbol change rest named answered_is version = absurd (true≢false (sym is))
-none_lays_out c s (commands.Append a frame at prune) reply old new is cut symbol change rest named answered_is version = absurd (true≢false (sym is))
-none_lays_out c s (commands.Update a frame range upsert at prune) reply old new is cut symbol change rest named answered_is version = absurd (true≢false (sym is))
-none_lays_out c s (commands.DeleteRange a range at prune) reply old new is cut symbol change rest named answered_is version = absurd (true≢false (sym is))
-none_lays_out c s (commands.Finalize a append sorted at prune) reply old new is cut symbol change rest named answered_is version = absurd (true≢false (sym is))
-none_lays_out c s (commands.Discard a) reply old new is cut symbol change rest named answered_is version = absurd (true≢false (sym is))
-none_lays_out c s (commands.Stage a frame) reply old new is cut symbol change rest named answered_is version = absurd (true≢false (sym is))
-none_lays_out c s (commands.Snapshot name picks) reply old new is cut symbol change rest named answered_is version = absurd (true≢false (sym is))
-none_lays_out c s (commands.DeleteSnapshot name) reply old new is cut symbol change rest named answered_is version = absurd (true≢false (sym is))
+-- a read, a list and a staged piece have no changes
+read_change : (l : Library) (c : Command) (outcome : Outcome) (change : Change) (rest : List Change) → read_answer l c ≡ Some (record { outcome = outcome; marks = change ∷ rest }) → ⊥
+read_change l (commands.Versions a) outcome change rest e =
+    let st : State = l.state a in
+    no_change (versions_answer st) outcome change rest (no_marks_if (not st.has_reference) refusals.NoSuchSymbol (Ok (record { outcome = outcomes.Versions (reverse (map (version_row st) st.versions)); marks = [] })) refl) e
+read_change l (commands.Read a as_of range columns clauses) outcome change rest e =
+    no_change (read_version l a as_of then λ v. version_answer v range columns clauses) outcome change rest
+    (no_marks_then (read_version l a as_of) (λ v. version_answer v range columns clauses)
+    (λ v. no_marks_then (query v.frame range columns clauses) (λ f. Ok (record { outcome = outcomes.Whole v.number f; marks = [] })) (λ f. refl))) e
+read_change l c outcome change rest e = absurd cc
+
+list_change : (l : Library) (place : ℕ) (c : Command) (outcome : Outcome) (change : Change) (rest : List Change) → list_answer l place c ≡ Some (record { outcome = outcome; marks = change ∷ rest }) → ⊥
+list_change l place commands.Symbols outcome change rest e = no_change (Ok (record { outcome = outcomes.Symbols (map (symbol_row l place) l.symbols); marks = [] })) outcome change rest refl e
+list_change l place commands.Snapshots outcome change rest e = no_change (Ok (record { outcome = outcomes.Snapshots (map (λ y. y.0) l.snapshots); marks = [] })) outcome change rest refl e
+list_change l place c outcome change rest e = absurd cc
+
+staged_change : (o : Option (Result Frame Refusal)) (outcome : Outcome) (change : Change) (rest : List Change)
+    → option_map (λ x. answered (x then λ f. Ok (record { outcome = outcomes.Staged; marks = [] }))) o ≡ Some (record { outcome = outcome; marks = change ∷ rest }) → ⊥
+staged_change None outcome change rest e = absurd cc
+staged_change (Some x) outcome change rest e =
+    no_change (x then λ f. Ok (record { outcome = outcomes.Staged; marks = [] })) outcome change rest (no_marks_then x (λ f. Ok (record { outcome = outcomes.Staged; marks = [] })) (λ f. refl)) e
+
+-- a discard makes no version
+discards_none : (r : Option Piece) (n : ℕ) (ps : List Piece) (outcome : Outcome) (change : Change) (rest : List Change)
+    → Some (answered (or_refuse r refusals.NoStaged then λ p. Ok (record { outcome = outcomes.Discarded n; marks = discarded ps ∷ [] }))) ≡ Some (record { outcome = outcome; marks = change ∷ rest }) → is_version change ≡ false
+discards_none None n ps outcome change rest e = absurd (no_change (Err refusals.NoStaged) outcome change rest tt e)
+discards_none (Some p) n ps outcome change rest e =
+    sym (ap is_version (first_is (discarded ps) change [] rest (ap (λ (a : Answer). a.marks) (some_answer (record { outcome = outcomes.Discarded n; marks = discarded ps ∷ [] }) (record { outcome = outcome; marks = change ∷ rest }) e))))
+  where
+    first_is : (x y : Change) (xs ys : List Change) → x ∷ xs ≡ y ∷ ys → x ≡ y
+    first_is x y xs ys e = cc
+
+-- so they leave nothing open
+pub none_lays_out : (c : Cutting) (s : Session) (command : Command) (reply : Reply) (old new : History) → kind_makes (kind_of command) ≡ false → LaysOut c s command reply old new
+none_lays_out c s command reply old new is cut symbol change rest named answered_is version = absurd (true≢false (sym version ∙ by_kind (kind_of command) is answered_is))
+  where
+    l : Library
+    l = library_of old
+
+    by_kind : (k : Kind) → kind_makes k ≡ false → answer_of s l l (length old) command k ≡ Some (record { outcome = reply.outcome; marks = change ∷ rest }) → is_version change ≡ false
+    by_kind (does.Makes a) none e = absurd (true≢false none)
+    by_kind (does.Finalizes a) none e = absurd (true≢false none)
+    by_kind (does.Buries a burial) none e = ap is_version (buried_first (burial_answer burial (l.state a)) reply.outcome change rest (burial_buries burial (l.state a)) e).1
+    by_kind (does.Discards a) none e = discards_none (first_of (taken (l.state a) (l.state a))) (length (taken (l.state a) (l.state a))) (taken (l.state a) (l.state a)) reply.outcome change rest e
+    by_kind (does.Stages a frame) none e = absurd (staged_change (frame_of s frame) reply.outcome change rest e)
+    by_kind (does.Reads a) none e = absurd (read_change l command reply.outcome change rest e)
+    by_kind does.Lists none e = absurd (list_change l (length old) command reply.outcome change rest e)
+    by_kind k none e = absurd cc

@@ -20,7 +20,7 @@ use Rattle.reply_model.specs.declared.reply.Reply.{Reply}
 use Rattle.reply_model.specs.Answering.{Session}
 use Rattle.reply_model.specs.Windows.{Window, own_events}
 use Rattle.reply_model.specs.Tries.{put_of, IsAccepted, IsTurn}
-use Rattle.reply_model.specs.Kinds.{Kind, kind_of, Makes, Edits, Reads}
+use Rattle.reply_model.specs.Kinds.{Kind, kind_of, Makes, Finalizes, Buries, Discards, Reads}
 use Rattle.reply_model.specs.OwnEvents.{IsOwnOf, AnyMarks, IsOwn}
 use Rattle.reply_model.specs.Runs.{names_symbol, harms, IsAlone}
 use Rattle.reply_model.proofs.Harmless.{tries_harm_nothing, try_harms_nothing}
@@ -178,7 +178,9 @@ turn_stages_nothing h s w symbol makes done es t = ap (list_any stages) t.is
 -- the commands whose answer is a function of the symbol's state, but for stage
 abbrev pub is_plain_of : Kind → Bool
 is_plain_of (Makes symbol) = true
-is_plain_of (Edits symbol) = true
+is_plain_of (Finalizes symbol) = true
+is_plain_of (Buries symbol burial) = true
+is_plain_of (Discards symbol) = true
 is_plain_of (Reads symbol) = true
 is_plain_of k = false
 
@@ -187,7 +189,9 @@ is_plain c = is_plain_of (kind_of c)
 
 own_stages_none : (h : History) (s : Session) (w : Window) (k : Kind) (reply : Reply) (done : Bool) (es : List Event) → is_plain_of k ≡ true → IsOwnOf h s w k reply done es → list_any stages es ≡ false
 own_stages_none h s w (Makes symbol) reply done es p o = turn_stages_nothing h s w symbol true done es o
-own_stages_none h s w (Edits symbol) reply done es p o = turn_stages_nothing h s w symbol false done es o
+own_stages_none h s w (Finalizes symbol) reply done es p o = turn_stages_nothing h s w symbol true done es o
+own_stages_none h s w (Buries symbol burial) reply done es p o = turn_stages_nothing h s w symbol false done es o
+own_stages_none h s w (Discards symbol) reply done es p o = turn_stages_nothing h s w symbol false done es o
 own_stages_none h s w (Reads symbol) reply done es p o = ap (list_any stages) o
 own_stages_none h s w k reply done es p o = absurd (true≢false (sym p))
 

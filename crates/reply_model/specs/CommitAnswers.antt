@@ -1,5 +1,7 @@
--- The answers of append, update, delete_range, delete and prune.
---     append_answer, update_answer, clear_answer, delete_answer, prune_answer
+-- The answers of append, update, delete_range and of burials.
+--     append_answer, update_answer, clear_answer
+--     to_bury, bury_answer      the versions that a burial buries, or why it buries none
+--     buried_outcome, burial_answer      its outcome and its answer
 use Rattle.std.specs.Prelude.{ℕ, ◌+◌, ℤ, Bool, false, ◌&&◌, not, if◌then◌else◌, List, [], ◌∷◌, ◌++◌, map, reverse, length, find, Option, Some, None, Result, Ok, nat_eq, nat_lt}
 use Rattle.frame_core.specs.Ranges.{Range}
 use Rattle.frame_core.specs.declared.refusal.Asked.TheVariants as asks
@@ -10,7 +12,9 @@ use Rattle.frame_core.specs.Ranges.{is_within}
 use Rattle.frame_core.specs.RawFrames.{unless}
 use Rattle.bucket_core.specs.declared.event.Change.TheVariants as changes
 use Rattle.store_model.specs.Library.{State, Version, is_live, base_of, live_versions}
+use Rattle.reply_model.specs.declared.outcome.Outcome.{Outcome}
 use Rattle.reply_model.specs.declared.outcome.Outcome.TheVariants as outcomes
+use Rattle.reply_model.specs.Kinds.{Burial, Listed, Older}
 use Rattle.reply_model.specs.Answering.{Answer, ◌then◌, refuse_if, or_refuse, live_numbers, removed, committed, base_or, fits_schema, may_append, joined_within}
 
 -- the answer of append
@@ -58,14 +62,6 @@ abbrev pub ascending : List ℕ → List ℕ
 ascending [] = []
 ascending (n ∷ ns) = insert_number n (ascending ns)
 
--- the answer of delete, of all live versions or of the asked ones
-abbrev pub delete_answer : State → Option (List ℕ) → Result Answer Refusal
-delete_answer st None = refuse_if (not st.has_reference) refusals.NoSuchSymbol (Ok (record { outcome = outcomes.Deleted (length (live_numbers st)); marks = removed (live_numbers st) }))
-delete_answer st (Some numbers) =
-    refuse_if (not st.has_reference) refusals.NoSuchSymbol
-    (unless (first_absent st numbers) (λ n. refusals.NoSuchVersion (asks.Number n))
-    (Ok (record { outcome = outcomes.Deleted (length (ascending numbers)); marks = removed (ascending numbers) })))
-
 -- every live version but the base
 abbrev pub older_live : State → List ℕ
 older_live st = reverse (map (λ v. v.number) (but_first (live_versions st)))
@@ -74,6 +70,21 @@ older_live st = reverse (map (λ v. v.number) (but_first (live_versions st)))
     but_first [] = []
     but_first (v ∷ vs) = vs
 
--- the answer of prune
-abbrev pub prune_answer : State → Result Answer Refusal
-prune_answer st = refuse_if (not st.has_reference) refusals.NoSuchSymbol (Ok (record { outcome = outcomes.Pruned (length (older_live st)); marks = removed (older_live st) }))
+-- the versions of a burial, ascending: every live one, or the listed ones, each once, where all are live; or every live one but the base
+abbrev pub to_bury : Burial → State → Result (List ℕ) Refusal
+to_bury (Listed None) st = Ok (live_numbers st)
+to_bury (Listed (Some numbers)) st = unless (first_absent st numbers) (λ n. refusals.NoSuchVersion (asks.Number n)) (Ok (ascending numbers))
+to_bury Older st = Ok (older_live st)
+
+-- the same, where the symbol has a reference
+abbrev pub bury_answer : Burial → State → Result (List ℕ) Refusal
+bury_answer burial st = refuse_if (not st.has_reference) refusals.NoSuchSymbol (to_bury burial st)
+
+-- the outcome where so many are buried
+abbrev pub buried_outcome : Burial → ℕ → Outcome
+buried_outcome (Listed versions) n = outcomes.Deleted n
+buried_outcome Older n = outcomes.Pruned n
+
+-- the answer of a burial
+abbrev pub burial_answer : Burial → State → Result Answer Refusal
+burial_answer burial st = bury_answer burial st then λ numbers. Ok (record { outcome = buried_outcome burial (length numbers); marks = removed numbers })

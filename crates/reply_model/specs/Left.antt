@@ -15,10 +15,10 @@ use Rattle.bucket_core.specs.History.{History}
 use Rattle.store_model.specs.declared.snapshot.SnapRow.{SnapRow}
 use Rattle.store_model.specs.declared.snapshot.SnapBody.{SnapBody}
 use Rattle.expr_clause.specs.declared.command.Command.{Command}
-use Rattle.expr_clause.specs.declared.command.Command.TheVariants as commands
 use Rattle.reply_model.specs.declared.reply.Reply.{Reply}
 use Rattle.reply_model.specs.Answering.{Session}
 use Rattle.reply_model.specs.Windows.{Window, own_events, is_refused, is_cut, is_store_fault, refers_by_others, unnames}
+use Rattle.reply_model.specs.Kinds.{Kind, kind_of, Holds, Unholds}
 use Rattle.reply_model.specs.OwnEvents.{taken_away}
 
 -- the place up to which own events are known: the window's end, after a StoreFault the reply's place
@@ -54,16 +54,17 @@ abbrev pub snapshot_left : List Event → Option SnapBody → List Name
 snapshot_left all None = []
 snapshot_left all (Some s) = rows_left all s.holder s.rows
 
--- the symbols that a reply names as left: of a refused snapshot, and of a delete_snapshot whose Unname is known; `before` is what stood under the name
-abbrev pub left_of : Command → Reply → List Event → Option SnapBody → List Name
-left_of (commands.Snapshot snap picks) reply known before = if is_refused reply.outcome then held_in known known else []
-left_of (commands.DeleteSnapshot snap) reply known before = if unname_in snap known then snapshot_left known before else []
-left_of c reply known before = []
+-- the symbols that a reply names as left, by the kind of command: of a refused snapshot, and of a delete_snapshot whose Unname is known; `before` is
+-- what stood under the name
+abbrev pub left_of : Kind → Reply → List Event → Option SnapBody → List Name
+left_of (Holds snap picks) reply known before = if is_refused reply.outcome then held_in known known else []
+left_of (Unholds snap) reply known before = if unname_in snap known then snapshot_left known before else []
+left_of _ reply known before = []
 
--- what stood under the name when this command took it away, where that is known
-abbrev pub stood_before : History → ℕ → Command → Reply → Window → Option SnapBody
-stood_before h client (commands.DeleteSnapshot snap) reply w = if unname_in snap (known_events h client reply w) then taken_away h client snap else None
-stood_before h client c reply w = None
+-- what stood under the name when a command of this kind took it away, where that is known
+abbrev pub stood_before : History → ℕ → Kind → Reply → Window → Option SnapBody
+stood_before h client (Unholds snap) reply w = if unname_in snap (known_events h client reply w) then taken_away h client snap else None
+stood_before h client _ reply w = None
 
 -- a symbol is left only with NoMemory, StoreFault or Spent, or where as many Refers of it by others as tries stand in the window
 abbrev pub MayBeLeft : History → Session → Reply → Window → Name → Type 0
@@ -71,5 +72,5 @@ MayBeLeft h s reply w symbol = (is_cut reply.outcome ≡ true) ⊎ (s.tries ≤ 
 
 -- the reply names exactly the symbols whose hold is known to stand, each with its cause
 pub record HasLeft (h : History) (s : Session) (c : Command) (reply : Reply) (w : Window) : Type 0 where
-  pub left : reply.left ≡ left_of c reply (known_events h s.client reply w) (stood_before h s.client c reply w)
+  pub left : reply.left ≡ left_of (kind_of c) reply (known_events h s.client reply w) (stood_before h s.client (kind_of c) reply w)
   pub causes : AllByRecursion (MayBeLeft h s reply w) reply.left

@@ -1,5 +1,5 @@
 -- When the replies of a client are legal in a history.
---     IsListed             which replies name the place of their list
+--     IsListedOf, IsListed      which replies name the place of their list
 --     IsLegalOutcome       the clause of each outcome
 --     IsLegalReply         a reply is legal for a window
 --     LegalFrom, Legal     all replies of a client, each with its window
@@ -18,7 +18,7 @@ use Rattle.reply_model.specs.declared.outcome.Outcome.{Outcome}
 use Rattle.reply_model.specs.declared.outcome.Outcome.TheVariants as outcomes
 use Rattle.reply_model.specs.declared.reply.Reply.{Reply}
 use Rattle.reply_model.specs.Windows.{Window, Client, library_at, own_events, is_cut, has_none}
-use Rattle.reply_model.specs.Kinds.{Kind, kind_of, Reclaims, Holds, Unholds, Cause, cause_of, Free, Faulted, Full, Met, Gone, Told}
+use Rattle.reply_model.specs.Kinds.{Kind, kind_of, Finalizes, Discards, Reclaims, Holds, Unholds, Cause, cause_of, Free, Faulted, Full, Met, Gone, Told}
 use Rattle.reply_model.specs.Drops.{IsFreedAt}
 use Rattle.reply_model.specs.OwnEvents.{HasOwnEvents}
 use Rattle.reply_model.specs.Left.{HasLeft}
@@ -33,11 +33,15 @@ is_taken (outcomes.Refused refusals.SnapshotExists) = true
 is_taken _ = false
 
 -- those of finalize, discard and a snapshot of all, once the list is made: before any own event, and before each refusal but that of the list itself and of the name at its get
+abbrev pub IsListedOf : Kind → Reply → List Event → Type 0
+IsListedOf (Finalizes symbol) reply own = MatchBool (is_cut reply.outcome && has_none own) ⊤ (is_some reply.listed ≡ true)
+IsListedOf (Discards symbol) reply own = MatchBool (is_cut reply.outcome && has_none own) ⊤ (is_some reply.listed ≡ true)
+IsListedOf (Holds snap []) reply own = MatchBool (is_cut reply.outcome && has_none own) ⊤ (is_some reply.listed ≡ not (is_taken reply.outcome && has_none own))
+IsListedOf _ reply own = reply.listed ≡ None
+
+-- so of a command
 abbrev pub IsListed : Command → Reply → List Event → Type 0
-IsListed (commands.Finalize symbol append sorted at prune) reply own = MatchBool (is_cut reply.outcome && has_none own) ⊤ (is_some reply.listed ≡ true)
-IsListed (commands.Discard symbol) reply own = MatchBool (is_cut reply.outcome && has_none own) ⊤ (is_some reply.listed ≡ true)
-IsListed (commands.Snapshot snap []) reply own = MatchBool (is_cut reply.outcome && has_none own) ⊤ (is_some reply.listed ≡ not (is_taken reply.outcome && has_none own))
-IsListed c reply own = reply.listed ≡ None
+IsListed c reply own = IsListedOf (kind_of c) reply own
 
 -- the list was made in the window, no later than the reply's place
 abbrev pub IsListedWithin : Option ℕ → ℕ → ℕ → Type 0

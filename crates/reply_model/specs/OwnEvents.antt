@@ -22,7 +22,6 @@ use Rattle.store_model.specs.declared.snapshot.SnapBody.{SnapBody}
 use Rattle.store_model.specs.Snapshots.{snap_body}
 use Rattle.expr_clause.specs.declared.command.Pick.{Pick}
 use Rattle.expr_clause.specs.declared.command.Command.{Command}
-use Rattle.expr_clause.specs.declared.command.Command.TheVariants as commands
 use Rattle.reply_model.specs.declared.outcome.Outcome.{Outcome}
 use Rattle.reply_model.specs.declared.outcome.Outcome.TheVariants as outcomes
 use Rattle.reply_model.specs.declared.reply.Reply.{Reply}
@@ -30,7 +29,7 @@ use Rattle.reply_model.specs.Answering.{Session, frame_of}
 use Rattle.reply_model.specs.Answers.{answer}
 use Rattle.store_model.specs.Holders.{holder_is}
 use Rattle.reply_model.specs.Windows.{Window, library_at, own_events, symbol_of, is_refused, is_cut, is_store_fault, refer_places, AreCommits, IsReferAt}
-use Rattle.reply_model.specs.Kinds.{Kind, kind_of, Makes, Edits, Stages, Reclaims, Holds, Unholds}
+use Rattle.reply_model.specs.Kinds.{Kind, kind_of, Makes, Finalizes, Buries, Discards, Stages, Reclaims, Holds, Unholds}
 use Rattle.reply_model.specs.Tries.{IsKeyOf, one_if, IsTurn, AreTurns}
 use Rattle.reply_model.specs.Drops.{IsReclaiming}
 
@@ -87,7 +86,9 @@ AnyMarks list = ⊤
 -- the own events of a kind of command that is done, or that is not
 abbrev pub IsOwnOf : History → Session → Window → Kind → Reply → Bool → List Event → Type 0
 IsOwnOf h s w (Makes symbol) reply done es = IsTurn h s w symbol true done AnyMarks es
-IsOwnOf h s w (Edits symbol) reply done es = IsTurn h s w symbol false done AnyMarks es
+IsOwnOf h s w (Finalizes symbol) reply done es = IsTurn h s w symbol true done AnyMarks es
+IsOwnOf h s w (Buries symbol burial) reply done es = IsTurn h s w symbol false done AnyMarks es
+IsOwnOf h s w (Discards symbol) reply done es = IsTurn h s w symbol false done AnyMarks es
 IsOwnOf h s w (Stages symbol frame) reply done es = MatchBool done (IsStaging s symbol frame es) (es ≡ [])
 IsOwnOf h s w (Reclaims symbol) reply done es = MatchBool done (IsReclaiming h s.client symbol reply w es) (es ≡ [])
 IsOwnOf h s w (Holds snap picks) reply done es = IsHolding h s w snap picks done es
@@ -143,10 +144,13 @@ pub record IsMeantAt (h : History) (s : Session) (c : Command) (reply : Reply) (
   pub answered : answer s (library_at h (unwrap_or reply.listed q)) (library_at h (q - 1)) (q - 1) c ≡ Some (record { outcome = outcome; marks = list })
 
 -- a commit that may stand behind a failed call is one that the command asked for
+abbrev pub AreMeantOf : History → Session → Command → Kind → Reply → List ℕ → Type 0
+AreMeantOf h s c (Holds snap picks) reply places = ⊤
+AreMeantOf h s c (Unholds snap) reply places = ⊤
+AreMeantOf h s c _ reply places = MatchBool (is_store_fault reply.outcome) (AllByRecursion (IsMeantAt h s c reply) places) ⊤
+
 abbrev pub AreMeant : History → Session → Command → Reply → List ℕ → Type 0
-AreMeant h s (commands.Snapshot snap picks) reply places = ⊤
-AreMeant h s (commands.DeleteSnapshot snap) reply places = ⊤
-AreMeant h s c reply places = MatchBool (is_store_fault reply.outcome) (AllByRecursion (IsMeantAt h s c reply) places) ⊤
+AreMeant h s c reply places = AreMeantOf h s c (kind_of c) reply places
 
 -- the own events are those of a command that was done, or of one that was not; after NoMemory, StoreFault or Spent a beginning of either,
 -- with none behind the reply's place but one of the call that failed

@@ -1,7 +1,7 @@
 -- The answers of reads and of versions.
 --     versions_answer         every version ever linked
 --     read_version            the version that a read takes
---     ask, read_answer        of a query: the rows in the range, and of these the asked columns; what a read answers of a version
+--     ask, version_answer     of a query: the rows in the range, and of these the asked columns; what a read answers of a version
 --     is_asked, places_asked  whether a column is asked, and the places of those that are
 use Rattle.std.specs.Prelude.{ℕ, zero, suc, Bool, true, not, if◌then◌else◌, List, [], map, reverse, find, slice_get, Option, Some, None, Result, Ok, Err, nat_eq, int_le, count_by, option_map}
 use Rattle.std.specs.List.{list_any}
@@ -56,8 +56,8 @@ read_version l symbol (moments.Snapshot snap) =
     or_refuse (numbered (l.state symbol) n) refusals.NoSuchSymbol
 
 -- what a read answers of a version: the rows in the range, of these the asked columns, and what the clauses give of them
-abbrev pub read_answer : Version → Range → Option (List Text) → List Clause → Result Answer Refusal
-read_answer v range columns clauses = query v.frame range columns clauses then λ f. Ok (record { outcome = outcomes.Whole v.number f; marks = [] })
+abbrev pub version_answer : Version → Range → Option (List Text) → List Clause → Result Answer Refusal
+version_answer v range columns clauses = query v.frame range columns clauses then λ f. Ok (record { outcome = outcomes.Whole v.number f; marks = [] })
 
 -- whether the column of a name is asked
 abbrev pub is_asked : Option (List Text) → Text → Bool

@@ -22,6 +22,7 @@ use Rattle.reply_model.specs.declared.outcome.HeldAt.{HeldAt}
 use Rattle.reply_model.specs.declared.outcome.Outcome.{Outcome}
 use Rattle.reply_model.specs.declared.outcome.Outcome.TheVariants as outcomes
 use Rattle.reply_model.specs.declared.reply.Reply.{Reply}
+use Rattle.reply_model.specs.Kinds.{Kind, kind_of, Finalizes, Discards}
 use Rattle.reply_model.specs.Answering.{Session, Answer, frame_of}
 use Rattle.reply_model.specs.Answers.{answer}
 use Rattle.reply_model.specs.SnapshotAnswers.{pick_of, bases, in_name_order}
@@ -66,11 +67,14 @@ committing c symbol list r = record r {
   shape = set_of symbol (shape_after c (r.library.state symbol) (r.shape symbol) list) r.shape;
 }
 
--- the place of the list that finalize and discard make
+-- the place of the list that a finalize and a discard make
+abbrev pub list_place_of : Kind → ℕ → Option ℕ
+list_place_of (Finalizes symbol) place = Some place
+list_place_of (Discards symbol) place = Some place
+list_place_of _ place = None
+
 abbrev pub list_place : Command → ℕ → Option ℕ
-list_place (commands.Finalize symbol append sorted at prune) place = Some place
-list_place (commands.Discard symbol) place = Some place
-list_place c place = None
+list_place c place = list_place_of (kind_of c) place
 
 -- the reply of a command that commits by itself or only looks, by its outcome and the changes of its symbol
 abbrev pub answering : Cutting → Command → Option Name → Outcome → List Change → Alone → Reply × Alone

@@ -3,7 +3,7 @@
 --     StandsAs             what a run alone tells is what a history tells
 --     StepsTo, IsStep      a run alone gives this reply, and then stands as the history behind it
 --     GrowsAlone           a history goes on by events of one client alone
---     is_served            the commands of which this is shown
+--     is_served_of, is_served      the commands of which this is shown
 --     row_sizes, HasBlocks, IsCutBy      the rows of the blocks of a version, by its index; none has more than a cutting's
 --     tiles_cut, parts_laid, IsLaid, LaysOut      how a commit cuts its version, which a legal reply leaves open
 --     LegalAloneSteps      each legal reply is such a step
@@ -30,6 +30,7 @@ use Rattle.store_model.specs.Snapshots.{library_of}
 use Rattle.expr_clause.specs.declared.command.Command.{Command}
 use Rattle.expr_clause.specs.declared.command.Command.TheVariants as commands
 use Rattle.reply_model.specs.declared.reply.Reply.{Reply}
+use Rattle.reply_model.specs.Kinds.{Kind, kind_of, Finalizes, Discards, Stages, Reclaims, Holds, Unholds}
 use Rattle.reply_model.specs.Answering.{Session}
 use Rattle.reply_model.specs.Answers.{answer}
 use Rattle.reply_model.specs.Windows.{Client, symbol_of, is_refused, is_cut}
@@ -92,20 +93,18 @@ pub record GrowsAlone (client : ℕ) (old new : History) : Type 0 where
   pub is : new ≡ more ++ old
   pub own : AllByRecursion (λ e. author e ≡ client) more
 
--- the commands whose legal replies are shown to be those of a run alone
+-- the kinds of command whose legal replies are shown to be those of a run alone: all but these
+abbrev pub is_served_of : Kind → Bool
+is_served_of (Finalizes symbol) = false
+is_served_of (Discards symbol) = false
+is_served_of (Stages symbol frame) = false
+is_served_of (Reclaims symbol) = false
+is_served_of (Holds snap picks) = false
+is_served_of (Unholds snap) = false
+is_served_of _ = true
+
 abbrev pub is_served : Command → Bool
-is_served (commands.Write symbol frame at prune) = true
-is_served (commands.Append symbol frame at prune) = true
-is_served (commands.Update symbol frame range upsert at prune) = true
-is_served (commands.DeleteRange symbol range at prune) = true
-is_served (commands.Delete symbol versions) = true
-is_served (commands.Prune symbol) = true
-is_served (commands.Read symbol as_of range columns clauses) = true
-is_served (commands.Versions symbol) = true
-is_served (commands.Keys symbol) = true
-is_served commands.Symbols = true
-is_served commands.Snapshots = true
-is_served c = false
+is_served c = is_served_of (kind_of c)
 
 -- the cutting of a run, as that of a grid
 abbrev pub grid_cutting : Cutting → cuttings.Cutting

@@ -134,7 +134,7 @@ read_form-loaded frames [] c h = absurd cc
 read_form-loaded frames (symbol ∷ more) c h =
     let named = bind-some (symbol_of symbol) (λ s. read_options more >>= λ o. Some (read_made s o)) c h in
     let set = bind-some (read_options more) (λ o. Some (read_made named.0 o)) c named.2 in
-    subst (IsLoaded (length frames)) (some-same (read_made named.0 set.0) c set.2) refl
+    subst (IsLoaded (length frames)) (some-same (read_made named.0 set.0) c set.2) tt
 
 forms-loaded : AllByRecursion (λ (x : Text × Form). IsForm x.1) forms
 forms-loaded = (
@@ -148,13 +148,13 @@ forms-loaded = (
         (
           delete_form-loaded,
           (
-            symbol_form-loaded commands.Prune (λ loads symbol. tt),
+            symbol_form-loaded _ (λ loads symbol. tt),
             (
-              symbol_form-loaded commands.Reclaim (λ loads symbol. tt),
+              symbol_form-loaded _ (λ loads symbol. tt),
               (
-                symbol_form-loaded commands.Versions (λ loads symbol. tt),
+                symbol_form-loaded _ (λ loads symbol. tt),
                 (
-                  symbol_form-loaded commands.Keys (λ loads symbol. tt),
+                  symbol_form-loaded _ (λ loads symbol. tt),
                   (read_form-loaded, tt),
                 ),
               ),

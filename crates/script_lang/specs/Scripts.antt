@@ -3,10 +3,9 @@
 --     after_line              what one more line makes of it, if some rule allows this line
 --     plain_script_of         the script of a text
 --     AreLoaded               what each script keeps: commands of the plain form, whose frames are loaded
-use Rattle.std.specs.Prelude.{◌≡◌, ℕ, ◌<◌, ⊤, Bool, true, false, List, [], ◌∷◌, ◌++◌, length, Option, Some, None, option_map, nat_le, codes}
+use Rattle.std.specs.Prelude.{ℕ, ◌<◌, ⊤, Bool, true, false, List, [], ◌∷◌, ◌++◌, length, Option, Some, None, option_map, nat_le, codes}
 use Rattle.std.specs.List.{AllByRecursion}
 use Rattle.frame_core.specs.Texts.{Text}
-use Rattle.expr_clause.specs.Fitting.{fits}
 use Rattle.expr_clause.specs.declared.command.Command.{Command}
 use Rattle.expr_clause.specs.declared.command.Command.TheVariants as commands
 use Rattle.script_lang.specs.declared.client.ClientPart.{ClientPart}
@@ -130,19 +129,19 @@ plain_script_of text = lines_of text >>= λ lines. where_true (nat_le (length li
 
 -- ---- what each script keeps
 
--- the command is one of a plain script, its frame, if it has one, is one of so many loads, and its clauses, if it has some, are within their limits
+-- the command is one of a plain script, and its frame, if it has one, is one of so many loads
 abbrev pub IsLoaded : ℕ → Command → Type 0
 IsLoaded loads (commands.Write symbol frame at prune) = frame < loads
 IsLoaded loads (commands.Append symbol frame at prune) = frame < loads
 IsLoaded loads (commands.Update symbol frame range upsert at prune) = frame < loads
-IsLoaded loads (commands.DeleteRange symbol range at prune) = ⊤
-IsLoaded loads (commands.Delete symbol versions) = ⊤
-IsLoaded loads (commands.Prune symbol) = ⊤
-IsLoaded loads (commands.Reclaim symbol) = ⊤
-IsLoaded loads (commands.Versions symbol) = ⊤
-IsLoaded loads (commands.Keys symbol) = ⊤
-IsLoaded loads (commands.Read symbol as_of range columns clauses) = fits clauses ≡ true
-IsLoaded loads _ = ⊥
+IsLoaded loads (commands.Stage symbol frame) = ⊥
+IsLoaded loads (commands.Finalize symbol append sorted at prune) = ⊥
+IsLoaded loads (commands.Discard symbol) = ⊥
+IsLoaded loads (commands.Snapshot snap picks) = ⊥
+IsLoaded loads (commands.DeleteSnapshot snap) = ⊥
+IsLoaded loads commands.Symbols = ⊥
+IsLoaded loads commands.Snapshots = ⊥
+IsLoaded loads _ = ⊤
 
 -- each of these commands is so
 abbrev pub AllLoaded : ℕ → List Command → Type 0

@@ -2,8 +2,8 @@ use Rattle.std.proofs.Common.{refl}
 use Rattle.expr_clause.specs.declared.command.Command.TheVariants as commands
 use Rattle.reply_model.specs.CommitAnswers.{append_answer, update_answer}
 use Rattle.library_api.proofs.LayLemmas.{append_done, update_done}
-use Rattle.library_api.proofs.StepLemmas.{table_command, write_lays, table_lays}
-use Rattle.library_api.proofs.step.bring_frame.Goals as goal
+use Rattle.library_api.proofs.StepLemmas.{table_command, stamped_command, write_lays, table_lays, range_lays}
+use Rattle.library_api.proofs.step.make_version.Goals as goal
 
 pub returns-in-Write-clause-legal : goal.returns-in-Write-clause-legal
 returns-in-Write-clause-legal g c =
@@ -41,3 +41,14 @@ returns-in-Update-clause-lays g c grows =
     c.in-Update.symbol c.in-Update.frame c.in-Update.at c.in-Update.prune c.options-options-in-Update.result c.frame_at-raw-in-Update.result.now
     (commands.Update c.in-Update.symbol c.in-Update.frame c.in-Update.range c.in-Update.upsert c.in-Update.at c.in-Update.prune) (λ o f st. update_answer st c.in-Update.upsert o.prune o.at c.in-Update.range f) refl c.in-Update.is c.options-options-in-Update.ensures c.frame_at-raw-in-Update.ensures
     (λ l q. refl) (λ o f st. update_done st c.in-Update.upsert o.prune o.at c.in-Update.range f) (c.update.ensures.lays grows)
+
+pub returns-in-DeleteRange-clause-legal : goal.returns-in-DeleteRange-clause-legal
+returns-in-DeleteRange-clause-legal g c =
+    stamped_command c.args.frames.now c.args.settings (g.B.Bucket.number c.args.bucket.now) (g.B.Bucket.limit c.args.bucket.now) (g.B.Bucket.faults c.args.bucket.now) (g.B.Bucket.faults c.delete_range.new.bucket)
+    (g.B.Bucket.seen c.args.bucket.now) (g.B.Bucket.seen c.delete_range.new.bucket) c.args.command.now c.delete_range.result
+    (λ o asked. commands.DeleteRange c.in-DeleteRange.symbol c.in-DeleteRange.range asked o.prune) c.in-DeleteRange.at c.in-DeleteRange.prune c.options-options-in-DeleteRange.result c.in-DeleteRange.is c.options-options-in-DeleteRange.ensures c.delete_range.ensures.legal
+
+pub returns-in-DeleteRange-clause-lays : goal.returns-in-DeleteRange-clause-lays
+returns-in-DeleteRange-clause-lays g c grows =
+    range_lays c.args.frames.now c.args.settings (g.B.Bucket.number c.args.bucket.now) (g.B.Bucket.limit c.args.bucket.now) (g.B.Bucket.seen c.args.bucket.now) (g.B.Bucket.seen c.delete_range.new.bucket) c.args.command.now c.delete_range.result
+    c.in-DeleteRange.symbol c.in-DeleteRange.range c.in-DeleteRange.at c.in-DeleteRange.prune c.options-options-in-DeleteRange.result c.in-DeleteRange.is c.options-options-in-DeleteRange.ensures (c.delete_range.ensures.lays grows)
