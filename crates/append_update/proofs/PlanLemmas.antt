@@ -7,8 +7,7 @@ use Rattle.frame_core.specs.declared.refusal.Extent.{Extent}
 use Rattle.frame_core.specs.declared.refusal.Extent.TheVariants as extents
 use Rattle.frame_core.specs.Ranges.{Range, IsRange}
 use Rattle.frame_core.specs.Schemas.{schemas_differ}
-use Rattle.frame_core.specs.Frames.{Frame, replace_range, first_stamp, last_stamp}
-use Rattle.reply_model.specs.Answering.{append_before}
+use Rattle.frame_core.specs.Frames.{Frame, replace_range}
 use Rattle.frame_core.specs.Limits.{IsStorable, too_large, frame_too_large}
 use Rattle.key_kind.specs.Names.{Name}
 use Rattle.bucket_core.specs.declared.event.Change.{Change}
@@ -30,11 +29,12 @@ use Rattle.frame_write.proofs.MeetLemmas.{none_in_both, others_refer_not}
 use Rattle.append_update.specs.declared.base.Base.{Base}
 use Rattle.append_update.specs.declared.wish.Wish.{Wish}
 use Rattle.append_update.specs.declared.wish.Wish.TheVariants as wishes
-use Rattle.append_update.specs.Asking.{answer_to, IsWish, IsPlanOf, IsAlone, why_missing, MayStandBehind, HasColumnsOf}
+use Rattle.append_update.specs.Asking.{answer_to, IsWish, IsPlanOf, IsAlone, why_missing, HasColumnsOf}
 use Rattle.append_update.specs.Newest.{IsNewest, IsBaseAt}
 use Rattle.append_update.specs.Replacing.{appended}
 use Rattle.reply_model.specs.Blocks.{run_cutting}
-use Rattle.append_update.specs.Sizes.{FitsBehind, text_total}
+use Rattle.reply_model.specs.Losses.{FitsBehind}
+use Rattle.append_update.specs.Sizes.{text_total}
 use Rattle.append_update.proofs.FrameLemmas.{longest, longest-append, within_from, within_to, frame_within, text_total-append}
 use Rattle.append_update.proofs.AppendLemmas.{MayAppend, append_plan_fits, append_answers, append_alone}
 use Rattle.append_update.proofs.UpdateAnswers.{upsert_alone, update_unreferred, update_unlinked}
@@ -167,10 +167,6 @@ base_found client old new others symbol prune tip base at none is by_others foun
 -- the frame has the base's columns
 pub columns_fit : (v : Version) (frame : Frame) → schemas_differ v.frame.schema frame.schema ≡ None → HasColumnsOf frame v
 columns_fit v frame e = rw e refl
-
--- and stands behind it
-pub stands_behind : (v : Version) (frame : Frame) → schemas_differ v.frame.schema frame.schema ≡ None → append_before (last_stamp v.frame.rows) (first_stamp frame.rows) ≡ None → MayStandBehind frame v
-stands_behind v frame e f = rw (e, f) refl
 
 -- ---- the plan of what is asked where there is no live version
 

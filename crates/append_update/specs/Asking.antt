@@ -19,9 +19,9 @@ use Rattle.bucket_core.specs.declared.event.Change.{Change}
 use Rattle.bucket_core.specs.declared.event.Change.TheVariants as changes
 use Rattle.bucket_core.specs.History.{History}
 use Rattle.store_model.specs.Library.{State, Version, state_of, next_number}
-use Rattle.reply_model.specs.Answering.{Answer, committed, pruned, may_append, fits_schema}
+use Rattle.reply_model.specs.Answering.{Answer, committed, pruned, fits_schema}
 use Rattle.reply_model.specs.CommitAnswers.{append_answer, update_answer, clear_answer, outside}
-use Rattle.reply_model.specs.Losses.{LosesBase}
+use Rattle.reply_model.specs.Losses.{FitsBehind, LosesBase}
 use Rattle.reply_model.specs.Standing.{parts_laid}
 use Rattle.version_chain.specs.declared.tip.ChainTip.{ChainTip}
 use Rattle.frame_write.specs.declared.options.Options.{Options}
@@ -49,9 +49,9 @@ IsWish (wishes.Append frame) = IsStorable frame.now
 IsWish (wishes.Replace frame range upsert) = IsStorable frame.now × IsRange range × (outside 1 range frame.now.rows ≡ None)
 IsWish (wishes.Clear range) = IsRange range
 
--- the frame has the base's columns, and does not begin before the base ends
+-- the frame may be appended to the base, as far as its index tells
 abbrev pub MayStandBehind : Frame → Version → Type 0
-MayStandBehind frame v = may_append (Some v) frame ≡ Ok frame
+MayStandBehind frame v = FitsBehind v.frame frame
 
 -- the frame has the base's columns
 abbrev pub HasColumnsOf : Frame → Version → Type 0

@@ -9,7 +9,7 @@ ghost use Rattle.reply_model.specs.Answering.{append_before};
 ghost use Rattle.reply_model.specs.CommitAnswers.{append_answer};
 ghost use Rattle.index_tree.specs.declared.index.Slot.{Slot as Place};
 ghost use Rattle.append_update.specs.Bases.{IsIndexOf};
-ghost use Rattle.append_update.specs.Sizes.{FitsBehind};
+ghost use Rattle.reply_model.specs.Losses.{FitsBehind};
 
 use frame_core::{ColName, ColType, Extent, Frame, Refusal, Schema};
 use index_tree::PackedIndex;

@@ -18,7 +18,7 @@ use Rattle.reply_model.specs.declared.outcome.Outcome.TheVariants as outcomes
 use Rattle.reply_model.specs.declared.reply.Reply.{Reply}
 use Rattle.reply_model.specs.Answering.{Session, refused}
 use Rattle.reply_model.specs.Answers.{answer}
-use Rattle.reply_model.specs.Windows.{Window, Client, library_at, is_cut, is_store_fault, symbol_of}
+use Rattle.reply_model.specs.Windows.{Window, Client, library_at, is_cut, is_answered, is_store_fault, symbol_of}
 use Rattle.reply_model.specs.Kinds.{kind_of, kind_symbol, kind_makes, Makes, Cause, cause_of, Told, cuts, faults, tells}
 use Rattle.reply_model.specs.Tries.{IsTurn}
 use Rattle.reply_model.specs.OwnEvents.{IsOwnOf, is_last_of, AnyMarks, IsOwn, IsMeantAt, AreMeant, is_end, is_last}
@@ -58,7 +58,7 @@ pub record IsAskedBy (s : Session) (c : Command) (symbol : Name) (Asked : Made �
 
 -- ---- the clauses of such a command
 
-pub own_turn : (c : Command) (symbol : Name) → MakesVersion c symbol → (h : History) (s : Session) (w : Window) (reply : Reply) (done : Bool) (es : List Event) → IsTurn h s w symbol true done AnyMarks es → IsOwn h s w c reply done es
+pub own_turn : (c : Command) (symbol : Name) → MakesVersion c symbol → (h : History) (s : Session) (w : Window) (reply : Reply) (done : Bool) (es : List Event) → IsTurn h s w symbol true done (is_answered reply.outcome) AnyMarks es → IsOwn h s w c reply done es
 own_turn c symbol k h s w reply done es t = subst (λ x. IsOwnOf h s w x reply done es) (sym (kind_is c symbol k)) t
 
 pub none_listed : (c : Command) (symbol : Name) → MakesVersion c symbol → (reply : Reply) (es : List Event) → reply.listed ≡ None → IsListed c reply es

@@ -19,7 +19,7 @@ use Rattle.reply_model.specs.declared.outcome.Outcome.TheVariants as outcomes
 use Rattle.reply_model.specs.declared.reply.Reply.{Reply}
 use Rattle.reply_model.specs.Answering.{Session}
 use Rattle.reply_model.specs.Answers.{answer}
-use Rattle.reply_model.specs.Windows.{Window, Client, library_at, own_events, refer_places, refers_by_others, is_cut, is_store_fault, AreCommits, IsReferAt}
+use Rattle.reply_model.specs.Windows.{Window, Client, library_at, own_events, refer_places, refers_by_others, is_cut, is_answered, is_store_fault, AreCommits, IsReferAt}
 use Rattle.reply_model.specs.Tries.{put_of, one_if, IsTry, IsRefused, IsTurn}
 use Rattle.reply_model.specs.OwnEvents.{AnyMarks, IsBeginning, IsOwn, AreMeant, is_last, is_done}
 use Rattle.reply_model.specs.Moves.{AreMetTries}
@@ -28,7 +28,7 @@ use Rattle.reply_model.specs.Causes.{MakesAt}
 use Rattle.reply_model.specs.Rows.{IsAnswer}
 use Rattle.reply_model.specs.Legal.{IsLegalRefusal, IsLegalSeen}
 use Rattle.reply_model.proofs.Places.{history_at_end}
-use Rattle.reply_model.proofs.Moves.{own_nowhere, tries_later}
+use Rattle.reply_model.proofs.Moves.{one_fewer, own_nowhere, tries_later}
 use Rattle.reply_model.proofs.Later.{history_at_later}
 use Rattle.reply_model.proofs.Covering.{event_at_end}
 use Rattle.version_chain.specs.Traces.{own_of, met_in}
@@ -63,7 +63,7 @@ module _ (s : Session) (limit : ℕ) (asks : Command) (symbol : Name) (Asked : M
 
   -- a reply to a call that was cut off
   pub cut_legal : (place : ℕ) (why : Refusal) (more own : List Event) → new ≡ more ++ old → own_of s.client more ≡ own
-      → IsBeginning (IsTurn new s window symbol true true AnyMarks) own ⊎ IsBeginning (IsTurn new s window symbol true false AnyMarks) own
+      → IsBeginning (IsTurn new s window symbol true true (is_answered (outcomes.Refused why)) AnyMarks) own ⊎ IsBeginning (IsTurn new s window symbol true false (is_answered (outcomes.Refused why)) AnyMarks) own
       → StopsAt s.client old new (record { place = place; why = why })
       → is_cut (outcomes.Refused why) ≡ true → is_store_fault (outcomes.Refused why) ≡ is_fault why
       → AreCommits (is_store_fault (outcomes.Refused why)) [] (refer_places s.client (length old) new)
@@ -145,7 +145,7 @@ module _ (s : Session) (limit : ℕ) (asks : Command) (symbol : Name) (Asked : M
         listed_within = tt;
         own = record {
           events = own_turn asks symbol k.makes new s window reply true (own_events new s.client window)
-              (subst (IsTurn new s window symbol true true AnyMarks) (sym seen_own) (done_turn new s window symbol tries refused met_all few m.puts was entry m.list is_try));
+              (subst (IsTurn new s window symbol true true true AnyMarks) (sym seen_own) (done_turn new s window symbol tries refused met_all few m.puts was entry m.list is_try));
           commits = sym (ap (refer_places s.client (length old)) (history_at_end new) ∙ places);
           short = λ c f. absurd (true≢false (sym c));
           meant = are_meant asks symbol k.makes new s reply (refer_places s.client (length old) (history_at new (length new))) tt;
@@ -170,7 +170,7 @@ module _ (s : Session) (limit : ℕ) (asks : Command) (symbol : Name) (Asked : M
         listed_within = tt;
         own = record {
           events = own_turn asks symbol k.makes new s window reply false (own_events new s.client window)
-              (subst (IsTurn new s window symbol true false AnyMarks) (sym seen_own) (open_turn new s window symbol tries refused (omega (arith, all, enough)) all));
+              (subst (IsTurn new s window symbol true false false AnyMarks) (sym seen_own) (open_turn new s window symbol tries refused (omega (arith, all, enough)) (omega (arith, all))));
           commits = sym (ap (refer_places s.client (length old)) (history_at_end new) ∙ none);
           short = λ c f. absurd (true≢false (sym c));
           meant = are_meant asks symbol k.makes new s reply (refer_places s.client (length old) (history_at new (length new))) tt;
@@ -216,7 +216,7 @@ module _ (s : Session) (limit : ℕ) (asks : Command) (symbol : Name) (Asked : M
         own = record {
           events = on_false (IsBeginning (IsOwn new s window asks reply true) (own_events new s.client window) ⊎ IsBeginning (IsOwn new s window asks reply false) (own_events new s.client window)) (is_cut (outcomes.Refused why)) whole
               (own_turn asks symbol k.makes new s window reply false (own_events new s.client window)
-              (subst (IsTurn new s window symbol true false AnyMarks) (sym seen_own) (open_turn new s window symbol tries refused met_all (omega (arith, few)))));
+              (subst (IsTurn new s window symbol true false (is_answered (outcomes.Refused why)) AnyMarks) (sym seen_own) (open_turn new s window symbol tries refused met_all (one_fewer (is_answered (outcomes.Refused why)) (length tries) s.tries few))));
           commits = no_place (is_store_fault (outcomes.Refused why)) (answer_no_fault why plain.0) (refer_places s.client (length old) (history_at new (length new))) (ap (refer_places s.client (length old)) (history_at_end new) ∙ none);
           short = λ c f. absurd (true≢false (sym c ∙ whole));
           meant = are_meant asks symbol k.makes new s reply (refer_places s.client (length old) (history_at new (length new)))

@@ -164,7 +164,7 @@ module _ (s : Session) (limit : ℕ) (asks : Command) (sole : Bool) (symbol : Na
         cut_legal s limit asks symbol Asked Refuses Wants Loses k old new faulted place refusals.StoreFault whole_went.more (all_tries ++ last_try) whole_went.is whole_went.own_are
         (inl (record {
           more = [];
-          whole = subst (IsTurn new s (record { start = length old; stop = length new; faulted = faulted }) symbol true true AnyMarks) (sym (append_none (all_tries ++ last_try)))
+          whole = subst (IsTurn new s (record { start = length old; stop = length new; faulted = faulted }) symbol true true false AnyMarks) (sym (append_none (all_tries ++ last_try)))
               (done_turn new s (record { start = length old; stop = length new; faulted = faulted }) symbol r.tries r.refused (omega (arith, counted, here)) (omega (arith, r.counted, few)) c.made.puts c.was c.entry c.made.list c.is_try);
         }))
         (record { after = stops.after; before = stops.before; split = stops.split; place = stops.place; later = omega (arith, early, stops.later); few = stops.few }) refl refl
@@ -208,8 +208,8 @@ module _ (s : Session) (limit : ℕ) (asks : Command) (sole : Bool) (symbol : Na
     stop_places = places_none s.client sole old new (flat_map (λ t. t) r.tries ++ d.own) stop_went
         (none_both (flat_map (λ t. t) r.tries) d.own (tries_no_refer s.client symbol r.tries r.refused) (part_no_refer s.client symbol (length mid) new d.own d.part))
 
-    stop_turn : IsBeginning (IsTurn new s (record { start = length old; stop = length new; faulted = faulted }) symbol true true AnyMarks) (flat_map (λ t. t) r.tries ++ d.own)
-        ⊎ IsBeginning (IsTurn new s (record { start = length old; stop = length new; faulted = faulted }) symbol true false AnyMarks) (flat_map (λ t. t) r.tries ++ d.own)
+    stop_turn : IsBeginning (IsTurn new s (record { start = length old; stop = length new; faulted = faulted }) symbol true true false AnyMarks) (flat_map (λ t. t) r.tries ++ d.own)
+        ⊎ IsBeginning (IsTurn new s (record { start = length old; stop = length new; faulted = faulted }) symbol true false false AnyMarks) (flat_map (λ t. t) r.tries ++ d.own)
     stop_turn =
         let sum = met_sum s.client sole symbol old mid new (flat_map (λ t. t) r.tries) d.own (flat_map (λ t. t) r.tries ++ d.own) r.went d.went stop_went in
         let here = met_in_window s.client symbol old new stop_went.more faulted stop_went.is in

@@ -1,5 +1,5 @@
 -- The own events of all tries are those of a turn, or the beginning of one.
-use Rattle.std.proofs.Common.{◌≡◌, ◌⊎◌, ℕ, ◌+◌, ◌≤◌, ◌<◌, true, false, List, [], ◌∷◌, ◌++◌, length, take, drop, refl, ap, sym, ◌∙◌, subst, inl, inr, None, Option, arith, length-append}
+use Rattle.std.proofs.Common.{◌≡◌, ◌⊎◌, ℕ, ◌+◌, ◌-◌, ◌≤◌, ◌<◌, Bool, true, false, List, [], ◌∷◌, ◌++◌, length, take, drop, refl, ap, sym, ◌∙◌, subst, inl, inr, None, Option, arith, length-append}
 use Rattle.std.specs.Prelude.{map}
 use Rattle.std.specs.List.{flat_map, AllByRecursion}
 use Rattle.std.proofs.lemmas.List.{take-append-drop}
@@ -11,7 +11,7 @@ use Rattle.bucket_core.specs.declared.event.Change.{Change}
 use Rattle.bucket_core.specs.History.{History, Bytes}
 use Rattle.reply_model.specs.Answering.{Session}
 use Rattle.reply_model.specs.Windows.{Window, refers_by_others}
-use Rattle.reply_model.specs.Tries.{put_of, drop_of, IsTry, IsRefused, IsTurn}
+use Rattle.reply_model.specs.Tries.{put_of, drop_of, one_if, IsTry, IsRefused, IsTurn}
 use Rattle.reply_model.specs.OwnEvents.{AnyMarks, IsBeginning}
 use Rattle.frame_write.specs.Tries.{IsMet, IsPart, no_event, some_puts, some_drops}
 use Rattle.frame_write.proofs.ListLemmas.{all_last, map_append}
@@ -27,8 +27,8 @@ split_at_count n xs = take-append-drop n xs
 
 module _ (h : History) (s : Session) (w : Window) (symbol : Name) (tries : List (List Event)) (refused : AllByRecursion (IsRefused s.client symbol true) tries) where
   -- refused tries and a commit
-  pub done_turn : length tries ≤ refers_by_others h s.client symbol w → length tries < s.tries → (puts : List (Key × Bytes)) (was : Option Key) (entry : Key) (list : List Change) → IsTry symbol true puts entry
-      → IsTurn h s w symbol true true AnyMarks (flat_map (λ t. t) tries ++ (map (put_of s.client) puts ++ events.Refer s.client symbol was entry list ∷ []))
+  pub done_turn : {told : Bool} → length tries ≤ refers_by_others h s.client symbol w → length tries < s.tries → (puts : List (Key × Bytes)) (was : Option Key) (entry : Key) (list : List Change) → IsTry symbol true puts entry
+      → IsTurn h s w symbol true true told AnyMarks (flat_map (λ t. t) tries ++ (map (put_of s.client) puts ++ events.Refer s.client symbol was entry list ∷ []))
   done_turn met few puts was entry list is_try = record {
     tries = tries;
     last = map (put_of s.client) puts ++ events.Refer s.client symbol was entry list ∷ [];
@@ -40,20 +40,20 @@ module _ (h : History) (s : Session) (w : Window) (symbol : Name) (tries : List 
   }
 
   -- refused tries alone
-  pub open_turn : length tries ≤ refers_by_others h s.client symbol w → length tries ≤ s.tries → IsTurn h s w symbol true false AnyMarks (flat_map (λ t. t) tries)
+  pub open_turn : {told : Bool} → length tries ≤ refers_by_others h s.client symbol w → length tries ≤ s.tries - one_if told → IsTurn h s w symbol true false told AnyMarks (flat_map (λ t. t) tries)
   open_turn met few = record { tries = tries; last = []; is = sym (append_none (flat_map (λ t. t) tries)); refused = refused; met = met; few = omega (arith, few); ends = refl }
 
   -- refused tries and a part of one more
   pub cut_turn : (own : List Event) (from : ℕ) (new : History) → length tries < s.tries → length tries ≤ refers_by_others h s.client symbol w → ((at : ℕ) → IsMet s.client symbol from new at → length tries + 1 ≤ refers_by_others h s.client symbol w)
       → IsPart s.client symbol from new own
-      → IsBeginning (IsTurn h s w symbol true true AnyMarks) (flat_map (λ t. t) tries ++ own) ⊎ IsBeginning (IsTurn h s w symbol true false AnyMarks) (flat_map (λ t. t) tries ++ own)
+      → IsBeginning (IsTurn h s w symbol true true false AnyMarks) (flat_map (λ t. t) tries ++ own) ⊎ IsBeginning (IsTurn h s w symbol true false false AnyMarks) (flat_map (λ t. t) tries ++ own)
   cut_turn _ from new few met more no_event = inr (record {
     more = [];
-    whole = subst (IsTurn h s w symbol true false AnyMarks) (sym (append_none (flat_map (λ t. t) tries ++ []) ∙ append_none (flat_map (λ t. t) tries))) (open_turn met (omega (arith, few)));
+    whole = subst (IsTurn h s w symbol true false false AnyMarks) (sym (append_none (flat_map (λ t. t) tries ++ []) ∙ append_none (flat_map (λ t. t) tries))) (open_turn met (omega (arith, few)));
   })
   cut_turn _ from new few met more (some_puts n puts entry is_try) = inl (record {
     more = map (put_of s.client) (drop n puts) ++ events.Refer s.client symbol None entry [] ∷ [];
-    whole = subst (IsTurn h s w symbol true true AnyMarks)
+    whole = subst (IsTurn h s w symbol true true false AnyMarks)
         (sym (append_assoc (flat_map (λ t. t) tries) (map (put_of s.client) (take n puts)) (map (put_of s.client) (drop n puts) ++ events.Refer s.client symbol None entry [] ∷ [])
         ∙ ap (λ l. flat_map (λ t. t) tries ++ l) (sym (append_assoc (map (put_of s.client) (take n puts)) (map (put_of s.client) (drop n puts)) (events.Refer s.client symbol None entry [] ∷ []))
         ∙ ap (λ l. l ++ events.Refer s.client symbol None entry [] ∷ []) (sym (map_append (put_of s.client) (take n puts) (drop n puts)) ∙ ap (map (put_of s.client)) (split_at_count n puts)))))

@@ -57,7 +57,7 @@ pub record HasNone (c : Command) : Type 0 where
   pub left : (reply : Reply) (known : List Event) (before : Option SnapBody) → left_of (kind_of c) reply known before ≡ []
 
 -- no try was made
-no_turn : (h : History) (s : Session) (w : Window) (symbol : _) (makes : Bool) → IsTurn h s w symbol makes false AnyMarks []
+no_turn : {told : Bool} (h : History) (s : Session) (w : Window) (symbol : _) (makes : Bool) → IsTurn h s w symbol makes false told AnyMarks []
 no_turn h s w symbol makes = record { tries = []; last = []; is = refl; refused = tt; met = omega arith; few = omega arith; ends = refl }
 
 never_meant : (h : History) (s : Session) (c : Command) (reply : Reply) (b : Bool) → MatchBool b (AllByRecursion (IsMeantAt h s c reply) []) ⊤

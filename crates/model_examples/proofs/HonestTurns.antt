@@ -365,7 +365,7 @@ moved_snapshot_is_legal = record {
         from = lit≤ tt;
         to = lit≤ tt;
         free = refl;
-        held = (λ e. record { place = 7; after = lit< tt; before = lit≤ tt; version = 0; event = (Some (w.key kinds.Version 2), w.key kinds.Version 3, refl) }, (λ e. absurd cc, tt));
+        held = (λ e. (0, 7, record { after = lit< tt; before = lit≤ tt; event = (Some (w.key kinds.Version 2), w.key kinds.Version 3, refl); asked = refl }), (λ e. absurd cc, tt));
         never = refl;
       };
       tries = (

@@ -1,7 +1,7 @@
 -- Honest replies are legal: a write and its read; a write whose refer failed after its effect; and an append that met another's, with one try and with two.
 use Rattle.segment_bytes.specs.Heads.{head_at, length_at, name_at, text_at, type_at}
 use Rattle.byte_fields.specs.Reading.{signed_text}
-use Rattle.std.proofs.Common.{ℕ, ◌≤◌, pos, true, false, List, [], ◌∷◌, Some, None, refl, inl, inr, lit≤, lit<}
+use Rattle.std.proofs.Common.{ℕ, ◌≤◌, pos, true, false, List, [], ◌∷◌, Some, None, refl, inl, inr, arith, lit≤, lit<}
 use Rattle.std.specs.Str.{is_utf8, chars}
 use lib.Utf8.{encode}
 use Rattle.frame_core.specs.Ranges.{Range}
@@ -86,7 +86,7 @@ write_is_legal tries some = record {
   listed = refl;
   listed_within = tt;
   own = record {
-    events = record { tries = []; last = _; is = refl; refused = tt; met = lit≤ tt; few = some; ends = (puts, None, w.key kinds.Version 2, _, is_try, tt, refl) };
+    events = record { tries = []; last = _; is = refl; refused = tt; met = lit≤ tt; few = omega (arith, some); ends = (puts, None, w.key kinds.Version 2, _, is_try, tt, refl) };
     commits = refl;
     short = λ e f. absurd cc;
     meant = tt;

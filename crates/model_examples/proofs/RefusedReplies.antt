@@ -6,6 +6,7 @@ use Rattle.std.specs.List.{list_any, flat_map, AllByRecursion}
 use Rattle.std.proofs.lemmas.Bool.{true≢false}
 use Rattle.frame_core.specs.Ranges.{Range, IsRange}
 use Rattle.frame_core.specs.Schemas.{IsColName}
+use Rattle.frame_core.specs.declared.refusal.Asked.TheVariants as asks
 use Rattle.frame_core.specs.declared.refusal.Refusal.TheVariants as refusals
 use Rattle.bucket_core.specs.declared.event.Event.{Event}
 use Rattle.bucket_core.specs.declared.event.Event.TheVariants as events
@@ -98,7 +99,7 @@ tries_refer_nothing c s makes (t ∷ ts) a = none_of_both is_refer t (flat_map (
     (tries_refer_nothing c s makes ts a.1)
 
 -- a turn that is not done has no Refer
-pub undone_turns_refer_nothing : (h : History) (s : Session) (w : Window) (symbol : Name) (makes : Bool) (es : List Event) → IsTurn h s w symbol makes false AnyMarks es → list_any is_refer es ≡ false
+pub undone_turns_refer_nothing : {told : Bool} (h : History) (s : Session) (w : Window) (symbol : Name) (makes : Bool) (es : List Event) → IsTurn h s w symbol makes false told AnyMarks es → list_any is_refer es ≡ false
 undone_turns_refer_nothing h s w symbol makes es t = ap (list_any is_refer) t.is ∙ none_of_both is_refer (flat_map (λ u. u) t.tries) t.last
     (tries_refer_nothing s.client symbol makes t.tries t.refused) (ap (list_any is_refer) t.ends)
 
@@ -167,12 +168,23 @@ no_drops_after_a_fault l = elim l.1.own.events [
     own : List Event
     own = own_events dropped 1 (record { start = 0; stop = 6; faulted = true })
 
+-- one try, and it met another's commit: a client that may make one has none left to walk again
+abbrev one_refused : History
+one_refused = events.Drop 1 (key kinds.Version 1 0) ∷ commit 2 0 (changes.Wrote (frame ((1, 1) ∷ [])) (pos 7) ∷ []) ∷ events.Put 1 (key kinds.Version 1 0) [] ∷ []
+
+-- so it can't tell that the version is none of the symbol
+pub no_answer_behind_the_last_try : IsLegalReply one_refused client (commands.Delete S (Some (5 ∷ []))) (reply 3 [] (outcomes.Refused (refusals.NoSuchVersion (asks.Number 5)))) (window 0 3) → ⊥
+no_answer_behind_the_last_try l =
+    let t = l.1.own.events in
+    let none : length t.tries ≤ 0 = omega (arith, t.few) in
+    true≢false (turn_drops_nothing t.tries t.last (own_events one_refused 1 (window 0 3)) S false false none t.is t.ends)
+
 -- a refused try of a staged piece
 pub no_try_of_a_piece : IsRefused 1 S true (events.Put 1 (key kinds.Staged 1 0) [] ∷ events.Drop 1 (key kinds.Staged 1 0) ∷ []) → ⊥
 no_try_of_a_piece t = true≢false (tries_harm_nothing 1 S true ((events.Put 1 (key kinds.Staged 1 0) [] ∷ events.Drop 1 (key kinds.Staged 1 0) ∷ []) ∷ []) (t, tt))
 
 -- a turn has at most one Refer: a command of one symbol commits at most once
-pub a_turn_commits_once : (h : History) (s : Session) (w : Window) (symbol : Name) (makes done : Bool) (es : List Event) → IsTurn h s w symbol makes done AnyMarks es → count_by is_refer es ≤ 1
+pub a_turn_commits_once : {told : Bool} (h : History) (s : Session) (w : Window) (symbol : Name) (makes done : Bool) (es : List Event) → IsTurn h s w symbol makes done told AnyMarks es → count_by is_refer es ≤ 1
 a_turn_commits_once h s w symbol makes done es t = subst (λ n. n ≤ 1) (sym (ap (count_by is_refer) t.is ∙ none_counted (flat_map (λ u. u) t.tries) t.last (tries_refer_nothing s.client symbol makes t.tries t.refused))) (last_once done t.last t.ends)
   where
     none_counted : (xs ys : List Event) → list_any is_refer xs ≡ false → count_by is_refer (xs ++ ys) ≡ count_by is_refer ys

@@ -39,8 +39,8 @@ use Rattle.reply_model.specs.Kinds.{kind_of, kind_symbol, burial_command, Burial
 use Rattle.reply_model.specs.Losses.{FindsGone}
 use Rattle.reply_model.specs.Causes.{MarksAt, IsBeside, IsMoved, IsSpent, HasToMake, makes_version, MakesAt}
 use Rattle.reply_model.specs.Moves.{AreMetTries}
-use Rattle.reply_model.proofs.Moves.{own_nowhere, tries_later}
-use Rattle.reply_model.specs.Windows.{Window, Client, library_at, own_events, symbol_of, refer_places, refers_by_others, is_cut, is_store_fault, AreCommits}
+use Rattle.reply_model.proofs.Moves.{one_fewer, own_nowhere, tries_later}
+use Rattle.reply_model.specs.Windows.{Window, Client, library_at, own_events, symbol_of, refer_places, refers_by_others, is_cut, is_answered, is_store_fault, AreCommits}
 use Rattle.reply_model.specs.Tries.{put_of, drop_of, one_if, IsTry, IsRefused, IsTurn}
 use Rattle.reply_model.specs.OwnEvents.{AnyMarks, IsBeginning, IsMeantAt, is_end, is_done}
 use Rattle.reply_model.specs.Legal.{IsLegalOutcome, IsLegalSeen}
@@ -260,7 +260,7 @@ module _ (s : Session) (limit : ℕ) (sole : Bool) (symbol : Name) (burial : Bur
           let here = met_in_window s.client symbol old new w.more faulted w.is in
           omega (arith, r.counted, r.met, sum, here)
 
-      turn : IsTurn new s window symbol false true AnyMarks (flat_map (λ t. t) r.tries ++ last)
+      turn : {told : Bool} → IsTurn new s window symbol false true told AnyMarks (flat_map (λ t. t) r.tries ++ last)
       turn = done_turn new s window symbol r.tries r.refused met_all (omega (arith, r.counted, few)) ((d.entry, d.body) ∷ []) d.was d.entry (changes.Removed d.numbers ∷ []) d.is_try
 
       front : Went s.client sole old d.before (flat_map (λ t. t) r.tries ++ events.Put s.client d.entry d.body ∷ [])
@@ -286,8 +286,8 @@ module _ (s : Session) (limit : ℕ) (sole : Bool) (symbol : Name) (burial : Bur
         listed = refl;
         left = refl;
         events = on_false _ (is_cut (buried_outcome burial (length d.numbers))) (not_cut burial (length d.numbers))
-            (subst (λ b. IsTurn new s window symbol false b AnyMarks (own_events new s.client window)) (sym (is_done_with burial (length d.numbers) (length new) (length new ∷ [])))
-            (subst (IsTurn new s window symbol false true AnyMarks) (sym seen_own) turn));
+            (subst (λ b. IsTurn new s window symbol false b (is_answered (buried_outcome burial (length d.numbers))) AnyMarks (own_events new s.client window)) (sym (is_done_with burial (length d.numbers) (length new) (length new ∷ [])))
+            (subst (IsTurn new s window symbol false true (is_answered (buried_outcome burial (length d.numbers))) AnyMarks) (sym seen_own) turn));
         commits = subst (λ b. AreCommits b (length new ∷ []) (refer_places s.client (length old) (history_at new (length new)))) (sym (no_fault burial (length d.numbers))) (sym places_at);
         short = λ c f. absurd (true≢false (sym c ∙ not_cut burial (length d.numbers)));
         meant = on_false _ (is_store_fault (buried_outcome burial (length d.numbers))) (no_fault burial (length d.numbers)) tt;
@@ -312,7 +312,7 @@ module _ (s : Session) (limit : ℕ) (sole : Bool) (symbol : Name) (burial : Bur
             before = omega (arith, stops.place, size);
             listed = refl;
             left = refl;
-            events = inl (record { more = []; whole = subst (IsTurn new s window symbol false true AnyMarks) (sym (append_none (own_events new s.client window) ∙ seen_own)) turn });
+            events = inl (record { more = []; whole = subst (IsTurn new s window symbol false true false AnyMarks) (sym (append_none (own_events new s.client window) ∙ seen_own)) turn });
             commits = inr (length new, places_at);
             short = λ c f. absurd (true≢false f);
             meant = subst (AllByRecursion (IsMeantAt new s (burial_command symbol burial) (plain place [] (outcomes.Refused refusals.StoreFault)))) (sym places_at) (
@@ -343,12 +343,12 @@ module _ (s : Session) (limit : ℕ) (sole : Bool) (symbol : Name) (burial : Bur
       own_quiet : own_events new s.client window ≡ flat_map (λ t. t) r.tries
       own_quiet = own_in_window s.client old new w_quiet.more faulted w_quiet.is ∙ w_quiet.own_are
 
-      open_quiet : IsTurn new s window symbol false false AnyMarks (own_events new s.client window)
-      open_quiet =
+      open_quiet : (told : Bool) → IsTurn new s window symbol false false told AnyMarks (own_events new s.client window)
+      open_quiet told =
           let sum = met_sum s.client sole symbol old mid new (flat_map (λ t. t) r.tries) [] (flat_map (λ t. t) r.tries) r.went went w_quiet in
           let here = met_in_window s.client symbol old new w_quiet.more faulted w_quiet.is in
-          subst (IsTurn new s window symbol false false AnyMarks) (sym own_quiet)
-          (open_turn new s window symbol r.tries r.refused (omega (arith, r.counted, r.met, sum, here)) (omega (arith, r.counted, few)))
+          subst (IsTurn new s window symbol false false told AnyMarks) (sym own_quiet)
+          (open_turn new s window symbol r.tries r.refused (omega (arith, r.counted, r.met, sum, here)) (one_fewer told (length r.tries) s.tries (omega (arith, r.counted, few))))
 
       places_quiet : refer_places s.client (length old) (history_at new (length new)) ≡ []
       places_quiet = ap (refer_places s.client (length old)) (history_at_end new) ∙ places_none s.client sole old new (flat_map (λ t. t) r.tries) w_quiet (tries_no_refer s.client symbol r.tries r.refused)
@@ -361,7 +361,7 @@ module _ (s : Session) (limit : ℕ) (sole : Bool) (symbol : Name) (burial : Bur
         before = within.to;
         listed = refl;
         left = refl;
-        events = on_false _ (is_cut outcome) cut (subst (λ b. IsTurn new s window symbol false b AnyMarks (own_events new s.client window)) (sym undone) open_quiet);
+        events = on_false _ (is_cut outcome) cut (subst (λ b. IsTurn new s window symbol false b (is_answered outcome) AnyMarks (own_events new s.client window)) (sym undone) (open_quiet (is_answered outcome)));
         commits = subst (λ b. AreCommits b [] (refer_places s.client (length old) (history_at new (length new)))) (sym fault) (sym places_quiet);
         short = λ c f. absurd (true≢false (sym c ∙ cut));
         meant = on_false _ (is_store_fault outcome) fault tt;
@@ -397,11 +397,11 @@ module _ (s : Session) (limit : ℕ) (sole : Bool) (symbol : Name) (burial : Bur
       own_cut : own_events new s.client window ≡ flat_map (λ t. t) r.tries ++ d.own
       own_cut = own_in_window s.client old new w_cut.more faulted w_cut.is ∙ w_cut.own_are
 
-      begun : IsBeginning (IsTurn new s window symbol false true AnyMarks) (own_events new s.client window) ⊎ IsBeginning (IsTurn new s window symbol false false AnyMarks) (own_events new s.client window)
+      begun : IsBeginning (IsTurn new s window symbol false true false AnyMarks) (own_events new s.client window) ⊎ IsBeginning (IsTurn new s window symbol false false false AnyMarks) (own_events new s.client window)
       begun =
           let sum = met_sum s.client sole symbol old mid new (flat_map (λ t. t) r.tries) d.own (flat_map (λ t. t) r.tries ++ d.own) r.went d.went w_cut in
           let here = met_in_window s.client symbol old new w_cut.more faulted w_cut.is in
-          subst (λ es. IsBeginning (IsTurn new s window symbol false true AnyMarks) es ⊎ IsBeginning (IsTurn new s window symbol false false AnyMarks) es) (sym own_cut)
+          subst (λ es. IsBeginning (IsTurn new s window symbol false true false AnyMarks) es ⊎ IsBeginning (IsTurn new s window symbol false false false AnyMarks) es) (sym own_cut)
           (cut_turn new s window symbol r.tries r.refused d.own (met_in s.client symbol d.went.more) (omega (arith, r.counted, few)) (omega (arith, r.counted, r.met, sum, here)) d.part)
 
       places_cut : refer_places s.client (length old) (history_at new (length new)) ≡ []
@@ -415,16 +415,18 @@ module _ (s : Session) (limit : ℕ) (sole : Bool) (symbol : Name) (burial : Bur
       late_cut = subst (λ p. length (own_events new s.client (record window { start = p })) ≤ one_if (is_fault why)) (sym d.stops.place)
           (subst (λ (es : List Event). length es ≤ one_if (is_fault why)) (sym (own_in_window s.client d.stops.before new d.stops.after faulted d.stops.split)) d.stops.few)
 
-      cut_facts : is_cut (outcomes.Refused why) ≡ true → is_store_fault (outcomes.Refused why) ≡ is_fault why → IsLegalOutcome new client (burial_command symbol burial) (plain place [] (outcomes.Refused why)) window (outcomes.Refused why)
+      cut_facts : is_cut (outcomes.Refused why) ≡ true → is_answered (outcomes.Refused why) ≡ false → is_store_fault (outcomes.Refused why) ≡ is_fault why → IsLegalOutcome new client (burial_command symbol burial) (plain place [] (outcomes.Refused why)) window (outcomes.Refused why)
           → AreCommits (is_store_fault (outcomes.Refused why)) [] [] → MatchBool (is_store_fault (outcomes.Refused why)) (AllByRecursion (IsMeantAt new s (burial_command symbol burial) (plain place [] (outcomes.Refused why))) []) ⊤ → legal (plain place [] (outcomes.Refused why))
-      cut_facts cut fault legal_outcome commits meant =
+      cut_facts cut unanswered fault legal_outcome commits meant =
           let size : length new ≡ length d.stops.after + length d.stops.before = ap length d.stops.split ∙ length-append d.stops.after d.stops.before in
           seen_of new s limit (burial_command symbol burial) symbol burial (plain place [] (outcomes.Refused why)) window (kind_is symbol burial) (record {
             after = omega (arith, early, d.stops.place, d.stops.later);
             before = omega (arith, d.stops.place, size);
             listed = refl;
             left = refl;
-            events = on_true _ (is_cut (outcomes.Refused why)) cut begun;
+            events = on_true _ (is_cut (outcomes.Refused why)) cut
+                (subst (λ told. IsBeginning (IsTurn new s window symbol false true told AnyMarks) (own_events new s.client window) ⊎ IsBeginning (IsTurn new s window symbol false false told AnyMarks) (own_events new s.client window))
+                (sym unanswered) begun);
             commits = subst (AreCommits (is_store_fault (outcomes.Refused why)) []) (sym places_cut) commits;
             short = λ c f. no_end;
             meant = subst (λ ps. MatchBool (is_store_fault (outcomes.Refused why)) (AllByRecursion (IsMeantAt new s (burial_command symbol burial) (plain place [] (outcomes.Refused why))) ps) ⊤) (sym places_cut) meant;
@@ -459,11 +461,11 @@ module _ (s : Session) (limit : ℕ) (sole : Bool) (symbol : Name) (burial : Bur
           by Older x = (x.0, x.1, x.2, x.3 (library_at new (unwrap_or reply.listed x.0)))
 
       pub stop_is_legal : (why : Refusal) → DidStop s.client sole symbol burial limit before now mid new (record { place = place; why = why }) → legal (plain place [] (outcomes.Refused why))
-      stop_is_legal refusals.NoMemory d = cut_facts before now rises place refusals.NoMemory d refl refl (memory_outcome burial) refl tt
-      stop_is_legal refusals.StoreFault d = cut_facts before now rises place refusals.StoreFault d refl refl (failed_outcome burial (rises d.cause)) (inl refl) tt
+      stop_is_legal refusals.NoMemory d = cut_facts before now rises place refusals.NoMemory d refl refl refl (memory_outcome burial) refl tt
+      stop_is_legal refusals.StoreFault d = cut_facts before now rises place refusals.StoreFault d refl refl refl (failed_outcome burial (rises d.cause)) (inl refl) tt
       stop_is_legal (refusals.Spent full) d =
           let busy = d.busy full refl in
-          cut_facts before now rises place (refusals.Spent full) d refl refl (spent_outcome burial full (record {
+          cut_facts before now rises place (refusals.Spent full) d refl refl refl (spent_outcome burial full (record {
             here = d.cause.1;
             full = d.cause.0.1;
             busy = inr (to_make burial (plain place [] (outcomes.Refused (refusals.Spent full))) refl busy.place (omega (arith, early, busy.within.from)) busy.before busy.numbers busy.filled busy.answered);
@@ -484,7 +486,7 @@ module _ (s : Session) (limit : ℕ) (sole : Bool) (symbol : Name) (burial : Bur
         before = m.within;
         listed = refl;
         left = refl;
-        events = subst (IsTurn new s window symbol false false AnyMarks) (sym seen_own) (open_turn new s window symbol r.tries r.refused met_all (omega (arith, r.counted)));
+        events = subst (IsTurn new s window symbol false false false AnyMarks) (sym seen_own) (open_turn new s window symbol r.tries r.refused met_all (omega (arith, r.counted)));
         commits = sym (ap (refer_places s.client (length old)) (history_at_end new) ∙ places_none s.client sole old new (flat_map (λ t. t) r.tries) r.went (tries_no_refer s.client symbol r.tries r.refused));
         short = λ c f. absurd (true≢false (sym c));
         meant = tt;

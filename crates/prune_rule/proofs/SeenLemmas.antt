@@ -9,7 +9,7 @@ use Rattle.expr_clause.specs.declared.command.Command.{Command}
 use Rattle.reply_model.specs.declared.reply.Reply.{Reply}
 use Rattle.reply_model.specs.Kinds.{kind_of, burial_command, Burial, Listed, Older, Buries}
 use Rattle.reply_model.specs.Answering.{Session}
-use Rattle.reply_model.specs.Windows.{Window, own_events, refer_places, is_cut, is_store_fault, AreCommits}
+use Rattle.reply_model.specs.Windows.{Window, own_events, refer_places, is_cut, is_answered, is_store_fault, AreCommits}
 use Rattle.reply_model.specs.Tries.{IsTurn, one_if}
 use Rattle.reply_model.specs.OwnEvents.{AnyMarks, IsOwnOf, IsBeginning, IsMeantAt, AreMeantOf, is_end, is_last_of, is_done}
 use Rattle.reply_model.specs.Left.{known_events, left_of, stood_before, MayBeLeft}
@@ -22,8 +22,8 @@ pub record SeenFacts (new : History) (s : Session) (limit : ℕ) (c : Command) (
   pub listed : reply.listed ≡ None
   pub left : reply.left ≡ []
   pub events : MatchBool (is_cut reply.outcome)
-      (IsBeginning (IsTurn new s w symbol false true AnyMarks) (own_events new s.client w) ⊎ IsBeginning (IsTurn new s w symbol false false AnyMarks) (own_events new s.client w))
-      (IsTurn new s w symbol false (is_done reply) AnyMarks (own_events new s.client w))
+      (IsBeginning (IsTurn new s w symbol false true (is_answered reply.outcome) AnyMarks) (own_events new s.client w) ⊎ IsBeginning (IsTurn new s w symbol false false (is_answered reply.outcome) AnyMarks) (own_events new s.client w))
+      (IsTurn new s w symbol false (is_done reply) (is_answered reply.outcome) AnyMarks (own_events new s.client w))
   pub commits : AreCommits (is_store_fault reply.outcome) reply.commits (refer_places s.client w.start (history_at new w.stop))
   pub short : is_cut reply.outcome ≡ true → is_store_fault reply.outcome ≡ false → list_any is_end (own_events new s.client w) ≡ false
   pub meant : MatchBool (is_store_fault reply.outcome) (AllByRecursion (IsMeantAt new s c reply) (refer_places s.client w.start (history_at new w.stop))) ⊤

@@ -33,7 +33,7 @@ use Rattle.reply_model.specs.declared.outcome.Outcome.TheVariants as outcomes
 use Rattle.reply_model.specs.declared.reply.Reply.{Reply}
 use Rattle.reply_model.specs.Answering.{Answer}
 use Rattle.reply_model.specs.Answers.{answer_of, answer, symbol_row}
-use Rattle.reply_model.specs.Windows.{Window, Client, library_at, symbol_of, is_refused, is_cut, unnames, own_events}
+use Rattle.reply_model.specs.Windows.{Window, Client, library_at, symbol_of, is_refused, is_cut, is_answered, unnames, own_events}
 use Rattle.reply_model.specs.Tries.{IsTurn}
 use Rattle.reply_model.specs.OwnEvents.{AnyMarks, IsOwnOf, is_done}
 use Rattle.reply_model.specs.Rows.{keys_of, keys_outcome, IsAnswer, IsSymbolRow, AreSymbolRows, number_of}
@@ -115,7 +115,7 @@ version_step : (c : Cutting) (client : Client) (command : Command) (symbol : Nam
     → is_told command ≡ true → symbol_of command ≡ Some symbol → reply.listed ≡ None → reply.left ≡ [] → LaysOut c client.session command reply old (more ++ old)
     → ((list l : Library) (q : ℕ) (first : Change) (rest : List Change) → answer client.session list l q command ≡ Some (record { outcome = reply.outcome; marks = first ∷ rest }) → is_version first ≡ true)
     → IsAnswer (more ++ old) client command reply
-    → IsTurn (more ++ old) client.session (added more old faulted) symbol true (is_done reply) AnyMarks (own_events (more ++ old) client.session.client (added more old faulted))
+    → IsTurn (more ++ old) client.session (added more old faulted) symbol true (is_done reply) (is_answered reply.outcome) AnyMarks (own_events (more ++ old) client.session.client (added more old faulted))
     → IsStep c client.session command reply old (more ++ old)
 version_step c client command symbol reply more old faulted heard told named unlisted unleft laid version is turn r stands =
     turn_step c client command symbol true reply more old r stands named heard.lawful (plain_of client command reply more old faulted heard told unlisted unleft) is (is_done reply)

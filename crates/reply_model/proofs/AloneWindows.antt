@@ -186,8 +186,8 @@ pub none_added : (more : List Event) → reverse more ≡ [] → more ≡ []
 none_added more none = sym (reverse-reverse more) ∙ ap (λ es. reverse es) none
 
 -- a turn is a commit, or nothing
-pub turn_commits : (more old : History) (s : Session) (symbol : Name) (makes done : Bool) (faulted : Bool) → AreBy s.client more
-    → IsTurn (more ++ old) s (added more old faulted) symbol makes done AnyMarks (own_events (more ++ old) s.client (added more old faulted))
+pub turn_commits : {told : Bool} (more old : History) (s : Session) (symbol : Name) (makes done : Bool) (faulted : Bool) → AreBy s.client more
+    → IsTurn (more ++ old) s (added more old faulted) symbol makes done told AnyMarks (own_events (more ++ old) s.client (added more old faulted))
     → MatchBool done (Commits s.client symbol makes old (more ++ old)) (more ≡ [])
 turn_commits more old s symbol makes done faulted own t =
     let alone : t.tries ≡ [] = no_tries t.tries (refers_by_others (more ++ old) s.client symbol (added more old faulted)) t.met (none_met more old s.client symbol faulted own) in

@@ -70,7 +70,7 @@ tries_harm_nothing c symbol makes (t ∷ ts) a = none_of_both t (flat_map (λ u.
     (tries_harm_nothing c symbol makes ts a.1)
 
 -- a turn that is not done
-undone_harms_nothing : (h : History) (s : Session) (w : Window) (symbol : Name) (makes : Bool) (Marks : List Change → Type 0) (es : List Event) → IsTurn h s w symbol makes false Marks es → list_any harms es ≡ false
+undone_harms_nothing : {told : Bool} (h : History) (s : Session) (w : Window) (symbol : Name) (makes : Bool) (Marks : List Change → Type 0) (es : List Event) → IsTurn h s w symbol makes false told Marks es → list_any harms es ≡ false
 undone_harms_nothing h s w symbol makes Marks es t = ap (list_any harms) t.is
     ∙ none_of_both (flat_map (λ u. u) t.tries) t.last (tries_harm_nothing s.client symbol makes t.tries t.refused) (ap (list_any harms) t.ends)
 
@@ -110,7 +110,7 @@ accepted_harms_nothing c symbol makes Mark es marking a = ap (list_any harms) a.
     (or_from (harms (events.Refer c symbol a.1 a.2 a.3)) false (mark_harms_nothing c symbol a.1 a.2 a.3 (ap is_mark a.5.2 ∙ marking a.5.0 a.5.1)) refl)
 
 turn_harms_nothing : (h : History) (s : Session) (w : Window) (symbol : Name) (done : Bool) (Mark : Change → Type 0) (es : List Event) → Marking Mark
-    → IsTurn h s w symbol false done (λ list. (x : Change) × Mark x × (list ≡ x ∷ [])) es → list_any harms es ≡ false
+    → IsTurn h s w symbol false done false (λ list. (x : Change) × Mark x × (list ≡ x ∷ [])) es → list_any harms es ≡ false
 turn_harms_nothing h s w symbol false Mark es marking t = undone_harms_nothing h s w symbol false (λ list. (x : Change) × Mark x × (list ≡ x ∷ [])) es t
 turn_harms_nothing h s w symbol true Mark es marking t = ap (list_any harms) t.is
     ∙ none_of_both (flat_map (λ u. u) t.tries) t.last (tries_harm_nothing s.client symbol false t.tries t.refused) (accepted_harms_nothing s.client symbol false Mark t.last marking t.ends)

@@ -1,5 +1,5 @@
 -- What it shows that the tries of a command were met.
-use Rattle.std.proofs.Common.{◌≡◌, ℕ, zero, suc, ◌+◌, ◌-◌, ◌≤◌, ◌<◌, Bool, List, [], ◌∷◌, ◌++◌, map, length, take, drop, ℤ, Option, Some, Result, Ok, Err, refl, sym, ◌∙◌, ap, subst, inl, inr, arith, append_assoc, length-append}
+use Rattle.std.proofs.Common.{◌≡◌, ℕ, zero, suc, ◌+◌, ◌-◌, ◌≤◌, ◌<◌, Bool, true, false, List, [], ◌∷◌, ◌++◌, map, length, take, drop, ℤ, Option, Some, Result, Ok, Err, refl, sym, ◌∙◌, ap, subst, inl, inr, arith, append_assoc, length-append}
 use Rattle.std.specs.Prelude.{filter, reverse, nat_eq, option_map}
 use Rattle.std.specs.List.{flat_map, AllByRecursion}
 use Rattle.std.proofs.lemmas.List.{take-append-drop, drop-take, reverse-append, length-drop}
@@ -9,7 +9,7 @@ use Rattle.key_kind.specs.Names.{Name}
 use Rattle.bucket_core.specs.declared.event.Event.{Event}
 use Rattle.bucket_core.specs.History.{History, Bytes, author, history_at, events_within, referred_at}
 use Rattle.bucket_core.proofs.ReferLemmas.{referred_at-le-length}
-use Rattle.reply_model.specs.Tries.{put_of, drop_of, IsRefused}
+use Rattle.reply_model.specs.Tries.{put_of, drop_of, one_if, IsRefused}
 use Rattle.frame_core.specs.Frames.{Frame}
 use Rattle.frame_core.specs.declared.refusal.Refusal.{Refusal}
 use Rattle.expr_clause.specs.declared.command.Command.{Command}
@@ -37,6 +37,11 @@ module _ (client : ℕ) (symbol : Name) (makes : Bool) where
     pub tries_longer : (n start stop now : ℕ) → AreMetTries h client symbol makes Wants Loses n start stop now → start ≤ stop
     tries_longer zero start stop now all = omega (arith, all)
     tries_longer (suc n) start stop now all = let before = tries_longer n start all.0 all.1 all.2 in let last = try_longer all.0 stop now all.3 in omega (arith, before, last)
+
+-- one try more than these may be made
+pub one_fewer : (told : Bool) (n most : ℕ) → n < most → n ≤ most - one_if told
+one_fewer true n most few = omega (arith, few)
+one_fewer false n most few = omega (arith, few)
 
 -- ---- in a longer history
 

@@ -166,7 +166,7 @@ none_of_both [] ys e f = f
 none_of_both (x ∷ xs) ys e f = let r = or_parts (stages x) (list_any stages xs) e in or_from (stages x) (list_any stages (xs ++ ys)) r.0 (none_of_both xs ys r.1 f)
 
 -- a turn stages nothing
-turn_stages_nothing : (h : History) (s : Session) (w : Window) (symbol : Name) (makes done : Bool) (es : List Event) → IsTurn h s w symbol makes done AnyMarks es → list_any stages es ≡ false
+turn_stages_nothing : {told : Bool} (h : History) (s : Session) (w : Window) (symbol : Name) (makes done : Bool) (es : List Event) → IsTurn h s w symbol makes done told AnyMarks es → list_any stages es ≡ false
 turn_stages_nothing h s w symbol makes done es t = ap (list_any stages) t.is
     ∙ none_of_both (flat_map (λ u. u) t.tries) t.last (harmless_stages (flat_map (λ u. u) t.tries) (tries_harm_nothing s.client symbol makes t.tries t.refused)) (last_stages done t.last t.ends)
   where

@@ -1,12 +1,13 @@
 -- The causes of refusals that are no answers of the one-thread library.
 --     makes_version        whether a command makes a version
 --     MakesAt              the command has a change of a symbol to make at a place
+--     IsHeldAt             a row of a snapshot, held at its place
 --     IsHoldMet, IsBeside  what a command did beside its met tries
 --     IsMoved              each try met a Refer by another
 --     IsVersionGone        a version that was read is buried, not held, and a key of it that the read gets is gone
 --     IsSpent              the limit is reached, and an event was to be made
 --     IsSnapshotRefusal    the refusals of a snapshot
-use Rattle.std.specs.Prelude.{◌≡◌, ◌≢◌, ◌⊎◌, ℕ, ◌<◌, ◌≤◌, Bool, true, false, List, [], ◌∷◌, Option, Some, None, Ok, ⊤, not, map, filter, Contains, Any, is_some, unwrap_or}
+use Rattle.std.specs.Prelude.{◌≡◌, ◌≢◌, ◌⊎◌, ℕ, ◌-◌, ◌<◌, ◌≤◌, Bool, true, false, List, [], ◌∷◌, Option, Some, None, Ok, ⊤, not, map, filter, Contains, Any, is_some, unwrap_or}
 use Rattle.std.specs.List.{list_any, AllByRecursion}
 use Rattle.frame_core.specs.declared.refusal.Asked.{Asked}
 use Rattle.frame_core.specs.declared.refusal.Asked.TheVariants as asks
@@ -34,6 +35,7 @@ use Rattle.expr_clause.specs.declared.command.Pick.{Pick}
 use Rattle.expr_clause.specs.declared.command.Command.{Command}
 use Rattle.expr_clause.specs.declared.command.Command.TheVariants as commands
 use Rattle.reply_model.specs.declared.outcome.Outcome.TheVariants as outcomes
+use Rattle.reply_model.specs.declared.outcome.HeldAt.{HeldAt}
 use Rattle.reply_model.specs.declared.reply.Reply.{Reply}
 use Rattle.reply_model.specs.Answering.{Answer}
 use Rattle.reply_model.specs.Answers.{answer}
@@ -118,21 +120,24 @@ MakesAt h client c reply symbol q = MarksAt (answer client.session (library_at h
 abbrev pub WasEmptyWithin : History → Name → ℕ → ℕ → Type 0
 WasEmptyWithin h symbol from to = (q : ℕ) × (from ≤ q) × (q ≤ to) × (base_of (state_of (history_at h q) symbol) ≡ None)
 
--- a symbol was held between two places by the client's Refer for this holder
-pub record WasHeld (h : History) (client : ℕ) (holder : Holder) (symbol : Name) (from to : ℕ) : Type 0 where
-  pub place : ℕ
-  pub after : from < place
-  pub before : place ≤ to
-  pub version : ℕ
-  pub event : IsReferAt h client symbol (changes.Held holder version ∷ []) place
+-- the row's place is an own Refer of its symbol, whose Hold is of the asked version or of the base just before
+pub record IsHeldAt (h : History) (client : ℕ) (holder : Holder) (picks : List Pick) (w : Window) (r : HeldAt) : Type 0 where
+  pub after : w.start < r.place
+  pub before : r.place ≤ w.stop
+  pub event : IsReferAt h client r.symbol (changes.Held holder r.version ∷ []) r.place
+  pub asked : picked_version (state_of (history_at h (r.place - 1)) r.symbol) (asked_of picks r.symbol) ≡ Some r.version
+
+-- a symbol was held so in the window
+abbrev pub WasHeld : History → ℕ → Holder → List Pick → Window → Name → Type 0
+WasHeld h client holder picks w symbol = (version : ℕ) × (place : ℕ) × IsHeldAt h client holder picks w (record { symbol = symbol; version = version; place = place })
 
 -- each symbol of a snapshot that comes before this one was held; of all symbols one may have been passed over, since it had no live version
-abbrev pub HeldBefore : History → ℕ → Holder → List Pick → Reply → Name → ℕ → ℕ → Type 0
-HeldBefore h client holder [] reply symbol from to =
+abbrev pub HeldBefore : History → ℕ → Holder → List Pick → Reply → Window → Name → Type 0
+HeldBefore h client holder [] reply w symbol =
     (other : Name) → (state_of (history_at h (listed_at reply)) other).has_reference ≡ true → name_before other symbol ≡ true
-    → WasHeld h client holder other from to ⊎ WasEmptyWithin h other (listed_at reply) to
-HeldBefore h client holder (p ∷ picks) reply symbol from to =
-    AllByRecursion (λ (q : Pick). name_before q.symbol symbol ≡ true → WasHeld h client holder q.symbol from to) (p ∷ picks)
+    → WasHeld h client holder [] w other ⊎ WasEmptyWithin h other (listed_at reply) w.stop
+HeldBefore h client holder (p ∷ picks) reply w symbol =
+    AllByRecursion (λ (q : Pick). name_before q.symbol symbol ≡ true → WasHeld h client holder (p ∷ picks) w q.symbol) (p ∷ picks)
 
 -- a Refer of this symbol, or of one that does not come before it
 abbrev pub refers_from : Name → Event → Bool
@@ -146,7 +151,7 @@ pub record IsHoldMet (h : History) (client : ℕ) (snap : Name) (picks : List Pi
   pub from : w.start ≤ looked
   pub to : looked ≤ unwrap_or reply.listed start
   pub free : snap_body (history_at h looked) snap ≡ None
-  pub held : HeldBefore h client (holder_at h client w) picks reply symbol w.start start
+  pub held : HeldBefore h client (holder_at h client w) picks reply (record w { stop = start }) symbol
   pub never : list_any (refers_from symbol) (own_events h client w) ≡ false
 
 -- beside its met tries a snapshot did as told above, and any other command made no event

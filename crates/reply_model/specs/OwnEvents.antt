@@ -28,7 +28,7 @@ use Rattle.reply_model.specs.declared.reply.Reply.{Reply}
 use Rattle.reply_model.specs.Answering.{Session, frame_of}
 use Rattle.reply_model.specs.Answers.{answer}
 use Rattle.store_model.specs.Holders.{holder_is}
-use Rattle.reply_model.specs.Windows.{Window, library_at, own_events, symbol_of, is_refused, is_cut, is_store_fault, refer_places, AreCommits, IsReferAt}
+use Rattle.reply_model.specs.Windows.{Window, library_at, own_events, symbol_of, is_refused, is_cut, is_answered, is_store_fault, refer_places, AreCommits, IsReferAt}
 use Rattle.reply_model.specs.Kinds.{Kind, kind_of, Makes, Finalizes, Buries, Discards, Stages, Reclaims, Holds, Unholds}
 use Rattle.reply_model.specs.Tries.{IsKeyOf, one_if, IsTurn, AreTurns}
 use Rattle.reply_model.specs.Drops.{IsReclaiming}
@@ -85,10 +85,10 @@ AnyMarks list = ⊤
 
 -- the own events of a kind of command that is done, or that is not
 abbrev pub IsOwnOf : History → Session → Window → Kind → Reply → Bool → List Event → Type 0
-IsOwnOf h s w (Makes symbol) reply done es = IsTurn h s w symbol true done AnyMarks es
-IsOwnOf h s w (Finalizes symbol) reply done es = IsTurn h s w symbol true done AnyMarks es
-IsOwnOf h s w (Buries symbol burial) reply done es = IsTurn h s w symbol false done AnyMarks es
-IsOwnOf h s w (Discards symbol) reply done es = IsTurn h s w symbol false done AnyMarks es
+IsOwnOf h s w (Makes symbol) reply done es = IsTurn h s w symbol true done (is_answered reply.outcome) AnyMarks es
+IsOwnOf h s w (Finalizes symbol) reply done es = IsTurn h s w symbol true done (is_answered reply.outcome) AnyMarks es
+IsOwnOf h s w (Buries symbol burial) reply done es = IsTurn h s w symbol false done (is_answered reply.outcome) AnyMarks es
+IsOwnOf h s w (Discards symbol) reply done es = IsTurn h s w symbol false done (is_answered reply.outcome) AnyMarks es
 IsOwnOf h s w (Stages symbol frame) reply done es = MatchBool done (IsStaging s symbol frame es) (es ≡ [])
 IsOwnOf h s w (Reclaims symbol) reply done es = MatchBool done (IsReclaiming h s.client symbol reply w es) (es ≡ [])
 IsOwnOf h s w (Holds snap picks) reply done es = IsHolding h s w snap picks done es

@@ -30,7 +30,7 @@ use Rattle.reply_model.specs.Answering.{Session}
 use Rattle.reply_model.specs.Answers.{answer}
 use Rattle.reply_model.specs.Windows.{Window, Client, library_at, symbol_of, picked_version, asked_of, listed_at, IsReferAt}
 use Rattle.reply_model.specs.OwnEvents.{IsStaging}
-use Rattle.reply_model.specs.Causes.{WasEmptyWithin}
+use Rattle.reply_model.specs.Causes.{IsHeldAt, WasEmptyWithin}
 
 -- the one-thread library's answer, without changes at the place, and then without a commit; or with changes, just before the one Refer that makes them
 abbrev pub IsAnswer : History → Client → Command → Reply → Type 0
@@ -72,13 +72,6 @@ AreSymbolRows h p stop (s ∷ symbols) [] = ⊥
 AreSymbolRows h p stop (s ∷ symbols) (r ∷ rows) = IsSymbolRow h p stop s r × AreSymbolRows h p stop symbols rows
 
 -- ---- snapshots
-
--- the row's place is an own Refer of its symbol, whose Hold is of the asked version or of the base just before
-pub record IsHeldAt (h : History) (client : ℕ) (holder : Holder) (picks : List Pick) (w : Window) (r : HeldAt) : Type 0 where
-  pub after : w.start < r.place
-  pub before : r.place ≤ w.stop
-  pub event : IsReferAt h client r.symbol (changes.Held holder r.version ∷ []) r.place
-  pub asked : picked_version (state_of (history_at h (r.place - 1)) r.symbol) (asked_of picks r.symbol) ≡ Some r.version
 
 -- with a list each held symbol had a reference there, and each symbol with one is held or was empty on the way; without, the asked ones are held
 abbrev pub HoldsAsked : History → List Pick → List HeldAt → Option ℕ → ℕ → Type 0

@@ -3,7 +3,7 @@
 --     IsRefused, IsAccepted      a try that drops its keys again; a try that ends with its Refer
 --     IsTurn               refused tries, and an accepted one or none
 --     Turn, AreTurns       turns over symbols in ascending order, each with one change
-use Rattle.std.specs.Prelude.{◌≡◌, ℕ, ◌+◌, ◌≤◌, Bool, true, false, if◌then◌else◌, List, [], ◌∷◌, ◌++◌, map, length, filter, Option, Some, None, Ok, MatchBool, is_some}
+use Rattle.std.specs.Prelude.{◌≡◌, ℕ, ◌+◌, ◌-◌, ◌≤◌, ◌&&◌, not, Bool, true, false, if◌then◌else◌, List, [], ◌∷◌, ◌++◌, map, length, filter, Option, Some, None, Ok, MatchBool, is_some}
 use Rattle.std.specs.List.{list_any, flat_map, AllByRecursion}
 use Rattle.key_kind.specs.declared.key.KeyKind.{KeyKind}
 use Rattle.key_kind.specs.declared.key.KeyKind.TheVariants as kinds
@@ -83,14 +83,15 @@ IsAccepted client symbol makes Marks es =
 abbrev pub one_if : Bool → ℕ
 one_if b = if b then 1 else 0
 
--- refused tries, each of which met a Refer by another, and where it is done an accepted one; no more than may be tried
-pub record IsTurn (h : History) (s : Session) (w : Window) (symbol : Name) (makes done : Bool) (Marks : List Change → Type 0) (es : List Event) : Type 0 where
+-- refused tries, each of which met a Refer by another, and where it is done an accepted one. Where the library's own answer is told, the walk
+-- that gave it was a try too. There are no more tries than may be made
+pub record IsTurn (h : History) (s : Session) (w : Window) (symbol : Name) (makes done told : Bool) (Marks : List Change → Type 0) (es : List Event) : Type 0 where
   pub tries : List (List Event)
   pub last : List Event
   pub is : es ≡ flat_map (λ t. t) tries ++ last
   pub refused : AllByRecursion (IsRefused s.client symbol makes) tries
   pub met : length tries ≤ refers_by_others h s.client symbol w
-  pub few : length tries + one_if done ≤ s.tries
+  pub few : length tries + one_if done ≤ s.tries - one_if (not done && told)
   pub ends : MatchBool done (IsAccepted s.client symbol makes Marks last) (last ≡ [])
 
 -- a turn of one symbol, which commits one such change or none
@@ -98,7 +99,7 @@ pub record Turn (h : History) (s : Session) (w : Window) (Mark : Change → Type
   pub symbol : Name
   pub done : Bool
   pub own : List Event
-  pub is : IsTurn h s w symbol false done (λ list. (c : Change) × Mark c × (list ≡ c ∷ [])) own
+  pub is : IsTurn h s w symbol false done false (λ list. (c : Change) × Mark c × (list ≡ c ∷ [])) own
 
 -- the symbol is among those that were asked, or all were
 abbrev pub is_asked : List Pick → Name → Bool

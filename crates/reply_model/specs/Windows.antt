@@ -3,7 +3,7 @@
 --     Client               what a client's replies are judged by
 --     own_events           the client's events in a window
 --     symbol_of, picked_version, asked_of      what a command asks
---     is_refused, is_cut, is_store_fault      kinds of outcome
+--     is_refused, is_cut, is_answered, is_store_fault      kinds of outcome
 --     refer_places, AreCommits      the places of own Refers, and the commits that a reply names
 --     refers_by_others     how many Refers of a symbol by others stand in a window
 --     IsReferAt            the event of a place is the client's Refer with these changes
@@ -23,7 +23,7 @@ use Rattle.reply_model.specs.declared.outcome.Outcome.{Outcome}
 use Rattle.reply_model.specs.declared.outcome.Outcome.TheVariants as outcomes
 use Rattle.reply_model.specs.declared.reply.Reply.{Reply}
 use Rattle.reply_model.specs.Answering.{Session}
-use Rattle.reply_model.specs.Kinds.{kind_of, kind_symbol, cause_of, cuts, faults}
+use Rattle.reply_model.specs.Kinds.{kind_of, kind_symbol, cause_of, cuts, faults, tells}
 
 -- from one place to another, and whether the bucket's count of faults rose between
 pub record Window : Type 0 where
@@ -71,6 +71,11 @@ is_refused _ = false
 abbrev pub is_cut : Outcome → Bool
 is_cut (outcomes.Refused why) = cuts (cause_of why)
 is_cut _ = false
+
+-- the library's own answer: neither a call failed, nor was each try refused
+abbrev pub is_answered : Outcome → Bool
+is_answered (outcomes.Refused why) = tells (cause_of why)
+is_answered _ = true
 
 -- the bucket failed, and a change may stand of which nothing is known
 abbrev pub is_store_fault : Outcome → Bool

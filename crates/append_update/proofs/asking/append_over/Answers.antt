@@ -12,7 +12,7 @@ use Rattle.append_update.specs.Bases.{IsIndexOf}
 use Rattle.append_update.specs.Replacing.{appended}
 use Rattle.append_update.specs.Sizes.{text_total}
 use Rattle.append_update.proofs.AppendLemmas.{append_large}
-use Rattle.append_update.proofs.PlanLemmas.{stands_behind, behind_texts, behind_fits, append_over_is}
+use Rattle.append_update.proofs.PlanLemmas.{behind_texts, behind_fits, append_over_is}
 use Rattle.append_update.proofs.asking.append_over.Goals as goal
 
 pub returns-then-exceeds-clause-refused : goal.returns-then-exceeds-clause-refused
@@ -47,5 +47,5 @@ returns-in_err-exceeds-clause-refused g c = λ b.
     c.from_residual.result c.in_err-exceeds.field-0.0 c.from_residual.ensures.0 c.from_residual.ensures.1
     (inl (base_fits (g.B.Bucket.number c.args.bucket.now) c.args.symbol.now AnyBase (MayStandBehind c.args.frame.now) (length b.before) (g.B.Bucket.faults c.args.bucket.now) (g.B.Bucket.faults c.append_exceeds.new.bucket) old new c.in_err-exceeds.field-0.0
     (λ w e any. subst (MayStandBehind c.args.frame.now) (base_before c.append_exceeds.ensures.looks.others b.later b.before new c.args.symbol.now v w (c.append_exceeds.ensures.looks.is ∙ ap (λ h. c.append_exceeds.ensures.looks.others ++ h) b.split) b.newest.is e)
-    (stands_behind v c.args.frame.now fits.same fits.order))
+    fits)
     (subst (λ n. RefusesBase (g.B.Bucket.number c.args.bucket.now) c.args.symbol.now AnyBase n (g.B.Bucket.faults c.args.bucket.now) (g.B.Bucket.faults c.append_exceeds.new.bucket) old new c.in_err-exceeds.field-0.0) b.place c.in_err-exceeds.ensures.refused)))
