@@ -1,5 +1,5 @@
 -- A key that was put and does not stand any more never stands again.
-use Rattle.std.proofs.Common.{◌≡◌, Bool, true, false, cond, ◌∷◌, [], ◌++◌, Option, Some, None, inl, inr, refl, sym, ap, ◌∙◌, subst, ℕ, List}
+use Rattle.std.proofs.Common.{◌≡◌, Bool, true, false, cond, ◌∷◌, [], ◌++◌, Option, Some, None, inl, inr, refl, sym, ap, ◌∙◌, subst, ℕ}
 use Rattle.std.specs.Prelude.{is_some}
 use Rattle.std.proofs.lemmas.Bool.{true≢false}
 use Rattle.key_kind.specs.declared.key.Key.{Key}

@@ -91,8 +91,8 @@ pub nothing_by : (n : ℕ) (xs : List Event) → entries_by author n xs ≡ [] �
 nothing_by n xs none = others_reverse n xs (none_by n xs none)
 
 -- and so it has made no Puts
-pub puts_by-none : (n : ℕ) (xs : List Event) → entries_by author n xs ≡ [] → puts_by n (reverse xs) ≡ 0
-puts_by-none n xs none = ap (puts_by n) (sym (append-nil (reverse xs))) ∙ puts_by-others n (reverse xs) [] (nothing_by n xs none)
+pub puts_by-none : (n : ℕ) (h : History) → AllByOthers n h → puts_by n h ≡ 0
+puts_by-none n h none = ap (puts_by n) (sym (append-nil h)) ∙ puts_by-others n h [] none
 
 -- what a list adds to an earlier one, as a bucket's look
 pub Looks-later : (n : ℕ) (xs ys : List Event) → IsPrefix xs ys → entries_by author n ys ≡ entries_by author n xs → IsLawful IsClaimed (reverse ys) → Looks IsClaimed n false (reverse xs) (reverse ys)

@@ -7,3 +7,4 @@ pub mod Gone
 pub mod Authors
 pub mod Passes
 pub mod NotesKept
+pub mod Trying

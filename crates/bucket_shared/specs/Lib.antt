@@ -2,7 +2,9 @@ pub mod Rows
 pub mod Stories
 pub mod Sole
 pub mod Passes
+pub mod SeatCalls
+pub mod Turns
+pub mod Changes
 pub mod Splits
-pub mod Ready
 pub mod Authors
 pub mod Notes

@@ -16,15 +16,15 @@ use Rattle.bucket_shared.specs.Stories.{event_row}
 
 -- what the pass knows
 abbrev pub view_of : Pass → View Event
-view_of p = p.seat.me.0
+view_of p = p.seated.seat.me.0
 
 -- the rows that the pass found changed, each with the place of an event, the newest note first
 abbrev pub notes_of : Pass → List Note
-notes_of p = p.seat.me.0.notes
+notes_of p = p.seated.seat.me.0.notes
 
 -- the events that the pass has seen, the oldest first
 abbrev pub log_of : Pass → List Event
-log_of p = p.seat.me.0.seen
+log_of p = p.seated.seat.me.0.seen
 
 -- among these events, the oldest first, none above the place is of the row, of whichever of its symbols
 abbrev pub NoneAfter : ℕ → ℕ → List Event → Type 0
@@ -41,6 +41,5 @@ abbrev pub AreTrue : List Note → List Event → Type 0
 AreTrue notes log = (row place : ℕ) → Among (note_at row place) notes → IsRowAt event_row log row place
 
 -- these are the notes, and at the place of each an event of its row has been seen
-pub record KeepsNotes (notes : List Note) (now : View Event) : Type 0 where
-  pub same : now.notes ≡ notes
-  pub are_true : AreTrue notes now.seen
+abbrev pub KeepsNotes : List Note → View Event → Type 0
+KeepsNotes notes now = (now.notes ≡ notes) × AreTrue notes now.seen

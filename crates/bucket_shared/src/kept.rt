@@ -77,7 +77,7 @@ impl<K: PassName> Bucket<StoreLaw> for Kept<K> {
 
     ghost may_tell = { λ k symbol place answer. answer ≡ true → refers_after (seen_of k.pass) symbol place ≡ false };
 
-    ghost lawful = { λ k. k.pass.lawful };
+    ghost lawful = { λ k. k.pass.seated.lawful };
 
     fn place(&self) -> u64 {
         self.pass.place()

@@ -2,6 +2,8 @@
 #![tactic(auto)]
 
 mod calls;
+mod change;
+mod changing;
 mod dropping;
 mod event_name;
 mod kept;
@@ -9,10 +11,11 @@ mod looking;
 mod naming;
 mod pass;
 mod putting;
-mod ready;
 mod referring;
 mod row;
+mod seated;
 mod shared;
+mod sharing;
 mod splitting;
 mod store;
 mod turn;

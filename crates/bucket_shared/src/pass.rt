@@ -1,14 +1,11 @@
 // A pass: a client's way to a shared store.
-ghost use Rattle.std.specs.Prelude.{◌≡◌, ◌≤◌, ◌^◌, length, IfOk};
-ghost use Rattle.std.specs.Arc.{arc_value};
-ghost use Rattle.turn_cell.specs.Seats.{view, seen, Rests};
+ghost use Rattle.std.specs.Prelude.{◌≡◌, ◌≤◌, ◌^◌, IfOk};
+ghost use Rattle.turn_cell.specs.Seats.{view, Rests};
 ghost use Rattle.turn_cell.specs.Views.{first_view};
 ghost use Rattle.bucket_core.specs.History.{puts_by};
-ghost use Rattle.bucket_core.specs.Laws.{IsLawful};
-ghost use Rattle.store_model.specs.Law.{IsClaimed};
-ghost use Rattle.bucket_shared.specs.Authors.{AreEnded, AreHad};
 ghost use Rattle.bucket_shared.specs.Stories.{history};
 
+use crate::seated::Seated;
 use crate::store::Store;
 use base_types::NoMemory;
 use std::alloc::Global;
@@ -20,21 +17,11 @@ use turn_cell::{Seat, TurnCell};
 #[derive(Drop)]
 pub struct Pass {
     pub(crate) alloc: Global,
-    pub(crate) cell: Arc<TurnCell<Store>>,
-    pub(crate) seat: Seat<Store>,
+    pub(crate) seated: Seated,
     pub(crate) number: u32,
-    pub(crate) most: u64,
-    pub(crate) count: u64,
     pub(crate) next: u64,
-    ghost seated: { seat.table_id ≡ arc_value cell },
-    ghost rests: { Rests seat },
-    ghost numbered: { (view seat).badge.number ≡ number },
-    ghost limited: { most ≤ 2 ^ 62 },
-    ghost counted: { count ≡ length (seen seat) },
-    ghost served: { next ≡ puts_by (view seat).badge.number (history seat) },
-    ghost lawful: { ∥ IsLawful IsClaimed (history seat) ∥₁ },
-    ghost ended: { ∥ AreEnded (view seat).badge (seen seat) ∥₁ },
-    ghost had: { ∥ AreHad (view seat).badge (seen seat) ∥₁ },
+    ghost numbered: { (view seated.seat).badge.number ≡ number },
+    ghost served: { next ≡ puts_by (view seated.seat).badge.number (history seated.seat) },
 }
 
 impl Pass {
@@ -50,17 +37,20 @@ impl Pass {
         requires view { view seat ≡ first_view number }
         requires rests { Rests seat }
         requires limit { limit ≤ 2 ^ 62 }
-        ensures seat { IfOk result (λ pass. pass.seat ≡ seat) }
-        ensures limit { IfOk result (λ pass. pass.most ≡ limit) }
+        ensures seat { IfOk result (λ pass. pass.seated.seat ≡ seat) }
+        ensures limit { IfOk result (λ pass. pass.seated.limit ≡ limit) }
     {
         let cell = Arc::new(alloc, cell)?;
-        Ok(Pass {
-            alloc,
+        let seated = Seated {
             cell,
             seat,
-            number,
-            most: limit,
+            limit,
             count: 0,
+        };
+        Ok(Pass {
+            alloc,
+            seated,
+            number,
             next: 0,
         })
     }

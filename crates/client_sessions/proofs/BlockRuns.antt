@@ -139,7 +139,7 @@ module _ (cutting : Cutting) (client : ℕ → Client) (named : (n : ℕ) → (c
 
 -- one block on a thread of its own, with a pass that was split off, beside the others; its pass is joined behind all
 module _ (cutting : Cutting) (client : ℕ → Client) (named : (n : ℕ) → (client n).session.client ≡ n) (one : OneSession client) (count : ℕ) (block : List Command) (ready : AreNamed count block) (replies : List Reply) (blocks : List (List Command)) (told : List (List Reply)) (p0 p1 o p2 o2 p3 : Pass)
-    (store : store_of p1 ≡ store_of p0) (number : number_of p1 ≡ number_of p0) (limit : limit_of p1 ≡ limit_of p0) (looks : Looks IsClaimed (number_of p0) (sole_of p0) (seen_of p0) (seen_of p1)) (split : IsSplit p0 p1 o)
+    (store : store_of p1 ≡ store_of p0) (number : number_of p1 ≡ number_of p0) (limit : limit_of p1 ≡ limit_of p0) (looks : Looks IsClaimed (number_of p0) (sole_of p0) (seen_of p0) (seen_of p1)) (split : IsSplit p0.seated p1.seated o.seated)
     (r : AreRun cutting client blocks told p1 p2) (s : IsSessionOf cutting client block replies o o2)
     (store3 : store_of p3 ≡ store_of p2) (number3 : number_of p3 ≡ number_of p2) (limit3 : limit_of p3 ≡ limit_of p2) (badge3 : badge_of p3 ≡ joined_badge (badge_of p2) (badge_of o2) (length (seen_of o2)))
     (looks3 : Looks IsClaimed (number_of p2) false (seen_of p2) (seen_of p3)) (other : Looks IsClaimed (number_of o2) false (seen_of o2) (seen_of p3))

@@ -12,6 +12,7 @@ use Rattle.bucket_core.specs.declared.event.Event.{Event}
 use Rattle.bucket_core.specs.History.{History, author, event_at}
 use Rattle.bucket_shared.specs.declared.pass.Pass.{Pass}
 use Rattle.bucket_shared.specs.Authors.{AreEnded, AreHad, HasEnded}
+use Rattle.bucket_shared.specs.Notes.{log_of}
 use Rattle.bucket_shared.specs.Passes.{badge_of, seen_of, sole_of}
 use Rattle.bucket_shared.specs.Sole.{has_number}
 use Rattle.bucket_shared.proofs.Growth.{others_reverse}
@@ -34,26 +35,26 @@ module _ (p : Pass) where
   had_at sole n e at = Has-number (badge_of p) (author e) found
     where
       found : has_number (badge_of p) (author e) ≡ true
-      found = ∥∥₁_elim (had_of p) (hlevel props) (λ (h : AreHad (badge_of p) p.seat.me.0.seen).
-          has_number-true (badge_of p) (author e) (all_at (λ x. Has (badge_of p) (author x)) (seen_of p) n e (reversed (λ x. Has (badge_of p) (author x)) p.seat.me.0.seen (by_recursion (λ x. Has (badge_of p) (author x)) p.seat.me.0.seen (h.each sole))) at))
+      found = ∥∥₁_elim (had_of p) (hlevel props) (λ (h : AreHad (badge_of p) (log_of p)).
+          has_number-true (badge_of p) (author e) (all_at (λ x. Has (badge_of p) (author x)) (seen_of p) n e (reversed (λ x. Has (badge_of p) (author x)) (log_of p) (by_recursion (λ x. Has (badge_of p) (author x)) (log_of p) (h.each sole))) at))
 
   -- the place of a joined client lies within what the pass has seen
   pub within_at : (m l : ℕ) → Among (joined_at m l) (badge_of p).joined → l ≤ length (seen_of p)
   within_at m l a = elim (cases_lt (length (seen_of p)) l) [
-    | inl beyond ↦ absurd (∥∥₁_elim (ended_of p) (hlevel props) (λ (k : AreEnded (badge_of p) p.seat.me.0.seen). let le : l ≤ length p.seat.me.0.seen = (k.ended m l a).within in omega (arith, le, beyond, length-reverse p.seat.me.0.seen)))
+    | inl beyond ↦ absurd (∥∥₁_elim (ended_of p) (hlevel props) (λ (k : AreEnded (badge_of p) (log_of p)). let le : l ≤ length (log_of p) = (k.ended m l a).within in omega (arith, le, beyond, length-reverse (log_of p))))
     | inr within ↦ within
   ]
 
   -- and it has no event behind its place
-  none_behind : (m l n : ℕ) (e : Event) → HasEnded m l p.seat.me.0.seen → event_at (seen_of p) n ≡ Some e → author e ≡ m → l < n → ⊥
+  none_behind : (m l n : ℕ) (e : Event) → HasEnded m l (log_of p) → event_at (seen_of p) n ≡ Some e → author e ≡ m → l < n → ⊥
   none_behind m l n e h at own beyond =
-      let log = p.seat.me.0.seen in
+      let log = log_of p in
       let is : seen_of p ≡ reverse (drop l log) ++ reverse (take l log) = ap reverse (sym (take-append-drop l log)) ∙ reverse-append (take l log) (drop l log) in
       let size : length (reverse (take l log)) ≡ l = length-reverse (take l log) ∙ length-take-le l log h.within in
       others_above m (reverse (drop l log)) (reverse (take l log)) n e (others_reverse m (drop l log) h.none_after) (omega (arith, size, beyond)) (ap (λ (h : History). event_at h n) (sym is) ∙ at) own
 
   pub ended_at : (m l n : ℕ) (e : Event) → Among (joined_at m l) (badge_of p).joined → event_at (seen_of p) n ≡ Some e → author e ≡ m → n ≤ l
   ended_at m l n e a at own = elim (cases_lt l n) [
-    | inl beyond ↦ absurd (∥∥₁_elim (ended_of p) (hlevel props) (λ (k : AreEnded (badge_of p) p.seat.me.0.seen). none_behind m l n e (k.ended m l a) at own beyond))
+    | inl beyond ↦ absurd (∥∥₁_elim (ended_of p) (hlevel props) (λ (k : AreEnded (badge_of p) (log_of p)). none_behind m l n e (k.ended m l a) at own beyond))
     | inr within ↦ within
   ]

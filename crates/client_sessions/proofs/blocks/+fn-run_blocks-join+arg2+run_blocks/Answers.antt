@@ -1,6 +1,7 @@
 use Rattle.std.proofs.Common.{rules, ◌≡◌, ◌∙◌, ℕ, List, [], ◌∷◌, length, reverse, refl, sym, ap, subst, arith}
 use Rattle.std.specs.List.{AllByRecursion}
 use Rattle.std.proofs.lemmas.List.{reverse-append}
+use Rattle.turn_cell.specs.declared.badge.Badge.{Badge}
 use Rattle.bucket_shared.specs.Passes.{limit_of}
 use Rattle.expr_clause.specs.declared.command.Command.{Command}
 use Rattle.reply_model.specs.declared.reply.Reply.{Reply}
@@ -28,11 +29,12 @@ returns-in_default-split-clause-run g t c =
     let blocks : c.in-Some.commands.now ∷ c.in-Some.rest.now ≡ c.args.blocks.now = search rules in
     let ready : AllByRecursion (AreNamed (length c.args.frames.now)) (c.in-Some.commands.now ∷ c.in-Some.rest.now) = subst (λ (bs : List (List Command)). AllByRecursion (AreNamed (length c.args.frames.now)) bs) (sym blocks) c.requires.named in
     let again : reverse c.noted.result.items ≡ replies ∷ reverse told = ap reverse c.noted.ensures.items ∙ reverse-append told (replies ∷ []) in
-    let s = subst (λ (n : ℕ). IsSessionOf cutting (clients_of c.args.frames.now c.args.settings n) c.in-Some.commands.now replies c.split.new.self c.session-pass.result.0) c.split.ensures.limit c.session-pass.ensures in
-    let r = subst (λ (n : ℕ). AreRun (run_cutting c.args.settings.cutting) (clients_of c.args.frames.now c.args.settings n) c.in-Some.rest.now (reverse told) c.session-pass.result.0 c.run_blocks-pass.result.0) (s.limit ∙ c.split.ensures.limit) c.run_blocks-pass.ensures.run in
+    let stays = c.in_default-split.ensures.stays in
+    let s = subst (λ (n : ℕ). IsSessionOf cutting (clients_of c.args.frames.now c.args.settings n) c.in-Some.commands.now replies c.split.new.self c.session-pass.result.0) stays.limit c.session-pass.ensures in
+    let r = subst (λ (n : ℕ). AreRun (run_cutting c.args.settings.cutting) (clients_of c.args.frames.now c.args.settings n) c.in-Some.rest.now (reverse told) c.session-pass.result.0 c.run_blocks-pass.result.0) (s.limit ∙ stays.limit) c.run_blocks-pass.ensures.run in
     subst (λ (z : List (List Command) × List (List Reply)). AreRun (run_cutting c.args.settings.cutting) client z.0 z.1 c.args.pass c.run_blocks-pass.result.0) (λ i. (blocks i, sym again i))
     (run_here cutting client (λ n. refl) (λ m n. refl) (length c.args.frames.now) c.in-Some.commands.now ready.0 replies c.in-Some.rest.now (reverse told) c.args.pass c.split.new.self c.session-pass.result.0 c.run_blocks-pass.result.0
-    c.split.ensures.store c.in_default-split.ensures.badge c.split.ensures.limit c.split.ensures.looks s r)
+    stays.store stays.badge stays.limit c.split.ensures.looks s r)
 
 -- the block with a pass of its own, beside the others
 pub returns-clause-run : goal.returns-clause-run
@@ -45,9 +47,9 @@ returns-clause-run g t c =
     let ready : AllByRecursion (AreNamed (length c.args.frames.now)) (c.in-Some.commands.now ∷ c.in-Some.rest.now) = subst (λ (bs : List (List Command)). AllByRecursion (AreNamed (length c.args.frames.now)) bs) (sym blocks) c.requires.named in
     let again : reverse c.joined.result.1.items ≡ replies ∷ reverse told = ap reverse c.joined.ensures.items ∙ reverse-append told (replies ∷ []) in
     let split = c.in-Ok.ensures.split in
-    let r = subst (λ (n : ℕ). AreRun (run_cutting c.args.settings.cutting) (clients_of c.args.frames.now c.args.settings n) c.in-Some.rest.now (reverse told) c.split.new.self c.join-pass.result.0.0) c.split.ensures.limit c.join-pass.ensures.first.0 in
+    let r = subst (λ (n : ℕ). AreRun (run_cutting c.args.settings.cutting) (clients_of c.args.frames.now c.args.settings n) c.in-Some.rest.now (reverse told) c.split.new.self c.join-pass.result.0.0) split.same_limit c.join-pass.ensures.first.0 in
     let s = subst (λ (n : ℕ). IsSessionOf cutting (clients_of c.args.frames.now c.args.settings n) c.in-Some.commands.now replies c.in-Ok.other c.join-pass.result.1.0) split.limit c.join-pass.ensures.second in
     subst (λ (z : List (List Command) × List (List Reply)). AreRun (run_cutting c.args.settings.cutting) client z.0 z.1 c.args.pass c.joined.result.0) (λ i. (blocks i, sym again i))
     (run_beside cutting client (λ n. refl) (λ m n. refl) (length c.args.frames.now) c.in-Some.commands.now ready.0 replies c.in-Some.rest.now (reverse told) c.args.pass c.split.new.self c.in-Ok.other c.join-pass.result.0.0 c.join-pass.result.1.0 c.joined.result.0
-    c.split.ensures.store c.split.ensures.client c.split.ensures.limit c.split.ensures.looks split r s
+    split.same_store (ap (λ (b : Badge). b.number) split.gave) split.same_limit c.split.ensures.looks split r s
     c.joined.ensures.store c.joined.ensures.client c.joined.ensures.limit c.joined.ensures.badge c.joined.ensures.looks c.joined.ensures.other_looks c.joined.ensures.awaits)
