@@ -1,5 +1,5 @@
 -- The reply of an arm is the reply of the step.
-use Rattle.std.proofs.Common.{◌≡◌, ℕ, ℤ, Bool, true, ◌⊎◌, inl, inr, Result, Ok, List, length, refl, ap, sym, ◌∙◌, subst, Option, Some, map}
+use Rattle.std.proofs.Common.{◌≡◌, ℕ, ℤ, Bool, true, false, ◌⊎◌, inl, inr, Result, Ok, List, length, refl, ap, sym, ◌∙◌, subst, Option, Some, map}
 use Rattle.std.specs.Prelude.{slice_get, unwrap_or, option_map}
 use Rattle.std.proofs.lemmas.Bool.{true≢false}
 use Rattle.std.proofs.lemmas.Option.{slice_get-map}
