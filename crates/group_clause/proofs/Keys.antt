@@ -1,6 +1,6 @@
 -- The keys of lines rise, and a key that is not among them has no lines.
 use Rattle.std.proofs.Common.{◌≡◌, refl, ap, sym, ◌∙◌, subst}
-use Rattle.std.specs.Prelude.{true, false, cond, ⊤, List, [], ◌∷◌, map, filter}
+use Rattle.std.specs.Prelude.{true, false, cond, List, [], ◌∷◌, map, filter}
 use Rattle.std.specs.List.{AllByRecursion}
 use Rattle.std.specs.declared.cmp.Ordering.{Ordering}
 use Rattle.std.specs.declared.cmp.Ordering.TheVariants.{Less, Equal, Greater}
@@ -41,7 +41,7 @@ pub all_weaker : (P Q : Cell → Type 0) → ((x : Cell) → P x → Q x) → (x
 all_weaker P Q f [] h = tt
 all_weaker P Q f (x ∷ xs) h = (f x h.0, all_weaker P Q f xs h.1)
 
-insert_key_rises : (k : Cell) (ks : List Cell) → Rises ks → Rises (insert_key k ks)
+pub insert_key_rises : (k : Cell) (ks : List Cell) → Rises ks → Rises (insert_key k ks)
 insert_key_rises k [] r = (tt, tt)
 insert_key_rises k (m ∷ ms) r = by (insert_key_rises k ms r.1) (cell_cmp k m) refl
   where

@@ -4,3 +4,9 @@ pub mod Keys
 pub mod Grouping
 pub mod TallyLaws
 pub mod RisingMerge
+pub mod PartLemmas
+pub mod KeepingLemmas
+pub mod RowLemmas
+pub mod MadeRows
+pub mod FittingLines
+pub mod FinishLaws

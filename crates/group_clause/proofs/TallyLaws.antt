@@ -144,7 +144,7 @@ partials_give_group = sound_group tallies any_agg tallies_sound
 pub partials_merge : PartialsMerge
 partials_merge xs ys = λ i. record { rows = length-append xs ys i; groups = groups_merge xs ys i }
 
-whole_partial : (lines : List Line) (p : Partial) → IsPartialOf lines p → p ≡ partial_of lines
+pub whole_partial : (lines : List Line) (p : Partial) → IsPartialOf lines p → p ≡ partial_of lines
 whole_partial lines p (added xs) = refl
 whole_partial lines p (merged xs ys q r is_q is_r) = ap₂ merge_partials (whole_partial xs q is_q) (whole_partial ys r is_r) ∙ sym (partials_merge xs ys)
 

@@ -2,6 +2,7 @@
 --     order_of                the order in which the least or the greatest cell stands first
 --     Rises                   keys that ascend, none twice
 --     IsTally, AreTallies     a tally of so many lines at most; those of all groups
+--     IsPart                  groups that are to be merged
 --     IsKeeping               what each partial keeps
 use Rattle.std.specs.Prelude.{◌≡◌, ℕ, ◌*◌, ◌^◌, ◌≤◌, pos, neg_ℤ, ◌≤ℤ◌, ⊤, List, [], ◌∷◌, map}
 use Rattle.std.specs.List.{AllByRecursion}
@@ -32,6 +33,11 @@ pub record IsTally (rows : ℕ) (t : Tally) : Type 0 where
 -- the tallies of each group are of at most so many lines
 abbrev pub AreTallies : ℕ → List (Cell × List Tally) → Type 0
 AreTallies rows groups = AllByRecursion (λ (g : Cell × List Tally). AllByRecursion (IsTally rows) g.1) groups
+
+-- groups that are to be merged: their keys ascend, and none has more than 2^62 lines
+pub record IsPart (groups : List (Cell × List Tally)) : Type 0 where
+  pub rising : Rises (map (λ (g : Cell × List Tally). g.0) groups)
+  pub tallies : AreTallies (2 ^ 62) groups
 
 -- the keys ascend, and there are at most 2^62 lines
 pub record IsKeeping (rows : ℕ) (groups : List (Cell × List Tally)) : Type 0 where

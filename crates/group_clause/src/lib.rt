@@ -4,6 +4,8 @@
 mod group;
 mod laws;
 mod partial;
+mod parts;
+mod rows;
 mod tally;
 
 pub use laws::{groups_merge_in_any_order, parts_merge};

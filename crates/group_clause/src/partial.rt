@@ -6,10 +6,13 @@ ghost use Rattle.group_clause.specs.Partials.{partial_of, merge_partials};
 ghost use Rattle.group_clause.specs.Finished.{HoldsLines, LineFits, GivesGroupOf};
 
 use crate::group::Group;
+use crate::parts::merged;
+use crate::rows::push_groups;
 use expr_clause::Out;
-use frame_core::{ColName, Frame, NoMemory, Refusal, Schema};
+use frame_core::{ColName, Frame, FrameMaker, NoMemory, Refusal, Schema};
 use std::alloc::Global;
 use std::marker::Model;
+use std::mem::replace;
 
 /// What is kept of rows for a group, in whichever order they come: how many there are, and for each key, ascending, a tally for each output.
 #[derive(Drop)]
@@ -60,7 +63,11 @@ impl Partial {
         requires { self.old.rows + other.rows ≤ 2 ^ 62 }
         ensures { OnOk result (self.new ≡ merge_partials self.old other) }
     {
-        Err(NoMemory)
+        let Partial { rows, groups } = other;
+        let mine = replace(&mut self.groups, Vec::new(alloc));
+        self.groups = merged(alloc, mine, groups)?;
+        self.rows += rows;
+        Ok(())
     }
 
     /// The group of the rows that were added, as a frame of this schema, the key first: the least group of which a sum is outside i64 refuses it.
@@ -75,6 +82,11 @@ impl Partial {
         requires fits { HoldsLines (LineFits schema.now.columns (map (λ o. o.agg) outs.now)) self }
         ensures { GivesGroupOf clause schema.now (map (λ o. o.agg) outs.now) self result }
     {
-        Err(Refusal::NoMemory)
+        let Partial { rows: _, groups } = self;
+        let mut maker = FrameMaker::make(alloc, schema)?;
+        match push_groups(&mut maker, &groups, outs)? {
+            Some(group) => Err(Refusal::GroupOverflow { clause, group }),
+            None => Ok(maker.done()),
+        }
     }
 }
