@@ -1,0 +1,11 @@
+pub mod Results
+pub mod Types
+pub mod RowLaws
+pub mod RunLaws
+pub mod PlanLaws
+pub mod WayLaws
+pub mod RowCells
+pub mod ThroughLaws
+pub mod NameLaws
+pub mod GroupLaws
+pub mod Refusing
