@@ -6,4 +6,6 @@ mod checks;
 #[cfg(test)]
 mod limits;
 #[cfg(test)]
+mod running;
+#[cfg(test)]
 mod values;

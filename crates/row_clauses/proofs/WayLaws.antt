@@ -1,5 +1,5 @@
 -- A row on its way through a run, clause by clause.
-use Rattle.std.proofs.Common.{◌≡◌, ℕ, ◌+◌, ◌<◌, refl, ap, sym, ◌∙◌, subst, arith, length-append}
+use Rattle.std.proofs.Common.{◌≡◌, IfOk, ℕ, ◌+◌, ◌<◌, refl, ap, sym, ◌∙◌, subst, arith, length-append}
 use Rattle.std.proofs.lemmas.Bool.{true≢false}
 use Rattle.std.specs.Prelude.{Bool, true, false, cond, List, [], ◌∷◌, ◌++◌, length, map, drop, Option, Some, None, option_map, Result, Ok, Err}
 use Rattle.std.specs.List.{AllByRecursion}
@@ -106,6 +106,16 @@ module _ (spots : List (Option ℕ)) (f : Frame) (row : ℕ) (made : List CellRe
       → IsFound e lent found → new ≡ made ++ cell ∷ [] → IsStepped c spots f row made new steps.GoesOn
   apply_done c name e lent found cell new c_is lent_is found_is valued new_is =
       rw c_is (stepped_apply name e cell (valued_on e lent found cell lent_is found_is valued) new new_is)
+
+  pub apply_over : (name : Text) (e : Expr) (lent : List CellRef) (found : Option CellRef) → lent ≡ made → found ≡ None → IsFound e lent found → IsStepped (clauses.Apply name e) spots f row made made steps.Overflows
+  apply_over name e lent found lent_is found_is valued = stepped_apply_over name e (λ columns places s.
+      sym (ap (option_map cell_of) found_is) ∙ valued columns places s ∙ ap (λ m. value columns (lying (cells_at f row m) places) e) lent_is)
+
+  -- so for the clause's own name
+  pub apply_named : {E : Type 0} (r : Result Step E) (c : Clause) (name : Text) (e : Expr) (new : List CellRef) → c ≡ clauses.Apply name e
+      → IfOk r (λ done. (n : Text) → IsStepped (clauses.Apply n e) spots f row made new done) → IfOk r (λ done. IsStepped c spots f row made new done)
+  apply_named (Ok done) c name e new c_is steps_any = rw c_is (steps_any name)
+  apply_named (Err why) c name e new c_is steps_any = tt
 
 -- ---- the clauses that are left
 

@@ -4,9 +4,11 @@
 --     IsPlan              the plan of clauses over rows of a schema
 --     AllFit              each clause fits the schema that those before it give
 --     is_plain, IsPart    clauses without a group; clauses that go together
+--     IsRun               clauses without a group over a frame, with their plan
 use Rattle.std.specs.Prelude.{◌≡◌, Bool, true, not, ⊤, ◌⊎◌, List, [], ◌∷◌, ◌++◌, map, length, Some, None}
 use Rattle.std.specs.List.{list_any}
 use Rattle.frame_core.specs.Schemas.{Schema}
+use Rattle.frame_core.specs.Frames.{Frame, IsFrame}
 use Rattle.expr_clause.specs.declared.clause.Clause.{Clause}
 use Rattle.expr_clause.specs.Typing.{absent_from, after, clause_columns, schema_after}
 use Rattle.expr_clause.specs.Asking.{ends_run}
@@ -53,3 +55,10 @@ IsTogether (c ∷ cs) = ((ends_run c ≡ true) × (cs ≡ [])) ⊎ (is_plain (c 
 -- these clauses go together, and the others, which follow, do not go with them
 abbrev pub IsPart : List Clause → List Clause → Type 0
 IsPart part more = IsTogether part × (is_plain part ≡ true → StartsRun more)
+
+-- clauses without a group that fit the frame's schema, with their plan
+pub record IsRun (run : List Clause) (f : Frame) (plan : Plan) : Type 0 where
+  pub frame : IsFrame f
+  pub fit : AllFit run f.schema
+  pub plain : is_plain run ≡ true
+  pub plan_is : IsPlan f.schema run plan

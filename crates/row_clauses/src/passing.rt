@@ -1,12 +1,14 @@
 //! What the clauses of a run make of a row.
 
 ghost use Rattle.std.specs.Prelude.{◌≡◌, ◌+◌, ◌<◌, ◌^◌, length, IfOk, if◌then◌else◌};
+ghost use Rattle.frame_core.specs.Texts.{Text};
+ghost use Rattle.expr_clause.specs.declared.clause.Clause.TheVariants as clauses;
 ghost use Rattle.row_clauses.specs.declared.passing.Step.TheVariants as steps;
 ghost use Rattle.row_clauses.specs.Passing.{IsPassed, IsStepped};
 
 use crate::row::{is_within, value_on};
 use base_types::{Items, NoMemory};
-use expr_clause::{Clause, flag_in};
+use expr_clause::{Clause, Expr, flag_in};
 use frame_core::{CellRef, Frame};
 
 /// What a clause makes of a row.
@@ -68,18 +70,48 @@ fn one_clause<'a>(
 {
     match clause {
         Clause::DateRange(range) => Ok(kept(is_within(*range, frame.stamp(row)))),
-        Clause::Filter(expr) => match value_on(expr, spots, frame, row, made, operands)? {
-            Some(cell) => Ok(kept(flag_in(cell))),
-            None => Ok(Step::Overflows),
-        },
-        Clause::Apply { expr, .. } => match value_on(expr, spots, frame, row, made, operands)? {
-            Some(cell) => {
-                made.push(cell)?;
-                Ok(Step::GoesOn)
-            }
-            None => Ok(Step::Overflows),
-        },
+        Clause::Filter(expr) => filtered(expr, spots, frame, row, made, operands),
+        Clause::Apply { expr, .. } => applied(expr, spots, frame, row, made, operands),
         Clause::Group { .. } => Ok(Step::GoesOn),
+    }
+}
+
+/// What a filter makes of a row.
+fn filtered<'a>(
+    expr: &'a Expr,
+    spots: &[Option<usize>],
+    frame: &'a Frame,
+    row: u64,
+    made: &[CellRef<'a>],
+    operands: &mut Vec<CellRef<'a>>,
+) -> Result<Step, NoMemory>
+    requires { row < length frame.now.rows }
+    ensures { IfOk result (λ done. IsStepped (clauses.Filter expr.now) spots.now frame.now row made.now made.now done) }
+{
+    match value_on(expr, spots, frame, row, made, operands)? {
+        Some(cell) => Ok(kept(flag_in(cell))),
+        None => Ok(Step::Overflows),
+    }
+}
+
+/// What a computed column makes of a row, whatever its name.
+fn applied<'a>(
+    expr: &'a Expr,
+    spots: &[Option<usize>],
+    frame: &'a Frame,
+    row: u64,
+    made: &mut Vec<CellRef<'a>>,
+    operands: &mut Vec<CellRef<'a>>,
+) -> Result<Step, NoMemory>
+    requires { row < length frame.now.rows }
+    ensures { IfOk result (λ done. (name : Text) → IsStepped (clauses.Apply name expr.now) spots.now frame.now row made.old.items made.new.items done) }
+{
+    match value_on(expr, spots, frame, row, made, operands)? {
+        Some(cell) => {
+            made.push(cell)?;
+            Ok(Step::GoesOn)
+        }
+        None => Ok(Step::Overflows),
     }
 }
 

@@ -68,14 +68,29 @@ pub(crate) fn value_on<'a>(
     ensures { IfOk result (λ found. (columns : List Head) (layout : List ℕ) → spots.now ≡ map (spot columns layout) (columns_of expr.now)
         → option_map cell_of found ≡ value columns (lying (cells_at frame.now row made.now) layout) expr.now) }
 {
-    operands.clear();
-    for spot in spots {
-        operands.push(operand(frame, row, made, *spot))?;
-    }
+    find_operands(spots, frame, row, made, operands)?;
     match eval_cells(expr, operands) {
         Ok(cell) => Ok(Some(cell)),
         Err(_) => Ok(None),
     }
+}
+
+/// Puts the cells of the columns at these spots in the place of other operands.
+fn find_operands<'a>(
+    spots: &[Option<usize>],
+    frame: &'a Frame,
+    row: u64,
+    made: &[CellRef<'a>],
+    operands: &mut Vec<CellRef<'a>>,
+) -> Result<(), NoMemory>
+    requires { row < length frame.now.rows }
+    ensures { OnOk result (map cell_of operands.new.items ≡ map (operand (cells_at frame.now row made.now)) spots.now) }
+{
+    operands.clear();
+    for spot in spots {
+        operands.push(operand(frame, row, made, *spot))?;
+    }
+    Ok(())
 }
 
 /// Adds the row to those of a frame, its columns lying at these places.

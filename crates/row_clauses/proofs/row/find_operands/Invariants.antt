@@ -1,7 +1,7 @@
 use Rattle.std.proofs.Common.{◌≡◌, map, take}
 use Rattle.frame_core.specs.Frames.{cell_of}
 use Rattle.row_clauses.specs.Lying.{cells_at, operand}
-use Rattle.row_clauses.proofs.row.value_on.Given as goal
+use Rattle.row_clauses.proofs.row.find_operands.Given as goal
 
 -- the cells of the spots so far
 abbrev pub invariant-loop-spot : goal.invariant-loop-spot
