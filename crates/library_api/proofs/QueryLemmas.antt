@@ -58,29 +58,32 @@ clause_told n c s = unless_told (absent_from 1 s.columns (clause_columns c)) (re
 
 check_told : (n : ℕ) (cs : List Clause) (s : Schema) → IfErr (check_from n cs s) IsOfQuery
 check_told n [] s = tt
-check_told n (c ∷ cs) s = next (check_clause n c s) (clause_told n c s)
+check_told n (c ∷ cs) s = next (check_clause n c s) (clause_told n c s) (λ t. check_told (n + 1) cs t)
   where
-    next : (x : Result Schema Refusal) → IfErr x IsOfQuery → IfErr (elim x as (λ x. Result Schema Refusal) [ Err why ↦ Err why | Ok t ↦ check_from (n + 1) cs t ]) IsOfQuery
-    next (Ok t) told = check_told (n + 1) cs t
-    next (Err why) told = told
+    next : (x : Result Schema Refusal) → IfErr x IsOfQuery → ((t : Schema) → IfErr (check_from (n + 1) cs t) IsOfQuery)
+        → IfErr (elim x as (λ x. Result Schema Refusal) [ Err why ↦ Err why | Ok t ↦ check_from (n + 1) cs t ]) IsOfQuery
+    next (Ok t) told more = more t
+    next (Err why) told more = told
 
 -- ---- what the clauses make of the rows
 
 rows_told : (way : Row → Result (Option Row) ℕ) (n : ℕ) (rows : List Row) → IfErr (pass_rows way n rows) IsOfQuery
 rows_told way n [] = tt
-rows_told way n (row ∷ rows) = next (way row)
+rows_told way n (row ∷ rows) = next (way row) (rows_told way (n + 1) rows)
   where
-    next : (x : Result (Option Row) ℕ) → IfErr (elim x as (λ x. Result (List Row) Refusal) [ Err clause ↦ Err (refusals.Overflow clause n) | Ok kept ↦ then_map (cons_option kept) (pass_rows way (n + 1) rows) ]) IsOfQuery
-    next (Ok kept) = map_told (cons_option kept) (pass_rows way (n + 1) rows) (rows_told way (n + 1) rows)
-    next (Err clause) = refl
+    next : (x : Result (Option Row) ℕ) → IfErr (pass_rows way (n + 1) rows) IsOfQuery
+        → IfErr (elim x as (λ x. Result (List Row) Refusal) [ Err clause ↦ Err (refusals.Overflow clause n) | Ok kept ↦ then_map (cons_option kept) (pass_rows way (n + 1) rows) ]) IsOfQuery
+    next (Ok kept) more = map_told (cons_option kept) (pass_rows way (n + 1) rows) more
+    next (Err clause) more = refl
 
 groups_told : (clause n : ℕ) (list : List Agg) (lines : List Line) (ks : List Cell) → IfErr (groups_from clause n list lines ks) IsOfQuery
 groups_told clause n list lines [] = tt
-groups_told clause n list lines (k ∷ ks) = next (outputs list (cells_with k lines))
+groups_told clause n list lines (k ∷ ks) = next (outputs list (cells_with k lines)) (groups_told clause (n + 1) list lines ks)
   where
-    next : (x : Option (List Cell)) → IfErr (elim x as (λ x. Result (List Line) Refusal) [ None ↦ Err (refusals.GroupOverflow clause n) | Some cs ↦ then_map (λ more. (k, cs) ∷ more) (groups_from clause (n + 1) list lines ks) ]) IsOfQuery
-    next None = refl
-    next (Some cs) = map_told (λ more. (k, cs) ∷ more) (groups_from clause (n + 1) list lines ks) (groups_told clause (n + 1) list lines ks)
+    next : (x : Option (List Cell)) → IfErr (groups_from clause (n + 1) list lines ks) IsOfQuery
+        → IfErr (elim x as (λ x. Result (List Line) Refusal) [ None ↦ Err (refusals.GroupOverflow clause n) | Some cs ↦ then_map (λ more. (k, cs) ∷ more) (groups_from clause (n + 1) list lines ks) ]) IsOfQuery
+    next None told = refl
+    next (Some cs) told = map_told (λ more. (k, cs) ∷ more) (groups_from clause (n + 1) list lines ks) told
 
 finish_told : (n : ℕ) (c : Clause) (s : Schema) (rows : List Row) → IfErr (finish n c s rows) IsOfQuery
 finish_told n (clauses.Group key outs) s rows =

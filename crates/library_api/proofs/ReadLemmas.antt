@@ -7,6 +7,7 @@ use Rattle.base_types.specs.Faults.{Rose}
 use Rattle.frame_core.specs.declared.refusal.Refusal.{Refusal}
 use Rattle.frame_core.specs.declared.refusal.Refusal.TheVariants as refusals
 use Rattle.frame_core.specs.declared.refusal.Refused.{Refused}
+use Rattle.frame_core.specs.Refusals.{Answers}
 use Rattle.frame_core.specs.Texts.{Text}
 use Rattle.frame_core.specs.Ranges.{Range}
 use Rattle.frame_core.specs.Frames.{Frame, IsFrame}
@@ -284,14 +285,20 @@ module _ (symbol : Name) (as_of : AsOf) (range : Range) (columns : Option (List 
       asked_is given made =
           subst (λ r. query found.version.frame r columns clauses ≡ given) fetched.range_is (made found.version.frame columns whole.0 (subst (λ r. AreTilesOf found.version.frame r columns tiles) (sym fetched.range_is) whole.1))
 
-      pub query_refused_legal : (why : Refusal) → ((f : Frame) (names : Option (List Text)) → IsFrame f → AreTilesOf f tiles.range names tiles → query f tiles.range names clauses ≡ Err why)
+      query_refused : (why : Refusal) → ((f : Frame) (names : Option (List Text)) → IsFrame f → AreTilesOf f tiles.range names tiles → query f tiles.range names clauses ≡ Err why)
           → IsLegalForAll number before now old new asks (plain_reply target.place (outcomes.Refused why))
-      query_refused_legal why made =
+      query_refused why made =
           let asked : query found.version.frame range columns clauses ≡ Err why = asked_is (Err why) made in
           let told : cause_of why ≡ Told = subst (λ r. IfErr r (λ w. cause_of w ≡ Told)) asked (query_told found.version.frame range columns clauses) in
           read_legal number sole before now old new looks target.place (outcomes.Refused why) (target_within old mid more new target is_target is)
           (λ client faulted own rose. subst (λ cause. IsCaused new client asks (plain_reply target.place (outcomes.Refused why)) (record { start = length old; stop = length new; faulted = faulted }) why cause) (sym told)
           (inl (ap from_version found.read ∙ ap (from_frame found.version.number) asked, refl)))
+
+      -- the clauses are refused, or want memory
+      pub query_refused_legal : (why : Refusal) → ((f : Frame) (names : Option (List Text)) → IsFrame f → AreTilesOf f tiles.range names tiles → Answers (Err why) (query f tiles.range names clauses))
+          → IsLegalForAll number before now old new asks (plain_reply target.place (outcomes.Refused why))
+      query_refused_legal refusals.NoMemory made = no_memory_legal number sole before now old new looks target.place (target_within old mid more new target is_target is)
+      query_refused_legal why made = query_refused why made
 
       pub whole_legal : (frame : Frame) → ((f : Frame) (names : Option (List Text)) → IsFrame f → AreTilesOf f tiles.range names tiles → query f tiles.range names clauses ≡ Ok frame)
           → IsLegalForAll number before now old new asks (plain_reply target.place (outcomes.Whole target.version frame))

@@ -29,6 +29,7 @@ frame_of-requires g c = record {
     c.args.as_of.now,
     record { same_number = c.resolve.ensures.steady.same_number; stays_sole = c.resolve.ensures.steady.stays_sole; faults_rise = c.resolve.ensures.steady.faults_rise; looks = c.resolve.ensures.looks; target_is = c.in_ok-target.ensures.target },
   );
+  small = c.requires.small;
 }
 
 pub returns-in-Ok-clause-looks : goal.returns-in-Ok-clause-looks

@@ -3,6 +3,7 @@ use Rattle.frame_core.specs.Texts.{Text}
 use Rattle.frame_core.specs.Ranges.{Range}
 use Rattle.key_kind.specs.Names.{Name}
 use Rattle.expr_clause.specs.declared.clause.Clause.{Clause}
+use Rattle.expr_clause.specs.Fitting.{fits}
 use Rattle.expr_clause.specs.declared.command.AsOf.{AsOf}
 use Rattle.expr_clause.specs.declared.command.Command.{Command}
 use Rattle.expr_clause.specs.declared.command.Command.TheVariants as commands
@@ -12,14 +13,15 @@ use Rattle.library_api.proofs.StepLemmas.{any_command, none_lays}
 use Rattle.library_api.proofs.step.read_or_make.Goals as goal
 
 pub read-requires : goal.read-requires
-read-requires g c = record { small = subst (λ x. is_carried_out x ≡ true) c.in-Read.is c.requires.served }
+read-requires g c = record { small = subst (λ cs. fits cs ≡ true) (sym c.items-clauses.ensures) (subst (λ x. is_carried_out x ≡ true) c.in-Read.is c.requires.served) }
 
 pub returns-in-Read-clause-legal : goal.returns-in-Read-clause-legal
 returns-in-Read-clause-legal g c =
     any_command c.args.frames.now c.args.settings (g.B.Bucket.number c.args.bucket.now) (g.B.Bucket.limit c.args.bucket.now) (g.B.Bucket.faults c.args.bucket.now) (g.B.Bucket.faults c.read.new.bucket)
     (g.B.Bucket.seen c.args.bucket.now) (g.B.Bucket.seen c.read.new.bucket) c.args.command.now c.read.result
-    (commands.Read c.in-Read.symbol c.in-Read.as_of c.in-Read.range (option_copied c.columns-lent.result) c.in-Read.clauses)
-    (c.in-Read.is ∙ ap (λ names. commands.Read c.in-Read.symbol c.in-Read.as_of c.in-Read.range names c.in-Read.clauses) (sym c.columns-lent.ensures)) c.read.ensures.legal
+    (commands.Read c.in-Read.symbol c.in-Read.as_of c.in-Read.range (option_copied c.lent-columns.result) c.items-clauses.result.now)
+    (c.in-Read.is ∙ ap (λ names. commands.Read c.in-Read.symbol c.in-Read.as_of c.in-Read.range names c.in-Read.clauses) (sym c.lent-columns.ensures)
+    ∙ ap (commands.Read c.in-Read.symbol c.in-Read.as_of c.in-Read.range (option_copied c.lent-columns.result)) (sym c.items-clauses.ensures)) c.read.ensures.legal
 
 pub returns-in-Read-clause-lays : goal.returns-in-Read-clause-lays
 returns-in-Read-clause-lays g c grows =
