@@ -1,0 +1,10 @@
+pub mod Prints
+pub mod Shown
+pub mod Digits
+pub mod WordPairs
+pub mod Loading
+pub mod Ready
+pub mod Running
+pub mod Ended
+pub mod Told
+pub mod Alone
