@@ -1,3 +1,4 @@
+pub mod Lending
 pub mod Windows
 pub mod Events
 pub mod Talks

@@ -156,6 +156,7 @@ fn command_of(alloc: Global, ask: Ask, frames: &[RawFrame]) -> Result<Command, N
             as_of: AsOf::Back(1),
             range: everything(),
             columns: None,
+            clauses: Items::new(alloc),
         },
         Ask::Keys => Command::Keys { symbol },
         Ask::Reclaim => Command::Reclaim { symbol },

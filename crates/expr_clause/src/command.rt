@@ -1,3 +1,4 @@
+use crate::clause::Clause;
 use base_types::Items;
 use frame_core::{ColName, Range};
 use key_kind::{SnapName, Symbol};
@@ -110,11 +111,12 @@ pub enum Command {
     Symbols,
     /// The names that stand.
     Snapshots,
-    /// The rows of one version in a range, and the asked columns or all.
+    /// The rows of one version in a range, of these the asked columns or all, and what the clauses give of them.
     Read {
         symbol: Symbol,
         as_of: AsOf,
         range: Range,
         columns: Option<Items<ColName>>,
+        clauses: Items<Clause>,
     },
 }

@@ -130,7 +130,13 @@ fn is_plain_read(command: &Command) -> bool {
             as_of: AsOf::Back(1),
             range,
             columns: None,
-        } => symbol.name().text() == "X" && range.from().is_none() && range.to().is_none(),
+            clauses,
+        } => {
+            symbol.name().text() == "X"
+                && range.from().is_none()
+                && range.to().is_none()
+                && clauses.is_empty()
+        }
         _ => false,
     }
 }

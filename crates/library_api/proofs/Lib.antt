@@ -2,6 +2,7 @@ pub mod NoEvents
 pub mod VersionLemmas
 pub mod AskedLemmas
 pub mod GoneLemmas
+pub mod QueryLemmas
 pub mod ReadLemmas
 pub mod WriteLemmas
 pub mod KeyLemmas

@@ -2,13 +2,14 @@
 use Rattle.std.proofs.Common.{◌≡◌, ℕ, zero, suc, ◌+◌, ◌-◌, ◌≤◌, Bool, true, false, List, [], ◌∷◌, ◌++◌, length, take, refl, ap, sym, ◌∙◌, subst, inl, inr, cond, nat_eq, Option, None, arith, length-append}
 use Rattle.std.specs.Prelude.{⊤, ◌⊎◌, ◌&&◌, ◌||◌, filter, reverse, MatchBool}
 use Rattle.std.specs.List.{list_any, AllByRecursion}
-use Rattle.std.proofs.lemmas.Bool.{true≢false, ne_eqb}
+use Rattle.std.proofs.lemmas.Bool.{true≢false, ne_eqb, and_parts}
 use Rattle.bucket_core.specs.declared.event.Event.{Event}
 use Rattle.bucket_core.specs.History.{History, author, history_at, AllByOthers}
 use Rattle.bucket_core.specs.Laws.{Looks}
 use Rattle.store_model.specs.declared.snapshot.SnapBody.{SnapBody}
 use Rattle.store_model.specs.Law.{IsClaimed}
 use Rattle.version_chain.specs.States.{IsWithin}
+use Rattle.expr_clause.specs.Fitting.{fits}
 use Rattle.expr_clause.specs.declared.command.Command.{Command}
 use Rattle.reply_model.specs.declared.outcome.Outcome.TheVariants as outcomes
 use Rattle.frame_core.specs.declared.refusal.Refusal.TheVariants as refusals
@@ -24,7 +25,7 @@ use Rattle.reply_model.specs.Legal.{IsListedOf, IsListed, IsListedWithin, IsLega
 use Rattle.reply_model.proofs.Places.{history_at_end, within_is_behind}
 use Rattle.version_chain.specs.Traces.{GoesOn}
 use Rattle.frame_write.proofs.LegalLemmas.{no_places, is_refer}
-use Rattle.library_api.specs.Steps.{carries, is_carried_out, plain_reply, IsLegalIn}
+use Rattle.library_api.specs.Steps.{carries, clauses_of, is_carried_out, plain_reply, IsLegalIn}
 
 -- ---- no event of the window is the client's
 
@@ -87,7 +88,11 @@ none_left (Holds snap picks) out reply known before = absurd (true≢false (sym 
 none_left (Unholds snap) out reply known before = absurd (true≢false (sym out))
 none_left k out reply known before = refl
 
-pub served_has_none : (c : Command) → is_carried_out c ≡ true → HasNone c
+-- a command that is carried out is of a kind that is
+pub carried_kind : (c : Command) → is_carried_out c ≡ true → carries (kind_of c) ≡ true
+carried_kind c out = (and_parts (carries (kind_of c)) (fits (clauses_of c)) out).0
+
+pub served_has_none : (c : Command) → carries (kind_of c) ≡ true → HasNone c
 served_has_none c out = record {
   listed = λ reply own e. none_listed (kind_of c) out reply own e;
   own = λ h s w reply. none_done (kind_of c) out h s w reply;
@@ -164,7 +169,7 @@ looks_go_on client sole old new looks = record {
 pub wants_memory : (client : Client) (c : Command) → is_carried_out c ≡ true → (before now : ℕ) (old : History) (place : ℕ) → place ≡ length old
     → IsLegalIn client before now old old c (plain_reply place (outcomes.Refused refusals.NoMemory))
 wants_memory client c served before now old place here faulted rose =
-    legal_without_events client c (plain_reply place (outcomes.Refused refusals.NoMemory)) old old faulted (served_has_none c served) true (looks_none client.session.client true old)
+    legal_without_events client c (plain_reply place (outcomes.Refused refusals.NoMemory)) old old faulted (served_has_none c (carried_kind c served)) true (looks_none client.session.client true old)
     refl refl refl (record { from = omega (arith, here); to = omega (arith, here) }) (λ cut. absurd (true≢false cut)) (free c place faulted)
   where
     free : (c : Command) (place : ℕ) (faulted : Bool) → IsLegalOutcome old client c (plain_reply place (outcomes.Refused refusals.NoMemory)) (record { start = length old; stop = length old; faulted = faulted }) (outcomes.Refused refusals.NoMemory)

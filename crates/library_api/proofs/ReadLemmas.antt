@@ -7,6 +7,7 @@ use Rattle.base_types.specs.Faults.{Rose}
 use Rattle.frame_core.specs.declared.refusal.Refusal.{Refusal}
 use Rattle.frame_core.specs.declared.refusal.Refusal.TheVariants as refusals
 use Rattle.frame_core.specs.declared.refusal.Refused.{Refused}
+use Rattle.frame_core.specs.Refusals.{Answers}
 use Rattle.frame_core.specs.Texts.{Text}
 use Rattle.frame_core.specs.Ranges.{Range}
 use Rattle.frame_core.specs.Frames.{Frame, IsFrame}
@@ -23,15 +24,18 @@ use Rattle.store_model.specs.Law.{IsClaimed, IsLawful}
 use Rattle.store_model.proofs.Lists.{one_passes, passes}
 use Rattle.version_chain.specs.States.{IsWithin}
 use Rattle.version_chain.proofs.Walked.{looks_length}
+use Rattle.expr_clause.specs.Asking.{apply_clauses}
+use Rattle.expr_clause.specs.declared.clause.Clause.{Clause}
 use Rattle.expr_clause.specs.declared.command.AsOf.{AsOf}
 use Rattle.expr_clause.specs.declared.command.Command.{Command}
 use Rattle.expr_clause.specs.declared.command.Command.TheVariants as commands
 use Rattle.reply_model.specs.declared.outcome.Outcome.{Outcome}
 use Rattle.reply_model.specs.declared.outcome.Outcome.TheVariants as outcomes
 use Rattle.reply_model.specs.Answering.{◌then◌, answered, Answer}
-use Rattle.reply_model.specs.ReadAnswers.{read_version, select_columns, ask}
+use Rattle.reply_model.specs.ReadAnswers.{read_version, version_answer, select_columns, ask, query}
 use Rattle.reply_model.specs.Windows.{Client, library_at}
-use Rattle.reply_model.specs.Legal.{IsLegalOutcome}
+use Rattle.reply_model.specs.Kinds.{cause_of, Told}
+use Rattle.reply_model.specs.Legal.{IsCaused, IsLegalOutcome}
 use Rattle.reply_model.proofs.Later.{history_at_later}
 use Rattle.key_kind.specs.declared.key.Key.{Key}
 use Rattle.reply_model.specs.Causes.{IsReadKey}
@@ -46,6 +50,7 @@ use Rattle.frame_read.proofs.FetchLemmas.{links_later}
 use Rattle.frame_read.proofs.ResolvingLemmas.{lawful_at}
 use Rattle.library_api.specs.Steps.{plain_reply, refusal_reply, IsLegalForAll}
 use Rattle.library_api.proofs.NoEvents.{served_has_none, legal_without_events}
+use Rattle.library_api.proofs.QueryLemmas.{query_told}
 use Rattle.library_api.proofs.VersionLemmas.{version_later, read_is_version}
 use Rattle.library_api.proofs.AskedLemmas.{refused_by_schema, answered_by_schema, index_schema, fetched_version}
 use Rattle.library_api.proofs.GoneLemmas.{unnamed_up_to}
@@ -55,16 +60,19 @@ pub err_holds : {A E : Type 0} (P : E → Type 0) (r : Result A E) (x : E) → I
 err_holds P (Ok a) x is same p = absurd cc
 err_holds P (Err y) x is same p = subst P (sym same) p
 
-module _ (symbol : Name) (as_of : AsOf) (range : Range) (columns : Option (List Text)) where
+module _ (symbol : Name) (as_of : AsOf) (range : Range) (columns : Option (List Text)) (clauses : List Clause) where
   abbrev asks : Command
-  asks = commands.Read symbol as_of range columns
+  asks = commands.Read symbol as_of range columns clauses
 
   -- what the one-thread library answers by what is read
   abbrev from_version : Result Version Refusal → Option Answer
-  from_version r = Some (answered (r then λ v. ask v.frame range columns then λ f. Ok (record { outcome = outcomes.Whole v.number f; marks = [] })))
+  from_version r = Some (answered (r then λ v. version_answer v range columns clauses))
 
   abbrev from_frame : ℕ → Result Frame Refusal → Option Answer
   from_frame n r = Some (answered (r then λ f. Ok (record { outcome = outcomes.Whole n f; marks = [] })))
+
+  abbrev from_asked : ℕ → Result Frame Refusal → Option Answer
+  from_asked n r = from_frame n (r then apply_clauses clauses)
 
   module _ (number : ℕ) (sole : Bool) (before now : ℕ) (old new : History) (looks : Looks IsClaimed number sole old new) where
     -- a reply of a read is legal where its place lies in the window and its outcome has its clause
@@ -191,7 +199,7 @@ module _ (symbol : Name) (as_of : AsOf) (range : Range) (columns : Option (List 
         subst (λ why. IsLegalForAll number before now old new asks (plain_reply refused.place (outcomes.Refused why))) which.1
         (subst (λ place. IsLegalForAll number before now old new asks (plain_reply place (outcomes.Refused (refusals.NoSuchColumn 0 which.0)))) (sym lacks.place)
         (read_legal number sole before now old new looks target.place (outcomes.Refused (refusals.NoSuchColumn 0 which.0)) (target_within old mid more new target is_target is)
-        (λ client faulted own rose. inl (ap from_version found.read ∙ (ap (from_frame found.version.number) (asked ∙ ap Err (sym which.1))), refl))))
+        (λ client faulted own rose. inl (ap from_version found.read ∙ (ap (from_asked found.version.number) (asked ∙ ap Err (sym which.1))), refl))))
 
     -- a key that the fetch gets is one that the read gets
     read_key_of : (place : ℕ) (link : Linked) (key : Key) → Contains (links (history_at new place) target.symbol) link → link.row.version ≡ target.version → IsFetchKey range columns link key → IsReadKey found.version.frame range columns link key
@@ -271,10 +279,30 @@ module _ (symbol : Name) (as_of : AsOf) (range : Range) (columns : Option (List 
         tiles_of = subst (λ r. AreTilesOf found.version.frame r columns tiles) (sym fetched.range_is) whole.1;
       }
 
-      pub whole_legal : (frame : Frame) → ((f : Frame) (names : Option (List Text)) → IsFrame f → AreTilesOf f tiles.range names tiles → ask f tiles.range names ≡ Ok frame)
+      -- what the query gives of the tiles is what it gives of the version's frame
+      asked_is : (given : Result Frame Refusal) → ((f : Frame) (names : Option (List Text)) → IsFrame f → AreTilesOf f tiles.range names tiles → query f tiles.range names clauses ≡ given)
+          → query found.version.frame range columns clauses ≡ given
+      asked_is given made =
+          subst (λ r. query found.version.frame r columns clauses ≡ given) fetched.range_is (made found.version.frame columns whole.0 (subst (λ r. AreTilesOf found.version.frame r columns tiles) (sym fetched.range_is) whole.1))
+
+      query_refused : (why : Refusal) → ((f : Frame) (names : Option (List Text)) → IsFrame f → AreTilesOf f tiles.range names tiles → query f tiles.range names clauses ≡ Err why)
+          → IsLegalForAll number before now old new asks (plain_reply target.place (outcomes.Refused why))
+      query_refused why made =
+          let asked : query found.version.frame range columns clauses ≡ Err why = asked_is (Err why) made in
+          let told : cause_of why ≡ Told = subst (λ r. IfErr r (λ w. cause_of w ≡ Told)) asked (query_told found.version.frame range columns clauses) in
+          read_legal number sole before now old new looks target.place (outcomes.Refused why) (target_within old mid more new target is_target is)
+          (λ client faulted own rose. subst (λ cause. IsCaused new client asks (plain_reply target.place (outcomes.Refused why)) (record { start = length old; stop = length new; faulted = faulted }) why cause) (sym told)
+          (inl (ap from_version found.read ∙ ap (from_frame found.version.number) asked, refl)))
+
+      -- the clauses are refused, or want memory
+      pub query_refused_legal : (why : Refusal) → ((f : Frame) (names : Option (List Text)) → IsFrame f → AreTilesOf f tiles.range names tiles → Answers (Err why) (query f tiles.range names clauses))
+          → IsLegalForAll number before now old new asks (plain_reply target.place (outcomes.Refused why))
+      query_refused_legal refusals.NoMemory made = no_memory_legal number sole before now old new looks target.place (target_within old mid more new target is_target is)
+      query_refused_legal why made = query_refused why made
+
+      pub whole_legal : (frame : Frame) → ((f : Frame) (names : Option (List Text)) → IsFrame f → AreTilesOf f tiles.range names tiles → query f tiles.range names clauses ≡ Ok frame)
           → IsLegalForAll number before now old new asks (plain_reply target.place (outcomes.Whole target.version frame))
       whole_legal frame made =
-          let asked : ask found.version.frame range columns ≡ Ok frame =
-          subst (λ r. ask found.version.frame r columns ≡ Ok frame) fetched.range_is (made found.version.frame columns whole.0 (subst (λ r. AreTilesOf found.version.frame r columns tiles) (sym fetched.range_is) whole.1)) in
+          let asked : query found.version.frame range columns clauses ≡ Ok frame = asked_is (Ok frame) made in
           read_legal number sole before now old new looks target.place (outcomes.Whole target.version frame) (target_within old mid more new target is_target is)
           (λ client faulted own rose. inl (ap from_version found.read ∙ (ap (from_frame found.version.number) asked ∙ ap (λ n. Some (record { outcome = outcomes.Whole n frame; marks = [] })) found.number), refl))

@@ -81,6 +81,7 @@ served_or_reclaim : (command : Command) → is_carried_out command ≡ true → 
 served_or_reclaim (commands.Reclaim symbol) out = inr (symbol, refl)
 served_or_reclaim commands.Symbols out = inl refl
 served_or_reclaim commands.Snapshots out = inl refl
+served_or_reclaim (commands.Read symbol as_of range columns clauses) out = inl refl
 served_or_reclaim command out = inl out
 
 -- a command that is served is no reclaim

@@ -30,7 +30,7 @@ use Rattle.segment_cut.specs.Cuttings.{Cutting}
 use Rattle.segment_cut.specs.Grids.{parts, grid_of}
 use Rattle.std.proofs.lemmas.Bool.{true≢false}
 use Rattle.library_api.specs.Frames.{IsLegalForTable, IsLegalWithStamp, RefusesTable, IsWrittenAlone, StandsBehindPuts}
-use Rattle.library_api.proofs.NoEvents.{served_has_none, legal_without_events, wants_memory}
+use Rattle.library_api.proofs.NoEvents.{carried_kind, served_has_none, legal_without_events, wants_memory}
 
 -- ---- what a frame is refused for
 
@@ -101,7 +101,7 @@ module _ (command : ℕ → Option ℤ → Command) (limit number tries : ℕ) (
         → IsLegalRefusal old client (command n asked) (plain_reply place (outcomes.Refused why)) w why)
         → IsLegalForTable limit number tries table at command before now old old (plain_reply place (outcomes.Refused why))
     untried why clause s n asked brings faulted rose =
-        let has = served_has_none (command n asked) (takes.carried n asked) in
+        let has = served_has_none (command n asked) (carried_kind (command n asked) (takes.carried n asked)) in
         let w : Window = record { start = length old; stop = length old; faulted = faulted } in
         legal_without_events (record { session = s; limit = limit }) (command n asked) (plain_reply place (outcomes.Refused why)) old old faulted has true (looks_none s.client true old)
         refl refl refl (record { from = omega (arith, here); to = omega (arith, here) })

@@ -9,15 +9,17 @@
 --     IsLegalWithTries    it is legal whatever the session brings beside its tries
 --     IsIsolatedIn        alone on its symbol, a step answers what it would answer where its window begins
 --     LooksFirst, IsStepAlone      where nobody else makes events, a reclaim looked where it began, and a step is that of one client alone
-use Rattle.std.specs.Prelude.{◌≡◌, ℕ, ◌<◌, Bool, true, false, List, [], map, length, Option, Some, None, IfSome}
+use Rattle.std.specs.Prelude.{◌≡◌, ℕ, ◌<◌, Bool, true, false, ◌&&◌, List, [], map, length, Option, Some, None, IfSome}
 use Rattle.base_types.specs.Faults.{Rose}
 use Rattle.frame_core.specs.declared.raw.RawFrame.{RawFrame}
 use Rattle.frame_core.specs.declared.refusal.Refused.{Refused}
 use Rattle.frame_core.specs.RawFrames.{table_of}
 use Rattle.bucket_core.specs.History.{History}
 use Rattle.store_model.specs.Law.{IsLawful}
+use Rattle.expr_clause.specs.declared.clause.Clause.{Clause}
 use Rattle.expr_clause.specs.declared.command.Command.{Command}
 use Rattle.expr_clause.specs.declared.command.Command.TheVariants as commands
+use Rattle.expr_clause.specs.Fitting.{fits}
 use Rattle.reply_model.specs.declared.outcome.Outcome.{Outcome}
 use Rattle.reply_model.specs.declared.outcome.Outcome.TheVariants as outcomes
 use Rattle.reply_model.specs.declared.reply.Reply.{Reply}
@@ -42,9 +44,14 @@ carries (Holds snap picks) = false
 carries (Unholds snap) = false
 carries _ = true
 
--- a command that a step carries out
+-- the clauses of a command; only a read has some
+abbrev pub clauses_of : Command → List Clause
+clauses_of (commands.Read symbol as_of range columns clauses) = clauses
+clauses_of _ = []
+
+-- a command that a step carries out: one of these kinds, whose clauses are within their limits
 abbrev pub is_carried_out : Command → Bool
-is_carried_out c = carries (kind_of c)
+is_carried_out c = carries (kind_of c) && fits (clauses_of c)
 
 -- of these, the kinds of command that read a symbol or make a version of it
 abbrev pub reads_or_makes : Kind → Bool

@@ -21,7 +21,7 @@ use crate::versions::versions;
 use crate::writing::write;
 use base_types::Items;
 use bucket_core::Bucket;
-use expr_clause::Command;
+use expr_clause::{Command, fits};
 use frame_core::RawFrame;
 use reply_model::Reply;
 use std::alloc::Global;
@@ -82,7 +82,12 @@ fn read_or_make<R: Wait, B: Bucket<StoreLaw>>(
             as_of,
             range,
             columns,
-        } => read(rt, alloc, bucket, symbol, as_of, *range, lent(columns)),
+            clauses,
+        } => {
+            let columns = lent(columns);
+            let clauses = clauses.items();
+            read(rt, alloc, bucket, symbol, as_of, *range, columns, clauses)
+        }
         Command::Keys { symbol } => keys(rt, alloc, bucket, symbol),
         Command::Versions { symbol } => versions(rt, alloc, bucket, symbol),
         _ => make_version(rt, alloc, bucket, settings, command, frames),
@@ -154,20 +159,21 @@ fn make_version<R: Wait, B: Bucket<StoreLaw>>(
     }
 }
 
-/// Whether a step carries out the command.
+/// Whether a step carries out the command. It does so to a read whose clauses are within their limits.
 pub fn is_carried_out(command: &Command) -> bool
     ensures { result ≡ is_carried_out command.now }
 {
-    !matches!(
-        command,
+    match command {
+        Command::Read { clauses, .. } => fits(clauses.items()),
         Command::Stage { .. }
-            | Command::Finalize { .. }
-            | Command::Discard { .. }
-            | Command::Snapshot { .. }
-            | Command::DeleteSnapshot { .. }
-            | Command::Symbols
-            | Command::Snapshots
-    )
+        | Command::Finalize { .. }
+        | Command::Discard { .. }
+        | Command::Snapshot { .. }
+        | Command::DeleteSnapshot { .. }
+        | Command::Symbols
+        | Command::Snapshots => false,
+        _ => true,
+    }
 }
 
 /// The frame of this number, counted from 0.

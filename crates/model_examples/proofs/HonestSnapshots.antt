@@ -216,7 +216,7 @@ reclaim_of_nothing_is_legal = record {
 
 -- ---- a read through the snapshot
 
-pub snapshot_read_is_legal : IsLegalSeen kept.deleted one (commands.Read S (moments.Snapshot k) everything None) (reply 9 [] (outcomes.Whole 0 w.table)) (window 9 9)
+pub snapshot_read_is_legal : IsLegalSeen kept.deleted one (commands.Read S (moments.Snapshot k) everything None []) (reply 9 [] (outcomes.Whole 0 w.table)) (window 9 9)
 unfolding snap_of key_at key_text signed_text
 snapshot_read_is_legal = record {
   after = lit≤ tt;
@@ -354,7 +354,7 @@ reclaim_is_legal = record {
 
 -- ---- the snapshot stands no more
 
-pub gone_read_is_legal : IsLegalSeen kept.freed one (commands.Read S (moments.Snapshot k) everything None) (reply 14 [] (outcomes.Refused refusals.NoSuchSnapshot)) (window 14 14)
+pub gone_read_is_legal : IsLegalSeen kept.freed one (commands.Read S (moments.Snapshot k) everything None []) (reply 14 [] (outcomes.Refused refusals.NoSuchSnapshot)) (window 14 14)
 unfolding snap_of key_at key_text signed_text
 gone_read_is_legal = record {
   after = lit≤ tt;
@@ -368,8 +368,8 @@ gone_read_is_legal = record {
 
 -- the whole session
 pub snapshot_session : Legal kept.freed one 0
-    (commands.Write S 0 (Some (pos 50)) false ∷ commands.Snapshot k [] ∷ commands.Delete S (Some (0 ∷ [])) ∷ commands.Reclaim S ∷ commands.Read S (moments.Snapshot k) everything None
-    ∷ commands.DeleteSnapshot k ∷ commands.Reclaim S ∷ commands.Read S (moments.Snapshot k) everything None ∷ [])
+    (commands.Write S 0 (Some (pos 50)) false ∷ commands.Snapshot k [] ∷ commands.Delete S (Some (0 ∷ [])) ∷ commands.Reclaim S ∷ commands.Read S (moments.Snapshot k) everything None []
+    ∷ commands.DeleteSnapshot k ∷ commands.Reclaim S ∷ commands.Read S (moments.Snapshot k) everything None [] ∷ [])
     (reply 4 (4 ∷ []) (outcomes.Committed 0) ∷ kept_reply ∷ reply 9 (9 ∷ []) (outcomes.Deleted 1) ∷ reply 9 [] (outcomes.Freed 0 0 0) ∷ reply 9 [] (outcomes.Whole 0 w.table)
     ∷ reply 10 (12 ∷ []) outcomes.Unkept ∷ reply 12 [] (outcomes.Freed 1 1 0) ∷ reply 14 [] (outcomes.Refused refusals.NoSuchSnapshot) ∷ [])
     (false ∷ false ∷ false ∷ false ∷ false ∷ false ∷ false ∷ false ∷ [])

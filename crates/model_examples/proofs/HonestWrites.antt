@@ -49,7 +49,7 @@ abbrev pub everything : Range
 everything = record { from = None; to = None }
 
 abbrev pub reads : Command
-reads = commands.Read S (moments.Back 1) everything None
+reads = commands.Read S (moments.Back 1) everything None []
 
 abbrev pub window : ℕ → ℕ → Window
 window start stop = record { start = start; stop = stop; faulted = false }

@@ -237,7 +237,7 @@ no_fault_without_a_fault l = shown l.0 l.1 l.2
     shown (w ∷ v ∷ ws) e l = absurd l.2
 
 -- a read that answers Moved
-pub no_read_is_moved : IsLegalReply (commit 2 0 (changes.Held (holder 2 0) 0 ∷ []) ∷ []) client (commands.Read S (moments.Back 1) everything None) (reply 1 [] (outcomes.Refused (refusals.Moved 1))) (window 0 1) → ⊥
+pub no_read_is_moved : IsLegalReply (commit 2 0 (changes.Held (holder 2 0) 0 ∷ []) ∷ []) client (commands.Read S (moments.Back 1) everything None []) (reply 1 [] (outcomes.Refused (refusals.Moved 1))) (window 0 1) → ⊥
 no_read_is_moved l = true≢false (sym l.1.outcome.1.0)
 
 abbrev discarded : History
@@ -276,11 +276,11 @@ no_spent_below_the_limit l = none_below l.1.outcome.full
     none_below e = omega (arith, e)
 
 -- a read of a live version that answers that it is gone
-pub no_gone_version_that_is_live : IsLegalReply w.written client (commands.Read S (moments.Back 1) everything None) (reply 4 [] (outcomes.Refused (refusals.VersionGone 0))) (window 4 4) → ⊥
+pub no_gone_version_that_is_live : IsLegalReply w.written client (commands.Read S (moments.Back 1) everything None []) (reply 4 [] (outcomes.Refused (refusals.VersionGone 0))) (window 4 4) → ⊥
 no_gone_version_that_is_live l = true≢false (sym l.1.outcome.buried)
 
 -- a read at a place before its window
-pub no_read_before_its_window : IsLegalReply w.written client (commands.Read S (moments.Back 1) everything None) (reply 0 [] (outcomes.Refused refusals.NoSuchSymbol)) (window 4 4) → ⊥
+pub no_read_before_its_window : IsLegalReply w.written client (commands.Read S (moments.Back 1) everything None []) (reply 0 [] (outcomes.Refused refusals.NoSuchSymbol)) (window 4 4) → ⊥
 no_read_before_its_window l = none_below l.1.after
   where
     none_below : 4 ≤ 0 → ⊥

@@ -75,7 +75,7 @@ abbrev whole : ℕ → List (ℕ × ℕ) → Option Answer
 whole version lines = tells (outcomes.Whole version (frame lines))
 
 abbrev reads : History → AsOf → Option Answer
-reads h as_of = asked h (commands.Read S as_of everything None)
+reads h as_of = asked h (commands.Read S as_of everything None [])
 
 -- ---- write and append
 
@@ -132,10 +132,10 @@ an_update_is_read = refl
 a_cleared_range_is_not_read : reads after_clear (moments.Back 1) ≡ whole 1 ((10, 1) ∷ (20, 2) ∷ (60, 6) ∷ [])
 a_cleared_range_is_not_read = refl
 
-a_range_includes_both_ends : asked after_append (commands.Read S (moments.Back 1) (from_to 2 2) None) ≡ whole 1 ((2, 101) ∷ (2, 102) ∷ [])
+a_range_includes_both_ends : asked after_append (commands.Read S (moments.Back 1) (from_to 2 2) None []) ≡ whole 1 ((2, 101) ∷ (2, 102) ∷ [])
 a_range_includes_both_ends = refl
 
-an_absent_column_is_refused_by_its_position : asked after_append (commands.Read S (moments.Back 1) everything (Some ((97 ∷ []) ∷ (98 ∷ []) ∷ []))) ≡ refuses (refusals.NoSuchColumn 0 2)
+an_absent_column_is_refused_by_its_position : asked after_append (commands.Read S (moments.Back 1) everything (Some ((97 ∷ []) ∷ (98 ∷ []) ∷ [])) []) ≡ refuses (refusals.NoSuchColumn 0 2)
 an_absent_column_is_refused_by_its_position = refl
 
 the_second_newest_is_read : reads after_two_writes (moments.Back 2) ≡ whole 0 ((1, 1) ∷ [])
@@ -153,7 +153,7 @@ a_moment_before_all_versions_is_refused = refl
 a_moment_takes_the_newest_version_up_to_it : reads after_two_writes (moments.Moment (pos 55)) ≡ whole 0 ((1, 1) ∷ [])
 a_moment_takes_the_newest_version_up_to_it = refl
 
-a_read_of_no_symbol_is_refused : asked after_append (commands.Read X (moments.Back 1) everything None) ≡ refuses refusals.NoSuchSymbol
+a_read_of_no_symbol_is_refused : asked after_append (commands.Read X (moments.Back 1) everything None []) ≡ refuses refusals.NoSuchSymbol
 a_read_of_no_symbol_is_refused = refl
 
 a_read_of_buried_versions_is_refused : reads after_prune (moments.Back 1) ≡ refuses (refusals.NoSuchVersion (asks.Back 1))

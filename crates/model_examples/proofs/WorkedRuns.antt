@@ -48,10 +48,10 @@ abbrev write : ℕ → Command
 write n = commands.Write S n None false
 
 abbrev read : Command
-read = commands.Read S (moments.Back 1) everything None
+read = commands.Read S (moments.Back 1) everything None []
 
 abbrev read_through : Command
-read_through = commands.Read S (moments.Snapshot k) everything None
+read_through = commands.Read S (moments.Snapshot k) everything None []
 
 abbrev finalize : Bool → Command
 finalize sorted = commands.Finalize S false sorted None false

@@ -26,6 +26,7 @@ loaded_command n (commands.Snapshot snap picks) loaded = absurd loaded
 loaded_command n (commands.DeleteSnapshot snap) loaded = absurd loaded
 loaded_command n commands.Symbols loaded = absurd loaded
 loaded_command n commands.Snapshots loaded = absurd loaded
+loaded_command n (commands.Read symbol as_of range columns clauses) loaded = tt
 loaded_command n c loaded = loaded
 
 -- the commands of one part

@@ -51,6 +51,7 @@ fn read(alloc: Global, name: &str) -> Result<Command, Fail>
         as_of: AsOf::Back(1),
         range: Range::make(None, None).unwrap(),
         columns: None,
+        clauses: Items::new(alloc),
     })
 }
 

@@ -151,7 +151,7 @@ not_gone symbol (moments.Moment t) range columns number reply old faulted after 
 
 -- nothing is gone to a command where nothing was added
 nothing_gone : (command : Command) (reply : Reply) (old : History) (faulted : Bool) → length old ≤ reply.place → reply.place ≤ length old → Gone old command reply (added [] old faulted) → ⊥
-nothing_gone (commands.Read symbol as_of range columns) reply old faulted after before gone = not_gone symbol as_of range columns gone.0 reply old faulted after before gone.1
+nothing_gone (commands.Read symbol as_of range columns clauses) reply old faulted after before gone = not_gone symbol as_of range columns gone.0 reply old faulted after before gone.1
 nothing_gone command reply old faulted after before gone = gone
 
 -- such a command, where nothing was added
@@ -173,7 +173,7 @@ reads k = false
 
 -- something is gone only to a command that reads
 gone_to_none : (h : History) (command : Command) (reply : Reply) (w : Window) → reads (kind_of command) ≡ false → Gone h command reply w → ⊥
-gone_to_none h (commands.Read symbol as_of range columns) reply w other gone = true≢false other
+gone_to_none h (commands.Read symbol as_of range columns clauses) reply w other gone = true≢false other
 gone_to_none h command reply w other gone = gone
 
 module _ (c : Cutting) (client : Client) (command : Command) (reply : Reply) (more old : History) (faulted : Bool) (heard : Heard client command reply more old faulted) (told : is_told command ≡ true) where

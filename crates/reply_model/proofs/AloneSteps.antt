@@ -21,12 +21,11 @@ use Rattle.reply_model.specs.CommitAnswers.{burial_answer}
 use Rattle.reply_model.specs.Kinds.{Kind, kind_of, Makes, Finalizes, Buries, Discards, Reads}
 use Rattle.reply_model.specs.Answering.{Session, Answer, ◌then◌, answered, committed, version_or, or_refuse}
 use Rattle.reply_model.specs.Answers.{made_answer, read_answer, answer_of, answer, symbol_row}
-use Rattle.reply_model.specs.ReadAnswers.{versions_answer, read_version, back, numbered, picked}
+use Rattle.reply_model.specs.ReadAnswers.{version_answer, versions_answer, read_version, back, numbered, picked}
 use Rattle.reply_model.specs.Windows.{symbol_of}
 use Rattle.reply_model.specs.Blocks.{Cutting}
 use Rattle.reply_model.specs.Sole.{Alone, events_of, committing, answering, list_place_of, list_place, plain_reply, next_turn, step_alone}
 use Rattle.reply_model.specs.Standing.{HasShape, IsCutBy, StandsAs, StepsTo, is_served_of}
-use Rattle.reply_model.proofs.Isolated.{whole}
 use Rattle.reply_model.proofs.Quiet.{is_plain_of}
 use Rattle.reply_model.proofs.AloneWindows.{IsKept}
 
@@ -56,7 +55,7 @@ abbrev pub is_told : Command → Bool
 is_told c = is_told_of (kind_of c)
 
 read_told : (l m : Library) (c : Command) → TellsSame l m → read_answer l c ≡ read_answer m c
-read_told l m (commands.Read a as_of range columns) same = ap (λ v. Some (answered (v then λ x. whole x range columns))) (read_same l m a as_of same)
+read_told l m (commands.Read a as_of range columns clauses) same = ap (λ v. Some (answered (v then λ x. version_answer x range columns clauses))) (read_same l m a as_of same)
 read_told l m (commands.Versions a) same = ap (λ (st : State). Some (answered (versions_answer st))) (same.states a)
 read_told l m c same = refl
 

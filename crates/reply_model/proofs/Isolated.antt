@@ -27,6 +27,7 @@ use Rattle.reply_model.specs.declared.outcome.Outcome.TheVariants as outcomes
 use Rattle.reply_model.specs.declared.reply.Reply.{Reply}
 use Rattle.reply_model.specs.CommitAnswers.{burial_answer}
 use Rattle.reply_model.specs.Kinds.{Kind, kind_of, kind_symbol, Makes, Finalizes, Buries, Discards, Reads}
+use Rattle.expr_clause.specs.declared.clause.Clause.{Clause}
 use Rattle.reply_model.specs.Answering.{Session, Answer, ◌then◌, answered, stamp_of, version_or, refuse_if, or_refuse}
 use Rattle.reply_model.specs.Answers.{made_answer, finalized_answer, read_answer, answer_of, answer}
 use Rattle.reply_model.specs.ReadAnswers.{read_version, ask}
@@ -41,10 +42,6 @@ use Rattle.reply_model.proofs.Places.{history_at_end, is_refer_of, refer_listed,
 use Rattle.reply_model.proofs.Quiet.{is_plain_of, is_plain, Quiet, others_unnamed, state_kept, staged_kept, own_stages_nothing}
 
 -- ---- answers by the state alone
-
--- what a read answers of a version
-abbrev pub whole : Version → Range → Option (List Text) → Result Answer Refusal
-whole v range columns = ask v.frame range columns then λ f. Ok (record { outcome = outcomes.Whole v.number f; marks = [] })
 
 pub some_name : (a b : Name) → Some a ≡ Some b → a ≡ b
 some_name a b e = cc
@@ -66,7 +63,7 @@ same_named l m o symbol named e = subst (λ x. state_named l x ≡ state_named m
 
 -- a read that is through no snapshot goes by the state of its symbol
 read_by_state : (l m : Library) (c : Command) → reads_snapshot c ≡ false → state_named l (symbol_of c) ≡ state_named m (symbol_of c) → read_answer l c ≡ read_answer m c
-read_by_state l m (commands.Read a (moments.Snapshot name) range columns) snap same = absurd (true≢false snap)
+read_by_state l m (commands.Read a (moments.Snapshot name) range columns clauses) snap same = absurd (true≢false snap)
 read_by_state l m c snap same = ap (λ (st : State). read_answer (record l { state = λ x. st }) c) same
 
 -- a finalize goes by the pieces that were staged at its list
@@ -98,7 +95,7 @@ Met h client c reply w = (symbol : Name) × (now : ℕ) × MeetsOn h c reply sym
 
 -- a version that was read is gone
 abbrev pub Gone : History → Command → Reply → Window → Type 0
-Gone h (commands.Read symbol as_of range columns) reply w = (number : ℕ) × IsVersionGone h symbol as_of range columns number reply.place w
+Gone h (commands.Read symbol as_of range columns clauses) reply w = (number : ℕ) × IsVersionGone h symbol as_of range columns number reply.place w
 Gone h c reply w = ⊥
 
 plain_refusal : (h : History) (client : Client) (c : Command) (reply : Reply) (w : Window) (why : Refusal) → is_plain c ≡ true → is_cut (outcomes.Refused why) ≡ false → IsLegalRefusal h client c reply w why
@@ -107,7 +104,7 @@ plain_refusal h client c reply w refusals.NoMemory plain cut l = absurd (true≢
 plain_refusal h client c reply w refusals.StoreFault plain cut l = absurd (true≢false cut)
 plain_refusal h client c reply w (refusals.Spent count) plain cut l = absurd (true≢false cut)
 plain_refusal h client c reply w (refusals.Moved now) plain cut l = inl (l.0, now, l.1, l.2)
-plain_refusal h client (commands.Read symbol as_of range columns) reply w (refusals.VersionGone number) plain cut l = inr (inl (number, l))
+plain_refusal h client (commands.Read symbol as_of range columns clauses) reply w (refusals.VersionGone number) plain cut l = inr (inl (number, l))
 plain_refusal h client (commands.Reclaim symbol) reply w why plain cut l = absurd (true≢false (sym plain))
 plain_refusal h client (commands.DeleteSnapshot snap) reply w why plain cut l = absurd (true≢false (sym plain))
 plain_refusal h client (commands.Snapshot snap picks) reply w why plain cut l = absurd (true≢false (sym plain))
@@ -295,24 +292,24 @@ not_met h client c reply w symbol a m =
     let unnamed = others_unnamed h client.session.client symbol w a.ends a.alone reply.place m.3.event m.3.inside (omega (arith, a.legal.before, a.ends)) m.3.at (not_same _ _ m.3.others) in
     true≢false (sym (refers_names symbol m.3.event (subst (λ n. refers n m.3.event ≡ true) is m.3.refers)) ∙ unnamed)
 
-not_through_snapshot : (symbol : Name) (as_of : AsOf) (range : Range) (columns : Option (List Text)) → reads_snapshot (commands.Read symbol as_of range columns) ≡ false → reads_snapshot_as as_of ≡ false
-not_through_snapshot symbol (moments.Snapshot name) range columns e = e
-not_through_snapshot symbol (moments.Back k) range columns e = refl
-not_through_snapshot symbol (moments.Number n) range columns e = refl
-not_through_snapshot symbol (moments.Moment t) range columns e = refl
+not_through_snapshot : (symbol : Name) (as_of : AsOf) (range : Range) (columns : Option (List Text)) (clauses : List Clause) → reads_snapshot (commands.Read symbol as_of range columns clauses) ≡ false → reads_snapshot_as as_of ≡ false
+not_through_snapshot symbol (moments.Snapshot name) range columns clauses e = e
+not_through_snapshot symbol (moments.Back k) range columns clauses e = refl
+not_through_snapshot symbol (moments.Number n) range columns clauses e = refl
+not_through_snapshot symbol (moments.Moment t) range columns clauses e = refl
 
 not_gone : (h : History) (client : Client) (c : Command) (reply : Reply) (w : Window) (symbol : Name) → Alone h client c reply w symbol → Gone h c reply w → ⊥
-not_gone h client (commands.Read read as_of range columns) reply w symbol a g =
+not_gone h client (commands.Read read as_of range columns clauses) reply w symbol a g =
     let is : read ≡ symbol = some_name read symbol a.named in
-    let own : own_events h client.session.client w ≡ [] = own_events_are h client.session (commands.Read read as_of range columns) reply w a.legal.own a.cut in
+    let own : own_events h client.session.client w ≡ [] = own_events_are h client.session (commands.Read read as_of range columns clauses) reply w a.legal.own a.cut in
     let no_own : (n : ℕ) (e : Event) → w.start < n → n ≤ length h → event_at h n ≡ Some e → author e ≡ client.session.client → ⊥ =
     λ n e after before at mine. true≢false (none_own_at (λ x. true) h client.session.client w n e a.ends (ap (list_any (λ x. true)) own) mine after before at) in
-    let quiet = quiet_of h client (commands.Read read as_of range columns) reply w symbol a in
+    let quiet = quiet_of h client (commands.Read read as_of range columns clauses) reply w symbol a in
     let end : reply.place ≤ length h = omega (arith, a.legal.before, a.ends) in
     let kept : (q : ℕ) → w.start ≤ q → q ≤ reply.place → state_of (history_at h q) symbol ≡ state_of (history_at h w.start) symbol =
     λ q first last. state_kept h client.session.client symbol w q quiet first (omega (arith, last, end)) (λ n e after before at mine. absurd (no_own n e after (omega (arith, before, last, end)) at mine)) in
     let live : is_buried (state_of (history_at h g.1.read_at) read) g.1.version.number ≡ false =
-    read_is_live (library_at h g.1.read_at) read as_of g.1.version (not_through_snapshot read as_of range columns a.snap) g.1.read in
+    read_is_live (library_at h g.1.read_at) read as_of g.1.version (not_through_snapshot read as_of range columns clauses a.snap) g.1.read in
     let here : is_buried (state_of (history_at h reply.place) read) g.1.version.number ≡ false =
     subst (λ n. is_buried (state_of (history_at h reply.place) n) g.1.version.number ≡ false) (sym is)
     (subst (λ st. is_buried st g.1.version.number ≡ false) (kept g.1.read_at g.1.from g.1.to ∙ sym (kept reply.place a.legal.after (omega arith)))

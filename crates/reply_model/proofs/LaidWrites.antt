@@ -37,7 +37,7 @@ use Rattle.reply_model.specs.PieceAnswers.{taken, discarded}
 use Rattle.reply_model.specs.Kinds.{Kind, kind_of, kind_makes}
 use Rattle.reply_model.specs.Kinds as does
 use Rattle.reply_model.specs.Answers.{symbol_row, read_answer, list_answer, answer_of}
-use Rattle.reply_model.specs.ReadAnswers.{version_row, versions_answer, read_version, ask}
+use Rattle.reply_model.specs.ReadAnswers.{version_answer, query, version_row, versions_answer, read_version}
 use Rattle.reply_model.specs.Windows.{is_refused}
 use Rattle.reply_model.specs.Blocks.{Cutting}
 use Rattle.reply_model.specs.Standing.{LaysOut, IsLaid}
@@ -156,10 +156,10 @@ read_change : (l : Library) (c : Command) (outcome : Outcome) (change : Change) 
 read_change l (commands.Versions a) outcome change rest e =
     let st : State = l.state a in
     no_change (versions_answer st) outcome change rest (no_marks_if (not st.has_reference) refusals.NoSuchSymbol (Ok (record { outcome = outcomes.Versions (reverse (map (version_row st) st.versions)); marks = [] })) refl) e
-read_change l (commands.Read a as_of range columns) outcome change rest e =
-    no_change (read_version l a as_of then λ v. ask v.frame range columns then λ f. Ok (record { outcome = outcomes.Whole v.number f; marks = [] })) outcome change rest
-    (no_marks_then (read_version l a as_of) (λ v. ask v.frame range columns then λ f. Ok (record { outcome = outcomes.Whole v.number f; marks = [] }))
-    (λ v. no_marks_then (ask v.frame range columns) (λ f. Ok (record { outcome = outcomes.Whole v.number f; marks = [] })) (λ f. refl))) e
+read_change l (commands.Read a as_of range columns clauses) outcome change rest e =
+    no_change (read_version l a as_of then λ v. version_answer v range columns clauses) outcome change rest
+    (no_marks_then (read_version l a as_of) (λ v. version_answer v range columns clauses)
+    (λ v. no_marks_then (query v.frame range columns clauses) (λ f. Ok (record { outcome = outcomes.Whole v.number f; marks = [] })) (λ f. refl))) e
 read_change l c outcome change rest e = absurd cc
 
 list_change : (l : Library) (place : ℕ) (c : Command) (outcome : Outcome) (change : Change) (rest : List Change) → list_answer l place c ≡ Some (record { outcome = outcome; marks = change ∷ rest }) → ⊥

@@ -13,7 +13,7 @@ use Rattle.reply_model.specs.declared.outcome.Outcome.TheVariants as outcomes
 use Rattle.reply_model.specs.Kinds.{Kind, kind_of, Makes, Finalizes, Buries, Discards, Stages, Reads, Lists}
 use Rattle.reply_model.specs.Answering.{Session, Answer, answered, ◌then◌, with_frame, stamp_of, committed}
 use Rattle.reply_model.specs.CommitAnswers.{append_answer, update_answer, clear_answer, burial_answer}
-use Rattle.reply_model.specs.ReadAnswers.{versions_answer, read_version, ask}
+use Rattle.reply_model.specs.ReadAnswers.{versions_answer, read_version, version_answer}
 use Rattle.reply_model.specs.PieceAnswers.{finalize_answer, discard_answer}
 
 -- a symbol with its base, at a place
@@ -36,8 +36,7 @@ finalized_answer s listed st _ = None
 -- to one that reads a symbol
 abbrev pub read_answer : Library → Command → Option Answer
 read_answer l (commands.Versions symbol) = Some (answered (versions_answer (l.state symbol)))
-read_answer l (commands.Read symbol as_of range columns) =
-    Some (answered (read_version l symbol as_of then λ v. ask v.frame range columns then λ f. Ok (record { outcome = outcomes.Whole v.number f; marks = [] })))
+read_answer l (commands.Read symbol as_of range columns clauses) = Some (answered (read_version l symbol as_of then λ v. version_answer v range columns clauses))
 read_answer l _ = None
 
 -- to one that lists

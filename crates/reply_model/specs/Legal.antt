@@ -69,7 +69,7 @@ IsTold h client c reply why kind = IsAnswer h client c reply
 
 -- only a read finds a version gone
 abbrev pub IsGoneTo : History → Command → ℕ → Reply → Window → Type 0
-IsGoneTo h (commands.Read symbol as_of range columns) number reply w = IsVersionGone h symbol as_of range columns number reply.place w
+IsGoneTo h (commands.Read symbol as_of range columns clauses) number reply w = IsVersionGone h symbol as_of range columns number reply.place w
 IsGoneTo h c number reply w = ⊥
 
 -- the clause of each cause

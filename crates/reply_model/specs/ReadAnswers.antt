@@ -1,7 +1,7 @@
 -- The answers of reads and of versions.
 --     versions_answer         every version ever linked
 --     read_version            the version that a read takes
---     select_columns, ask     of a query: the asked columns; the rows in the range, and of these the asked columns
+--     ask, version_answer     of a query: the rows in the range, and of these the asked columns; what a read answers of a version
 --     is_asked, places_asked  whether a column is asked, and the places of those that are
 use Rattle.std.specs.Prelude.{ℕ, zero, suc, Bool, true, not, if◌then◌else◌, List, [], map, reverse, find, slice_get, Option, Some, None, Result, Ok, Err, nat_eq, int_le, count_by, option_map}
 use Rattle.std.specs.List.{list_any}
@@ -17,7 +17,9 @@ use Rattle.store_model.specs.Library.{State, Version, is_buried, live_versions}
 use Rattle.store_model.specs.Snapshots.{Snapshot, Library, snapshot_named}
 use Rattle.expr_clause.specs.declared.command.AsOf.{AsOf}
 use Rattle.expr_clause.specs.declared.command.AsOf.TheVariants as moments
-pub use Rattle.expr_clause.specs.Asking.{select_columns, ask}
+use Rattle.expr_clause.specs.declared.clause.Clause.{Clause}
+use Rattle.frame_core.specs.Ranges.{Range}
+pub use Rattle.expr_clause.specs.Asking.{select_columns, ask, query}
 use Rattle.reply_model.specs.declared.outcome.VersionRow.{VersionRow}
 use Rattle.reply_model.specs.declared.outcome.Outcome.TheVariants as outcomes
 use Rattle.reply_model.specs.Answering.{Answer, ◌then◌, refuse_if, or_refuse, version_or}
@@ -52,6 +54,10 @@ read_version l symbol (moments.Snapshot snap) =
     or_refuse (snapshot_named l snap) refusals.NoSuchSnapshot then λ s.
     or_refuse (picked s symbol) refusals.NoSuchSymbol then λ n.
     or_refuse (numbered (l.state symbol) n) refusals.NoSuchSymbol
+
+-- what a read answers of a version: the rows in the range, of these the asked columns, and what the clauses give of them
+abbrev pub version_answer : Version → Range → Option (List Text) → List Clause → Result Answer Refusal
+version_answer v range columns clauses = query v.frame range columns clauses then λ f. Ok (record { outcome = outcomes.Whole v.number f; marks = [] })
 
 -- whether the column of a name is asked
 abbrev pub is_asked : Option (List Text) → Text → Bool

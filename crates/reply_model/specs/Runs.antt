@@ -103,7 +103,7 @@ IsAlone h client symbol w = list_any (λ e. names_symbol symbol e && not (nat_eq
 
 -- a read by snapshot
 abbrev pub reads_snapshot : Command → Bool
-reads_snapshot (commands.Read symbol (moments.Snapshot snap) range columns) = true
+reads_snapshot (commands.Read symbol (moments.Snapshot snap) range columns clauses) = true
 reads_snapshot c = false
 
 -- what a command answers at a place: the counts of the keys stored there, of all and of dead ones, or else what the one-thread library answers

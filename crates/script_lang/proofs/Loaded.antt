@@ -127,7 +127,7 @@ symbol_form-loaded command loaded frames words c h =
     subst (IsLoaded (length frames)) named.2 (loaded (length frames) named.0)
 
 abbrev read_made : Text → ReadOptions → Command
-read_made s o = commands.Read s (unwrap_or o.as_of (moments.Back 1)) (unwrap_or o.range whole_range) o.columns
+read_made s o = commands.Read s (unwrap_or o.as_of (moments.Back 1)) (unwrap_or o.range whole_range) o.columns []
 
 read_form-loaded : IsForm (λ frames. read_form)
 read_form-loaded frames [] c h = absurd cc

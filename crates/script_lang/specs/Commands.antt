@@ -85,7 +85,7 @@ abbrev pub read_form : List Text → Option Command
 read_form (symbol ∷ more) = do
   s ← symbol_of symbol
   o ← read_options more
-  Some (commands.Read s (unwrap_or o.as_of (moments.Back 1)) (unwrap_or o.range whole_range) o.columns)
+  Some (commands.Read s (unwrap_or o.as_of (moments.Back 1)) (unwrap_or o.range whole_range) o.columns [])
 read_form _ = None
 
 -- each command by the word that begins it

@@ -213,6 +213,7 @@ fn read_of(alloc: Global, words: &[&[u8]]) -> Result<Command, ScriptFault>
                 as_of,
                 range,
                 columns,
+                clauses: Items::new(alloc),
             })
         }
         _ => Err(ScriptFault::BadScript),

@@ -34,9 +34,13 @@ pub struct Draft {
 }
 
 impl Model for Draft {
+    ghost use Rattle.expr_clause.specs.contracts.expr.Expr as e;
+    ghost use Rattle.std.specs.Coded.{codes};
     ghost use Rattle.script_lang.specs.Scripts.{Draft as Lines};
 
     ghost Value = { Lines };
+
+    ghost coded = { Prim.hlevel (codes, e.the_row.coded) };
 
     ghost view = { λ d. record { loads = d.loads; first = d.first; clients = d.clients; last = d.last; stage = d.stage } };
 }

@@ -106,6 +106,7 @@ fn command_of(alloc: Global, ask: Ask, frames: &[RawFrame]) -> Result<Command, F
             as_of: AsOf::Back(1),
             range: everything(),
             columns: None,
+            clauses: Items::new(alloc),
         },
         Ask::Keys => Command::Keys { symbol },
     })
@@ -127,19 +128,18 @@ fn told_by(reply: &Reply) -> Told {
     }
 }
 
-// What the library answers. Nothing else calls its step, whose contract is long.
-fn step<R: Wait, B: Bucket<StoreLaw>>(
+/// What the library answers. Nothing else calls its step, whose contract is long.
+pub(crate) fn step<R: Wait, B: Bucket<StoreLaw>>(
     rt: &R,
     alloc: Global,
     library: &mut Library<B>,
     command: &Command,
     frames: &[RawFrame],
-) -> Answer
+) -> Reply
     requires served { is_carried_out command.now ≡ true }
     requires named { IsNamed (length frames.now) command.now }
 {
-    let reply = library.step(rt, alloc, command, frames);
-    (reply.place, told_by(&reply))
+    library.step(rt, alloc, command, frames)
 }
 
 /// What the library answers to a command.
@@ -151,7 +151,8 @@ pub(crate) fn asked<R: Wait, B: Bucket<StoreLaw>>(
 ) -> Result<Answer, Fail> {
     let frames = frames_of(alloc, ask)?;
     let command = command_of(alloc, ask, frames.items())?;
-    Ok(step(rt, alloc, library, &command, frames.items()))
+    let reply = step(rt, alloc, library, &command, frames.items());
+    Ok((reply.place, told_by(&reply)))
 }
 
 /// Whether the library answers so to each of these commands in turn.

@@ -1,5 +1,5 @@
-//! Tests of the calls over a bucket, and of what they stand on, that no script can make: with faults, full stores, counts of gets, and
-//! looks at what is stored.
+//! Tests of the calls over a bucket, and of what they stand on, that no script can make: with faults, full stores, counts of gets,
+//! looks at what is stored, and reads with clauses.
 #![tactic(auto)]
 
 #[cfg(test)]
@@ -8,6 +8,8 @@ mod asks;
 mod choices;
 #[cfg(test)]
 mod links;
+#[cfg(test)]
+mod queries;
 #[cfg(test)]
 mod steps;
 #[cfg(test)]

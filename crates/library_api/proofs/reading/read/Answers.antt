@@ -10,7 +10,7 @@ returns-in-Ok-clause-legal g c =
     let now : ℕ = g.B.Bucket.faults c.read_frame.new.bucket in
     let old : History = g.B.Bucket.seen c.args.bucket.now in
     let new : History = g.B.Bucket.seen c.read_frame.new.bucket in
-    subst (IsLegalForAll (g.B.Bucket.number c.args.bucket.now) before now old new (commands.Read c.args.symbol.now c.args.as_of.now c.args.range (option_copied c.args.columns)))
+    subst (IsLegalForAll (g.B.Bucket.number c.args.bucket.now) before now old new (commands.Read c.args.symbol.now c.args.as_of.now c.args.range (option_copied c.args.columns) c.args.clauses.now))
     (sym c.plain.ensures) c.in-Ok.ensures.whole
 
 pub returns-in-Err-clause-legal : goal.returns-in-Err-clause-legal
@@ -19,5 +19,5 @@ returns-in-Err-clause-legal g c =
     let now : ℕ = g.B.Bucket.faults c.read_frame.new.bucket in
     let old : History = g.B.Bucket.seen c.args.bucket.now in
     let new : History = g.B.Bucket.seen c.read_frame.new.bucket in
-    subst (IsLegalForAll (g.B.Bucket.number c.args.bucket.now) before now old new (commands.Read c.args.symbol.now c.args.as_of.now c.args.range (option_copied c.args.columns)))
+    subst (IsLegalForAll (g.B.Bucket.number c.args.bucket.now) before now old new (commands.Read c.args.symbol.now c.args.as_of.now c.args.range (option_copied c.args.columns) c.args.clauses.now))
     (sym c.refusal.ensures) c.in-Err.ensures.refused

@@ -14,9 +14,9 @@ returns-in_err-target-clause-refused g c =
     let old : History = g.B.Bucket.seen c.args.bucket.now in
     let new : History = g.B.Bucket.seen c.resolve.new.bucket in
     let columns = option_copied c.args.columns in
-    err_holds (λ refused. IsLegalForAll number before now old new (commands.Read c.args.symbol.now c.args.as_of.now c.args.range columns) (refusal_reply refused))
+    err_holds (λ refused. IsLegalForAll number before now old new (commands.Read c.args.symbol.now c.args.as_of.now c.args.range columns c.args.clauses.now) (refusal_reply refused))
     c.from_residual.result c.in_err-target.field-0.0 c.from_residual.ensures.0 c.from_residual.ensures.1
-    (resolve_refused_legal c.args.symbol.now c.args.as_of.now c.args.range columns number (g.B.Bucket.sole c.args.bucket.now) before now old new c.resolve.ensures.looks c.in_err-target.field-0.0 c.in_err-target.ensures.refused)
+    (resolve_refused_legal c.args.symbol.now c.args.as_of.now c.args.range columns c.args.clauses.now number (g.B.Bucket.sole c.args.bucket.now) before now old new c.resolve.ensures.looks c.in_err-target.field-0.0 c.in_err-target.ensures.refused)
 
 pub frame_of-requires : goal.frame_of-requires
 frame_of-requires g c = record {
@@ -29,6 +29,7 @@ frame_of-requires g c = record {
     c.args.as_of.now,
     record { same_number = c.resolve.ensures.steady.same_number; stays_sole = c.resolve.ensures.steady.stays_sole; faults_rise = c.resolve.ensures.steady.faults_rise; looks = c.resolve.ensures.looks; target_is = c.in_ok-target.ensures.target },
   );
+  small = c.requires.small;
 }
 
 pub returns-in-Ok-clause-looks : goal.returns-in-Ok-clause-looks

@@ -52,6 +52,7 @@ left_over : (command : Command) → is_carried_out command ≡ true → ((symbol
 left_over (commands.Delete symbol versions) out delete prune reclaim = absurd (delete symbol versions refl)
 left_over (commands.Prune symbol) out delete prune reclaim = absurd (prune symbol refl)
 left_over (commands.Reclaim symbol) out delete prune reclaim = absurd (reclaim symbol refl)
+left_over (commands.Read symbol as_of range columns clauses) out delete prune reclaim = refl
 left_over command out delete prune reclaim = out
 
 pub read_or_make-requires-clause-of_kind : goal.read_or_make-requires-clause-of_kind
