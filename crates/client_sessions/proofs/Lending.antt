@@ -1,7 +1,13 @@
 -- Commands may be lent to other threads.
-use denote.Param.Send.{IsSync, plain_sync, enum_sync, recorded_sync}
+use denote.Param.Send.{IsSend, IsSync, AllSend, plain_sync, enum_sync, recorded_sync, recorded_send, struct_send}
+use denote.RattleType.{RattleType}
+use denote.Struct.Field.{rows}
+use denote.Struct.Tuple.{TupleAt, type_at, parts}
+use mathlib.Core.List.{List, [], ◌∷◌}
+use mir.Syntax.{Sym}
 use denote.Builtin as builtin
 use denote.Enum.Declared as declared
+use denote.Struct.Declared as structs
 use Rattle.base_types.specs.contracts.items.Items
 use Rattle.frame_core.specs.contracts.name.ColName
 use Rattle.frame_core.specs.contracts.range.Range
@@ -176,3 +182,15 @@ command_sync = enum_sync (declared.shape Command.the_type) (
 
 pub command_row_sync : IsSync Command.the_row
 command_row_sync = recorded_sync (Command.the_field).row _ _ (Command.the_type).to_one command_sync
+
+-- A closure may go to another thread where all that it captures may.
+module _ (ν : Sym) where
+  captures_send : (Ts : List RattleType) → AllSend Ts → AllSend (rows (parts Ts))
+  captures_send [] s = tt
+  captures_send (T ∷ Ts) s = (s.0, captures_send Ts s.1)
+
+  pub closure_send : (Ts : List RattleType) → AllSend Ts → IsSend (TupleAt ν Ts)
+  closure_send Ts s = recorded_send _ _ _ (type_at ν Ts).to_one (struct_send (structs.shape (type_at ν Ts)) (captures_send Ts s))
+
+pub blocks_sync : IsSync (Items.the_row Command.the_row)
+blocks_sync = items.the_sync Command.the_row command_row_sync

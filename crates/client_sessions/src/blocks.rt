@@ -116,7 +116,6 @@ fn joined<R: Wait>(
 ///
 /// Where there is no further pass, the block is carried out with this one, before the blocks that follow. `rooms` is memory for the
 /// replies of each block, that of the first block last, and `told` for so many lists.
-#[tactic(auto, using(crate::proofs::Lending::command_row_sync))]
 pub(crate) fn run_blocks<R: Threads + Wait + Sync, G: Gate + Sync>(
     rt: &R,
     alloc: Global,

@@ -8,6 +8,18 @@ use Rattle.reply_model.specs.declared.reply.Reply.{Reply}
 use Rattle.reply_model.specs.Blocks.{run_cutting}
 use Rattle.client_sessions.specs.Sessions.{AreNamed}
 use Rattle.client_sessions.specs.Blocks.{clients_of, IsSessionOf, AreRun}
+use denote.Exit.{no}
+use denote.Param.{param}
+use denote.Param.Send.{IsSync, param_send, param_sync, arg_send, shr_send, shr_slice_send}
+use Rattle.std.proofs.Crossing.{Vec-send}
+use Rattle.std.proofs.alloc.Global.TheSendSync as heap
+use Rattle.base_types.proofs.items.Items.TheSendSync as items
+use Rattle.frame_core.proofs.raw.RawFrame.TheSendSync as raw
+use Rattle.reply_model.proofs.reply.Reply.TheSendSync as reply
+use Rattle.bucket_shared.proofs.pass.Pass.TheSendSync as pass
+use Rattle.library_api.proofs.settings.Settings.TheSendSync as settings
+use Rattle.client_sessions.proofs.room.Room.TheSendSync as room
+use Rattle.client_sessions.proofs.Lending.{closure_send, blocks_sync}
 use Rattle.client_sessions.proofs.BlockRuns.{run_none, run_here, run_beside}
 use Rattle.client_sessions.proofs.blocks.+fn-run_blocks-join+arg2+run_blocks.Goals as goal
 
@@ -53,3 +65,11 @@ returns-clause-run g t c =
     (run_beside cutting client (λ n. refl) (λ m n. refl) (length c.args.frames.now) c.in-Some.commands.now ready.0 replies c.in-Some.rest.now (reverse told) c.args.pass c.split.new.self c.in-Ok.other c.join-pass.result.0.0 c.join-pass.result.1.0 c.joined.result.0
     split.same_store (ap (λ (b : Badge). b.number) split.gave) split.same_limit c.split.ensures.looks split r s
     c.joined.ensures.store c.joined.ensures.client c.joined.ensures.limit c.joined.ensures.badge c.joined.ensures.looks c.joined.ensures.other_looks c.joined.ensures.awaits)
+
+-- all that the other thread gets may go there
+pub join-pass-requires-send-F : goal.join-pass-requires-send-F
+join-pass-requires-send-F g t c κs within =
+    let wait : IsSync (param 0 g.row.R) = search (rules, param_sync) in
+    let gate : IsSync (param 1 g.row.G) = search (rules, param_sync) in
+    param_send 1 _ (arg_send _ no _ (closure_send _ (_ ∷ _ ∷ _ ∷ _ ∷ _ ∷ _ ∷ _ ∷ _ ∷ _ ∷ [])
+    (shr_send _ _ _ wait, (shr_send _ _ _ heap.the_sync, (pass.the_send, (shr_send _ _ _ gate, (shr_send _ _ _ settings.the_sync, (shr_slice_send _ _ _ raw.the_sync, (shr_slice_send _ _ _ blocks_sync, (Vec-send _ room.the_send, (Vec-send _ (items.the_send _ reply.the_send), tt)))))))))))
