@@ -20,3 +20,5 @@ pub mod HonestChanges
 pub mod HonestRuns
 pub mod RefusedReplies
 pub mod MovedRefused
+pub mod WorkedQueries
+pub mod QueriesRefused
